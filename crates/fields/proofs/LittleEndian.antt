@@ -1,0 +1,120 @@
+-- Laws of little-endian numbers and of stores, for every width.
+use mathlib.Core.Path.{_≡_, refl, sym, ap, ap₂, _∙_}
+use mathlib.Core.List.{List, [], _∷_, _++_, append-assoc}
+use Prim.Native.Nat.{ℕ, zero, suc, _+_, _-_, _*_, _/_, _%_, _^_, _≤_, _<_}
+use native.Mathlib.Omega.{arith}
+use lib.ListN.{length, take, drop, getD, set, replicate, length-append, length-drop}
+use lib.Seq.{take-add, drop-drop, drop-cons, take-at, drop-at, length-take-le, take-append-le, sets, length-sets, sets-eq}
+use lib.Pow.{pow-add, pow-pos, mod-pow-add}
+use Rattle.fields.specs.LittleEndian.{le, value, leAt, put}
+
+-- one byte more is eight bits more
+pub pow-byte : (w : ℕ) → 2 ^ (8 * suc w) ≡ 2 ^ (8 * w) * 256
+pow-byte w =
+    let e : 8 * suc w ≡ 8 * w + 8 = omega arith in
+    rw e (pow-add 2 (8 * w) 8)
+
+-- ---- numbers of bytes
+
+pub value-append : (bs cs : List ℕ) → value (bs ++ cs) ≡ value bs + value cs * 2 ^ (8 * length bs)
+unfolding value
+value-append [] cs = omega arith
+value-append (b ∷ bs) cs = rw (value-append bs cs, pow-byte (length bs)) (omega arith)
+
+-- two halves of k bytes
+pub leAt-halves : (k : ℕ) (s : List ℕ) (p : ℕ) → p + k ≤ length s → leAt s p (k + k) ≡ leAt s p k + leAt s (p + k) k * 2 ^ (8 * k)
+unfolding leAt
+leAt-halves k s p h =
+    rw (take-add k k (drop p s), drop-drop k p s, value-append, length-take-le k (drop p s) (simp length-drop (omega arith)))
+
+pub leAt-byte : (s : List ℕ) (p : ℕ) → p < length s → leAt s p 1 ≡ getD s p 0
+unfolding leAt value
+leAt-byte s p h = rw (drop-cons s p 0) (omega arith)
+
+pub length-le : (w x : ℕ) → length (le w x) ≡ w
+unfolding le
+length-le zero x = refl
+length-le (suc w) x = ap suc (length-le w (x / 256))
+
+pub value-le : (w x : ℕ) → value (le w x) ≡ x % 2 ^ (8 * w)
+unfolding le value
+value-le zero x = omega arith
+value-le (suc w) x =
+    let e : 8 * suc w ≡ 8 * w + 8 = omega arith in
+    rw (value-le w (x / 256), e) (omega (arith, mod-pow-add x (8 * w) 8))
+
+-- bytes of ones
+le-ones : (w k : ℕ) → le w (2 ^ (8 * (w + k)) - 1) ≡ replicate w 255
+unfolding le
+le-ones zero k = refl
+le-ones (suc w) k =
+    let e : suc w + k ≡ suc (w + k) = omega arith in
+    let low : (2 ^ (8 * (w + k)) * 256 - 1) % 256 ≡ 255 = omega (arith, pow-pos (8 * (w + k))) in
+    let high : (2 ^ (8 * (w + k)) * 256 - 1) / 256 ≡ 2 ^ (8 * (w + k)) - 1 = omega (arith, pow-pos (8 * (w + k))) in
+    rw (e, pow-byte (w + k), low, high, le-ones w k)
+
+pub le-undefined : (w : ℕ) → w ≤ 8 → le w (2 ^ 64 - 1) ≡ replicate w 255
+le-undefined w h =
+    let e : 8 ≡ w + (8 - w) = omega arith in
+    ap (λ (n : ℕ). le w (2 ^ (8 * n) - 1)) e ∙ le-ones w (8 - w)
+
+-- ---- stores
+
+module _ (s : List ℕ) (p : ℕ) (bs : List ℕ) (room : p + length bs ≤ length s) where
+  -- byte by byte
+  pub put-sets : put s p bs ≡ sets s p bs
+  unfolding put
+  put-sets = sym (sets-eq bs s p room)
+
+  pub length-put : length (put s p bs) ≡ length s
+  length-put = ap length put-sets ∙ length-sets s p bs
+
+  front : length (take p s ++ bs) ≡ p + length bs
+  front = length-append (take p s) bs ∙ ap (λ (n : ℕ). n + length bs) (length-take-le p s (omega arith))
+
+  pub put-before : take p (put s p bs) ≡ take p s
+  unfolding put
+  put-before = rw append-assoc (take-at (take p s) (bs ++ drop (p + length bs) s) p (length-take-le p s (omega arith)))
+
+  pub put-after : drop (p + length bs) (put s p bs) ≡ drop (p + length bs) s
+  unfolding put
+  put-after = drop-at (take p s ++ bs) (drop (p + length bs) s) (p + length bs) front
+
+  pub put-here : take (length bs) (drop p (put s p bs)) ≡ bs
+  unfolding put
+  put-here =
+      rw (append-assoc, drop-at (take p s) (bs ++ drop (p + length bs) s) p (length-take-le p s (omega arith))) (take-at bs (drop (p + length bs) s) (length bs) refl)
+
+-- the loop of `store_le`: the bytes of x that are left, stored from where it stands
+module _ (s : List ℕ) (p w x : ℕ) where
+  pub sets-start : sets s p (le w x) ≡ sets s (p + 0) (le (w - 0) x)
+  sets-start = ap₂ (λ (q n : ℕ). sets s q (le n x)) (omega arith) (omega arith)
+
+  pub sets-more : (i : ℕ) → i < w → sets s (p + i) (le (w - i) x) ≡ sets (set s (p + i) (x % 256)) (p + (i + 1)) (le (w - (i + 1)) (x / 256))
+  unfolding le
+  sets-more i h =
+      let e : w - i ≡ suc (w - (i + 1)) = omega arith in
+      let f : p + (i + 1) ≡ suc (p + i) = omega arith in
+      rw (e, f)
+
+  pub sets-done : (i : ℕ) → w ≤ i → sets s (p + i) (le (w - i) x) ≡ s
+  unfolding le
+  sets-done i h =
+      let e : w - i ≡ 0 = omega arith in
+      rw e
+
+-- t is s with the w low bytes of x at p, and they read back
+pub record Stored (s t : List ℕ) (p w x : ℕ) : Type 0 where
+  pub reads : leAt t p w ≡ x % 2 ^ (8 * w)
+  pub same-length : length t ≡ length s
+  pub before : take p t ≡ take p s
+  pub after : drop (p + w) t ≡ drop (p + w) s
+
+-- what is stored reads back, at every width, and everything else is as it was
+pub round-trip : (s : List ℕ) (p w x : ℕ) → p + w ≤ length s → Stored s (put s p (le w x)) p w x
+unfolding leAt
+round-trip s p w x room =
+    record { reads = ap value (rw (length-le w x) at (put-here s p (le w x) fits)) ∙ value-le w x; same-length = length-put s p (le w x) fits; before = put-before s p (le w x) fits; after = rw (length-le w x) at (put-after s p (le w x) fits) }
+  where
+    fits : p + length (le w x) ≤ length s
+    fits = rw (length-le w x) room
