@@ -1,0 +1,3 @@
+pub mod Words
+pub mod Walk
+pub mod Worked

@@ -1,0 +1,83 @@
+-- The two loops of `jenkins_lookup3`: over the groups, and over the cases of the switch.
+use mathlib.Core.Path.{_≡_, refl, sym, ap, _∙_}
+use mathlib.Core.List.{List}
+use Prim.Native.Nat.{ℕ, zero, suc, _+_, _-_, _*_, _≤_, _<_}
+use native.Mathlib.Omega.{arith}
+use lib.ListN.{length, drop, take, length-drop}
+use lib.Seq.{take-all}
+use borrow.Author.Tests.{eq-eqb, ne-eqb}
+use Rattle.checksum.specs.declared.State.{State}
+use Rattle.checksum.specs.Lookup3.{grouped, mixed, finalMixed, run, groupsOf, begun, body, tailOf, caseMet, switched, ended, hashlittle}
+
+-- ---- the switch: what is left of it, from the words so far, is the whole
+
+pub switch-more : (n : ℕ) (tail : List ℕ) (s : State) → 0 < n → switched n tail s ≡ switched (n - 1) tail (caseMet n tail s)
+unfolding switched
+switch-more n tail s h =
+    let e : n ≡ suc (n - 1) = omega arith in
+    ap (λ (k : ℕ). switched k tail s) e ∙ ap (λ (k : ℕ). switched (n - 1) tail (caseMet k tail s)) (sym e)
+
+pub switch-done : (n : ℕ) (tail : List ℕ) (s : State) → n ≤ 0 → switched n tail s ≡ s
+unfolding switched
+switch-done n tail s h =
+    let e : n ≡ 0 = omega arith in
+    rw e
+
+-- ---- the groups
+
+groups-more : (n : ℕ) → 12 < n → groupsOf n ≡ suc (groupsOf (n - 12))
+unfolding groupsOf
+groups-more n h = omega arith
+
+groups-none : (n : ℕ) → n ≤ 12 → groupsOf n ≡ 0
+unfolding groupsOf
+groups-none n h = omega arith
+
+-- while the loop runs: the groups left, from the words so far, give the words after all groups
+pub record Walk (bytes : List ℕ) (s : State) (at : ℕ) : Type 0 where
+  pub inside : at ≤ length bytes
+  pub place : at + 12 * groupsOf (length bytes - at) ≡ 12 * groupsOf (length bytes)
+  pub words : run bytes at (groupsOf (length bytes - at)) s ≡ body bytes
+
+pub walk-start : (bytes : List ℕ) (s : State) → s ≡ begun (length bytes) → Walk bytes s 0
+unfolding body
+walk-start bytes s e = record { inside = omega arith; place = rw none (omega arith); words = rw (none, e) }
+  where
+    none : length bytes - 0 ≡ length bytes
+    none = omega arith
+
+module _ {bytes : List ℕ} {s : State} {at : ℕ} (w : Walk bytes s at) where
+  pub walk-more : 12 < length bytes - at → Walk bytes (mixed (grouped bytes at s)) (at + 12)
+  unfolding run
+  walk-more h =
+      record { inside = omega arith; place = rw left (omega (arith, w .place, more)); words = rw left (rw more at (w .words)) }
+    where
+      more : groupsOf (length bytes - at) ≡ suc (groupsOf (length bytes - at - 12))
+      more = groups-more (length bytes - at) h
+
+      left : length bytes - (at + 12) ≡ length bytes - at - 12
+      left = omega arith
+
+  module _ (h : length bytes - at ≤ 12) where
+    words-done : s ≡ body bytes
+    unfolding run
+    words-done = rw (groups-none (length bytes - at) h) at (w .words)
+
+    tail-here : drop at bytes ≡ tailOf bytes
+    unfolding tailOf
+    tail-here =
+        let here : at ≡ 12 * groupsOf (length bytes) = omega (arith, w .place, groups-none (length bytes - at) h) in
+        ap (λ (n : ℕ). drop n bytes) here
+
+    tail-length : length (tailOf bytes) ≡ length bytes - at
+    tail-length = ap length (sym tail-here) ∙ length-drop at bytes
+
+    pub walk-empty : length bytes ≡ at → s .c ≡ hashlittle bytes
+    unfolding hashlittle ended
+    walk-empty e =
+        rw (eq-eqb (length (tailOf bytes)) 0 (omega (arith, tail-length))) (ap (λ (t : State). t .c) words-done)
+
+    pub walk-tail : (length bytes ≡ at → ⊥) → finalMixed (switched 12 (take (length bytes - at) (drop at bytes)) s) .c ≡ hashlittle bytes
+    unfolding hashlittle ended
+    walk-tail e =
+        rw (ne-eqb (length (tailOf bytes)) 0 (λ z. e (omega (arith, tail-length, w .inside))), take-all (length bytes - at) (drop at bytes) (omega (arith, length-drop at bytes)), tail-here, words-done)

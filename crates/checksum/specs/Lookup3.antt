@@ -1,0 +1,100 @@
+-- hashlittle with initial value 0, from lookup3.c (Bob Jenkins, May 2006, public domain). Each
+-- definition stands beside the lines it is taken from.
+use Prim.Native.Nat.{ℕ, zero, suc, _+_, _-_, _*_, _/_, _%_, _^_}
+use mathlib.Core.Bool.{cond}
+use mathlib.Core.List.{List}
+use lib.ListN.{length, getD, drop}
+use lib.Dec.{leb, eqb}
+use Rattle.fields.specs.LittleEndian.{leAt}
+use Rattle.checksum.specs.Words.{add32, subXor, xorSub}
+use Rattle.checksum.specs.declared.State.{State}
+
+-- ---- #define mix(a,b,c)
+
+-- a -= c;  a ^= rot(c, k);  c += b;
+unfoldable pub mixA : ℕ → State → State
+mixA k s = record { a = subXor (s .a) (s .c) k; b = s .b; c = add32 (s .c) (s .b) }
+
+-- b -= a;  b ^= rot(a, k);  a += c;
+unfoldable pub mixB : ℕ → State → State
+mixB k s = record { a = add32 (s .a) (s .c); b = subXor (s .b) (s .a) k; c = s .c }
+
+-- c -= b;  c ^= rot(b, k);  b += a;
+unfoldable pub mixC : ℕ → State → State
+mixC k s = record { a = s .a; b = add32 (s .b) (s .a); c = subXor (s .c) (s .b) k }
+
+unfoldable pub mixed : State → State
+mixed s = mixC 4 (mixB 19 (mixA 16 (mixC 8 (mixB 6 (mixA 4 s)))))
+
+-- ---- #define final(a,b,c)
+
+-- c ^= b;  c -= rot(b, k);
+unfoldable pub finalC : ℕ → State → State
+finalC k s = record { a = s .a; b = s .b; c = xorSub (s .c) (s .b) k }
+
+-- a ^= c;  a -= rot(c, k);
+unfoldable pub finalA : ℕ → State → State
+finalA k s = record { a = xorSub (s .a) (s .c) k; b = s .b; c = s .c }
+
+-- b ^= a;  b -= rot(a, k);
+unfoldable pub finalB : ℕ → State → State
+finalB k s = record { a = s .a; b = xorSub (s .b) (s .a) k; c = s .c }
+
+unfoldable pub finalMixed : State → State
+finalMixed s = finalC 24 (finalB 14 (finalA 4 (finalC 16 (finalB 25 (finalA 11 (finalC 14 s))))))
+
+-- ---- hashlittle
+
+-- a = b = c = 0xdeadbeef + ((uint32_t)length) + initval;
+unfoldable pub begun : ℕ → State
+begun n =
+    let x = add32 0xdeadbeef (n % 2 ^ 32) in record { a = x; b = x; c = x }
+
+-- the 12 bytes from p on:  a += k[0..4];  b += k[4..8];  c += k[8..12];
+unfoldable pub grouped : List ℕ → ℕ → State → State
+grouped bytes p s = record { a = add32 (s .a) (leAt bytes p 4); b = add32 (s .b) (leAt bytes (p + 4) 4); c = add32 (s .c) (leAt bytes (p + 8) 4) }
+
+-- while (length > 12): one group is added and mixed, and 12 bytes are done. n such groups from p on
+unfoldable pub run : List ℕ → ℕ → ℕ → State → State
+run bytes p zero s = s
+run bytes p (suc n) s = run bytes (p + 12) n (mixed (grouped bytes p s))
+
+-- how often more than 12 of n bytes remain
+unfoldable pub groupsOf : ℕ → ℕ
+groupsOf n = (n - 1) / 12
+
+-- the words after the loop
+unfoldable pub body : List ℕ → State
+body bytes = run bytes 0 (groupsOf (length bytes)) (begun (length bytes))
+
+-- the bytes that are left after it
+unfoldable pub tailOf : List ℕ → List ℕ
+tailOf bytes = drop (12 * groupsOf (length bytes)) bytes
+
+-- case n of the switch adds x = k[n-1]: cases 1 to 4 to a, 5 to 8 to b, 9 to 12 to c, shifted by 0, 8,
+-- 16 and 24 bits in turn
+unfoldable pub caseAdded : ℕ → ℕ → State → State
+caseAdded n x s =
+    let y = x * 2 ^ ((n - 1) % 4 * 8) in
+    cond (leb n 4)
+    (record { a = add32 (s .a) y; b = s .b; c = s .c })
+    (cond (leb n 8)
+    (record { a = s .a; b = add32 (s .b) y; c = s .c })
+    (record { a = s .a; b = s .b; c = add32 (s .c) y }))
+
+-- a tail enters at the case of its length and falls through to case 1, so it meets case n if it has n
+-- bytes or more
+unfoldable pub caseMet : ℕ → List ℕ → State → State
+caseMet n tail s = cond (leb n (length tail)) (caseAdded n (getD tail (n - 1) 0) s) s
+
+-- switch (length): the cases from n down
+unfoldable pub switched : ℕ → List ℕ → State → State
+switched zero tail s = s
+switched (suc n) tail s = switched n tail (caseMet (suc n) tail s)
+
+-- case 0: return c;  and after the other cases  final(a,b,c); return c;
+unfoldable pub ended : List ℕ → State → ℕ
+ended tail s = cond (eqb (length tail) 0) (s .c) (finalMixed (switched 12 tail s) .c)
+
+unfoldable pub hashlittle : List ℕ → ℕ
+hashlittle bytes = ended (tailOf bytes) (body bytes)
