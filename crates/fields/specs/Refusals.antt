@@ -8,6 +8,10 @@ use Rattle.fields.specs.LittleEndian.{le, put}
 use Rattle.fields.specs.declared.error.FormatError.{FormatError}
 use Rattle.fields.specs.declared.error.FormatError.the-variants.{UnexpectedEof, InvalidOffsetSize, InvalidLengthSize, InvalidFractalHeapSignature, InvalidFractalHeapVersion, InvalidHeapIdType, ChecksumMismatch, UnsupportedFilteredHeapObject, OffsetOverflow, DepthExceeded, ObjectTooLarge, HeapSpaceExhausted, SliceTooShort, ObjectBytesMismatch, HeaderAddressTooLarge, RegionAddressTooLarge, HeapIdTooLarge}
 use Rattle.fields.specs.declared.error.Answer.{Answer}
+use Rattle.fields.specs.declared.bytes.Checked.{Checked}
+use Rattle.fields.specs.declared.bytes.Checked.the-variants.{Passed, Refused as NotPassed}
+use Rattle.fields.specs.declared.bytes.Field.{Field}
+use Rattle.fields.specs.declared.bytes.Field.the-variants.{Value, Refused}
 
 abbrev pub answer : ℕ → ℕ → ℕ → Answer
 answer n x y = record { number = n; first = x; second = y }
@@ -31,6 +35,16 @@ refusal (ObjectBytesMismatch sum given) = answer 14 sum given
 refusal (HeaderAddressTooLarge address) = answer 15 address 0
 refusal (RegionAddressTooLarge address size) = answer 15 address size
 refusal (HeapIdTooLarge offset size) = answer 16 offset size
+
+-- a test: 0, or its refusal
+abbrev pub checkedAnswer : Checked → Answer
+checkedAnswer Passed = answer 0 0 0
+checkedAnswer (NotPassed e) = refusal e
+
+-- a number that was read: 0 and the number, or the refusal
+abbrev pub fieldAnswer : Field → Answer
+fieldAnswer (Value v) = answer 0 v 0
+fieldAnswer (Refused e) = refusal e
 
 -- what C gets for an answer: 13 where the slot is shorter than 16 bytes, else the answer's number
 unfoldable pub slotNumber : List ℕ → Answer → ℕ

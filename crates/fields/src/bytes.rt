@@ -5,8 +5,11 @@ ghost use lib.ListN.{length};
 ghost use lib.Dec.{leb};
 ghost use Rattle.fields.specs.LittleEndian.{le, leAt, put};
 ghost use mathlib.Core.Bool.{true};
+ghost use Rattle.fields.specs.Refusals.{checkedAnswer, fieldAnswer};
 ghost use Rattle.fields.specs.Fields.{legal, saturated, lenChecked, fieldAt, offsetAt, lengthAt, storeChecked, offsetStored, undefStored};
+use crate::error::Answer;
 use crate::error::FormatError;
+use crate::error::refused;
 
 // A test that has no value to give.
 pub enum Checked {
@@ -18,6 +21,38 @@ pub enum Checked {
 pub enum Field {
     Value(u64),
     Refused(FormatError),
+}
+
+impl Checked {
+    // The answer in numbers: nothing to report where the test passed.
+    pub fn answer(self) -> Answer
+        ensures { λ r. ⌜ r ≡ checkedAnswer self ⌝ }
+    {
+        match self {
+            Checked::Passed => Answer {
+                number: 0,
+                first: 0,
+                second: 0,
+            },
+            Checked::Refused(e) => refused(e),
+        }
+    }
+}
+
+impl Field {
+    // The answer in numbers: the number that was read is the first value.
+    pub fn answer(self) -> Answer
+        ensures { λ r. ⌜ r ≡ fieldAnswer self ⌝ }
+    {
+        match self {
+            Field::Value(value) => Answer {
+                number: 0,
+                first: value,
+                second: 0,
+            },
+            Field::Refused(e) => refused(e),
+        }
+    }
 }
 
 // Whether `needed` bytes stand at `pos` of `lent` bytes. No sum is formed that could wrap.

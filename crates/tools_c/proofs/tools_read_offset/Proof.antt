@@ -1,0 +1,33 @@
+-- `tools_read_offset` meets its contract: what its callees ensure, joined. Assumes nothing.
+use borrow.Author.Needs.{needs}
+use Rattle.tools_c.proofs.tools_read_offset.Statement.{statement}
+use Rattle.tools_c.proofs.tools_read_offset.Tie as tie
+
+to-usize-requires : tie.Need-to-usize-requires
+to-usize-requires c κs = search needs
+
+read-offset-requires : tie.Need-read-offset-requires
+read-offset-requires c κs = search needs
+
+answer-requires : tie.Need-answer-requires
+answer-requires c κs = search needs
+
+put-answer-requires : tie.Need-put-answer-requires
+put-answer-requires c κs = search needs
+
+same-length : tie.Need-same-length
+same-length c = search needs
+
+returns : tie.Need-returns
+returns c = (cc, cc)
+
+pub tools-read-offset-spec : {M : Type 1} → statement M
+tools-read-offset-spec =
+    tie.close
+    (tie.spec
+    to-usize-requires
+    read-offset-requires
+    answer-requires
+    put-answer-requires
+    same-length
+    returns)

@@ -1,0 +1,47 @@
+-- `tools_write_undef_offset` meets its contract: what its callees ensure, joined. Assumes nothing.
+use borrow.Author.Needs.{needs}
+use mathlib.Core.Path.{refl}
+use borrow.Author.Tests.{lt-ltb, le-ltb}
+use Rattle.fields.specs.Refusals.{slotNumber, slotBytes}
+use Rattle.tools_c.specs.Tools.{afterSlot}
+use Rattle.tools_c.proofs.tools_write_undef_offset.Statement.{statement}
+use Rattle.tools_c.proofs.tools_write_undef_offset.Tie as tie
+
+returns : tie.Need-returns
+unfolding slotNumber slotBytes afterSlot
+returns c = rw (lt-ltb _ _ (c .if1 .taken)) (refl, (refl, refl))
+
+to-usize-requires : tie.Need-to-usize-requires
+to-usize-requires c κs = search needs
+
+write-undef-offset-requires : tie.Need-write-undef-offset-requires
+write-undef-offset-requires c κs = search needs
+
+answer-requires : tie.Need-answer-requires
+answer-requires c κs = search needs
+
+put-answer-requires : tie.Need-put-answer-requires
+put-answer-requires c κs = search needs
+
+same-length : tie.Need-same-length
+same-length c = search needs
+
+same-length-2 : tie.Need-same-length-2
+same-length-2 c = search needs
+
+returns-2 : tie.Need-returns-2
+unfolding afterSlot
+returns-2 c = (cc, (cc, rw (le-ltb _ _ (c .before .before .before .before .before .before .before .before .before .before .if1 .left)) (cc)))
+
+pub tools-write-undef-offset-spec : {M : Type 1} → statement M
+tools-write-undef-offset-spec =
+    tie.close
+    (tie.spec
+    returns
+    to-usize-requires
+    write-undef-offset-requires
+    answer-requires
+    put-answer-requires
+    same-length
+    same-length-2
+    returns-2)

@@ -1,0 +1,116 @@
+// C functions over the fields and the checksum, for tests, comparisons and tools. The loader's
+// functions are apart from these. Each returns the refusal's number, 0 where there is none, and puts
+// the two values into the first 16 bytes of the slot; a shorter slot gives 13 before all else.
+ghost use mathlib.Core.Path.{_≡_};
+ghost use mathlib.Core.Bool.{true};
+ghost use lib.ListN.{length};
+ghost use Rattle.checksum.specs.Lookup3.{hashlittle};
+ghost use Rattle.fields.specs.Fields.{undefinedAddr, lenChecked, offsetAt, lengthAt, storeChecked, offsetStored, undefStored};
+ghost use Rattle.fields.specs.Refusals.{checkedAnswer, fieldAnswer, slotNumber, slotBytes};
+ghost use Rattle.tools_c.specs.Tools.{oneIf, afterSlot};
+use checksum::jenkins_lookup3;
+use fields::bytes::ensure_len;
+use fields::bytes::read_length;
+use fields::bytes::read_offset;
+use fields::bytes::write_offset;
+use fields::bytes::write_undef_offset;
+use fields::convert::is_undefined_addr;
+use fields::convert::to_usize;
+use fields::slot::put_answer;
+
+#[no_mangle]
+pub extern "C" fn tools_jenkins_lookup3(bytes: &[u8]) -> u32
+    ensures { λ r. ⌜ r ≡ hashlittle (now (bytes .entry)) ⌝ }
+{
+    jenkins_lookup3(bytes)
+}
+
+// The value; the host's indices have 64 bits.
+#[no_mangle]
+pub extern "C" fn tools_to_usize(value: u64) -> u64
+    ensures { λ r. ⌜ r ≡ value ⌝ }
+{
+    to_usize(value) as u64
+}
+
+// 1 for the undefined address, 0 for any other.
+#[no_mangle]
+pub extern "C" fn tools_is_undefined_addr(addr: u64, offset_size: u8) -> u32
+    ensures { λ r. ⌜ r ≡ oneIf (undefinedAddr addr «offset_size») ⌝ }
+{
+    if is_undefined_addr(addr, offset_size) {
+        1
+    } else {
+        0
+    }
+}
+
+#[no_mangle]
+pub extern "C" fn tools_ensure_len(bytes: &[u8], offset: u64, needed: u64, slot: &mut [u8]) -> u32
+    ensures { λ r. ⌜ r ≡ slotNumber (now (slot .entry)) (checkedAnswer (lenChecked (now (bytes .entry)) offset needed)) ⌝ }
+    ensures { λ _. ⌜ now (slot .exit) ≡ slotBytes (now (slot .entry)) (checkedAnswer (lenChecked (now (bytes .entry)) offset needed)) ⌝ }
+{
+    put_answer(
+        slot,
+        ensure_len(bytes, to_usize(offset), to_usize(needed)).answer(),
+    )
+}
+
+#[no_mangle]
+pub extern "C" fn tools_read_offset(bytes: &[u8], pos: u64, offset_size: u8, slot: &mut [u8]) -> u32
+    ensures { λ r. ⌜ r ≡ slotNumber (now (slot .entry)) (fieldAnswer (offsetAt (now (bytes .entry)) pos «offset_size»)) ⌝ }
+    ensures { λ _. ⌜ now (slot .exit) ≡ slotBytes (now (slot .entry)) (fieldAnswer (offsetAt (now (bytes .entry)) pos «offset_size»)) ⌝ }
+{
+    put_answer(
+        slot,
+        read_offset(bytes, to_usize(pos), offset_size).answer(),
+    )
+}
+
+#[no_mangle]
+pub extern "C" fn tools_read_length(bytes: &[u8], pos: u64, length_size: u8, slot: &mut [u8]) -> u32
+    ensures { λ r. ⌜ r ≡ slotNumber (now (slot .entry)) (fieldAnswer (lengthAt (now (bytes .entry)) pos «length_size»)) ⌝ }
+    ensures { λ _. ⌜ now (slot .exit) ≡ slotBytes (now (slot .entry)) (fieldAnswer (lengthAt (now (bytes .entry)) pos «length_size»)) ⌝ }
+{
+    put_answer(
+        slot,
+        read_length(bytes, to_usize(pos), length_size).answer(),
+    )
+}
+
+#[no_mangle]
+pub extern "C" fn tools_write_offset(
+    bytes: &mut [u8],
+    pos: u64,
+    value: u64,
+    offset_size: u8,
+    slot: &mut [u8],
+) -> u32
+    ensures { λ r. ⌜ r ≡ slotNumber (now (slot .entry)) (checkedAnswer (storeChecked (length (now (bytes .entry))) pos «offset_size»)) ⌝ }
+    ensures { λ _. ⌜ now (slot .exit) ≡ slotBytes (now (slot .entry)) (checkedAnswer (storeChecked (length (now (bytes .entry))) pos «offset_size»)) ⌝ }
+    ensures { λ _. ⌜ now (bytes .exit) ≡ afterSlot (now (slot .entry)) (now (bytes .entry)) (offsetStored (now (bytes .entry)) pos value «offset_size») ⌝ }
+{
+    if slot.len() < 16 {
+        return 13;
+    }
+    let done = write_offset(bytes, to_usize(pos), value, offset_size);
+    put_answer(slot, done.answer())
+}
+
+#[no_mangle]
+pub extern "C" fn tools_write_undef_offset(
+    bytes: &mut [u8],
+    pos: u64,
+    offset_size: u8,
+    slot: &mut [u8],
+) -> u32
+    ensures { λ r. ⌜ r ≡ slotNumber (now (slot .entry)) (checkedAnswer (storeChecked (length (now (bytes .entry))) pos «offset_size»)) ⌝ }
+    ensures { λ _. ⌜ now (slot .exit) ≡ slotBytes (now (slot .entry)) (checkedAnswer (storeChecked (length (now (bytes .entry))) pos «offset_size»)) ⌝ }
+    ensures { λ _. ⌜ now (bytes .exit) ≡ afterSlot (now (slot .entry)) (now (bytes .entry)) (undefStored (now (bytes .entry)) pos «offset_size») ⌝ }
+{
+    if slot.len() < 16 {
+        return 13;
+    }
+    let done = write_undef_offset(bytes, to_usize(pos), offset_size);
+    put_answer(slot, done.answer())
+}
