@@ -1,3 +1,5 @@
 pub mod Words
+pub mod Switch
+pub mod Tails
 pub mod Walk
 pub mod Worked

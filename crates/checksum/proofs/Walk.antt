@@ -1,27 +1,13 @@
--- The two loops of `jenkins_lookup3`: over the groups, and over the cases of the switch.
-use mathlib.Core.Path.{_≡_, refl, sym, ap, _∙_}
+-- The loop of `jenkins_lookup3` over the groups: how it starts, goes on and ends.
+use mathlib.Core.Path.{_≡_, sym, ap, _∙_}
 use mathlib.Core.List.{List}
 use Prim.Native.Nat.{ℕ, zero, suc, _+_, _-_, _*_, _≤_, _<_}
 use native.Mathlib.Omega.{arith}
-use lib.ListN.{length, drop, take, length-drop}
-use lib.Seq.{take-all}
+use lib.ListN.{length, drop, length-drop}
 use borrow.Author.Tests.{eq-eqb, ne-eqb}
 use Rattle.checksum.specs.declared.State.{State}
-use Rattle.checksum.specs.Lookup3.{grouped, mixed, finalMixed, run, groupsOf, begun, body, tailOf, caseMet, switched, ended, hashlittle}
-
--- ---- the switch: what is left of it, from the words so far, is the whole
-
-pub switch-more : (n : ℕ) (tail : List ℕ) (s : State) → 0 < n → switched n tail s ≡ switched (n - 1) tail (caseMet n tail s)
-unfolding switched
-switch-more n tail s h =
-    let e : n ≡ suc (n - 1) = omega arith in
-    ap (λ (k : ℕ). switched k tail s) e ∙ ap (λ (k : ℕ). switched (n - 1) tail (caseMet k tail s)) (sym e)
-
-pub switch-done : (n : ℕ) (tail : List ℕ) (s : State) → n ≤ 0 → switched n tail s ≡ s
-unfolding switched
-switch-done n tail s h =
-    let e : n ≡ 0 = omega arith in
-    rw e
+use Rattle.checksum.specs.Requires.{Tail}
+use Rattle.checksum.specs.Lookup3.{grouped, mixed, finalMixed, run, groupsOf, begun, body, tailOf, switched, ended, hashlittle}
 
 -- ---- the groups
 
@@ -77,7 +63,12 @@ module _ {bytes : List ℕ} {s : State} {at : ℕ} (w : Walk bytes s at) where
     walk-empty e =
         rw (eq-eqb (length (tailOf bytes)) 0 (omega (arith, tail-length))) (ap (λ (t : State). t .c) words-done)
 
-    pub walk-tail : (length bytes ≡ at → ⊥) → finalMixed (switched 12 (take (length bytes - at) (drop at bytes)) s) .c ≡ hashlittle bytes
+    pub walk-ended : (length bytes ≡ at → ⊥) → Tail bytes at
+    unfolding groupsOf
+    walk-ended e =
+        record { some = omega (arith, w .inside, e); most = omega arith; first = λ k. omega (arith, w .place, k) }
+
+    pub walk-tail : (length bytes ≡ at → ⊥) → finalMixed (switched 12 (drop at bytes) s) .c ≡ hashlittle bytes
     unfolding hashlittle ended
     walk-tail e =
-        rw (ne-eqb (length (tailOf bytes)) 0 (λ z. e (omega (arith, tail-length, w .inside))), take-all (length bytes - at) (drop at bytes) (omega (arith, length-drop at bytes)), tail-here, words-done)
+        rw (ne-eqb (length (tailOf bytes)) 0 (λ z. e (omega (arith, tail-length, w .inside))), tail-here, words-done)

@@ -1,2 +1,3 @@
 pub mod Words
 pub mod Lookup3
+pub mod Requires

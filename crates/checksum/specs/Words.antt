@@ -1,5 +1,5 @@
 -- 32-bit words as lookup3.c has them: sums and differences modulo 2^32, exclusive or, rotation.
-use Prim.Native.Nat.{ℕ, _+_, _-_, _*_, _/_, _%_, _^_, _<_}
+use Prim.Native.Nat.{ℕ, _+_, _-_, _*_, _/_, _%_, _^_}
 use lib.Bits.{bitOr, bitXor}
 
 unfoldable pub add32 : ℕ → ℕ → ℕ
@@ -19,8 +19,3 @@ subXor x y k = bitXor (sub32 x y) (rot y k)
 -- x after  x ^= y;  x -= rot(y, k);
 unfoldable pub xorSub : ℕ → ℕ → ℕ → ℕ
 xorSub x y k = sub32 (bitXor x y) (rot y k)
-
--- a distance by which a word is rotated
-pub record Rotation (k : ℕ) : Type 0 where
-  pub some : 0 < k
-  pub small : k < 32

@@ -1,10 +1,13 @@
 // HDF5's metadata checksum: hashlittle of Bob Jenkins' lookup3.c with initial value 0. One line of its
 // mix and of its final mix is one function here; a state is its three words.
 ghost use mathlib.Core.Path.{_≡_};
-ghost use Prim.Native.Nat.{_+_, _≤_, _<_};
-ghost use lib.ListN.{length};
-ghost use Rattle.checksum.specs.Words.{rot, subXor, xorSub, Rotation};
-ghost use Rattle.checksum.specs.Lookup3.{mixA, mixB, mixC, mixed, finalA, finalB, finalC, finalMixed, grouped, caseAdded, caseMet, switched, hashlittle};
+ghost use Prim.Native.Nat.{_+_, _*_, _/_, _^_, _≤_, _<_, min};
+ghost use lib.ListN.{length, drop};
+ghost use Rattle.checksum.specs.Words.{rot, subXor, xorSub};
+ghost use Rattle.checksum.specs.Requires.{Rotation, Tail};
+ghost use Rattle.fields.specs.LittleEndian.{leAt};
+ghost use Rattle.checksum.specs.Lookup3.{mixA, mixB, mixC, mixed, finalA, finalB, finalC, finalMixed, grouped, switched, hashlittle};
+use fields::bytes::read_u16_le;
 use fields::bytes::read_u32_le;
 use std::num::wrapping_add_u32;
 use std::num::wrapping_sub_u32;
@@ -147,62 +150,68 @@ fn add_group(s: State, bytes: &[u8], at: usize) -> State
     }
 }
 
+fn least(a: usize, b: usize) -> usize
+    ensures { λ r. ⌜ r ≡ min a b ⌝ }
+{
+    if a <= b { a } else { b }
+}
+
+// A word without its `past` lowest bytes.
+fn drop_low_bytes(x: u32, past: usize) -> u32
+    ensures { λ r. ⌜ r ≡ x / 2 ^ (8 * past) ⌝ }
+{
+    if past < 4 { x >> (8 * past) } else { 0 }
+}
+
+// The bytes at `p`, four at most and fewer at the end: the last word that there is, shifted down. No
+// branch depends on the length, which a processor could not foresee.
+fn tail_word(bytes: &[u8], p: usize) -> u32
+    requires { ⌜ 4 ≤ length (now bytes) ⌝ }
+    ensures { λ r. ⌜ r ≡ leAt (now (bytes .entry)) p 4 ⌝ }
+{
+    let at = least(p, bytes.len() - 4);
+    drop_low_bytes(read_u32_le(bytes, at), p - at)
+}
+
 fn wide(byte: u8) -> u32
     ensures { λ r. ⌜ r ≡ byte ⌝ }
 {
     byte as u32
 }
 
-// Case `n` of the switch: its byte is added to its word, shifted.
-fn add_case(s: State, n: usize, byte: u8) -> State
-    requires { ⌜ 0 < n ⌝ }
-    ensures { λ r. ⌜ r ≡ caseAdded n byte s ⌝ }
+// All of 1 to 3 bytes.
+fn short_word(bytes: &[u8]) -> u32
+    requires { ⌜ 0 < length (now bytes) ⌝ }
+    requires { ⌜ length (now bytes) < 4 ⌝ }
+    ensures { λ r. ⌜ r ≡ leAt (now (bytes .entry)) 0 4 ⌝ }
 {
-    let x = wide(byte) << ((n - 1) % 4 * 8);
-    if n <= 4 {
-        State {
-            a: wrapping_add_u32(s.a, x),
-            b: s.b,
-            c: s.c,
-        }
-    } else if n <= 8 {
-        State {
-            a: s.a,
-            b: wrapping_add_u32(s.b, x),
-            c: s.c,
-        }
-    } else {
-        State {
-            a: s.a,
-            b: s.b,
-            c: wrapping_add_u32(s.c, x),
-        }
+    if bytes.len() == 1 {
+        return wide(bytes[0]);
     }
+    let two = read_u16_le(bytes, 0) as u32;
+    if bytes.len() == 2 {
+        return two;
+    }
+    two + wide(bytes[2]) * 0x1_0000
 }
 
-// Case `n` of the switch, if the tail is long enough to meet it.
-fn meet_case(s: State, n: usize, tail: &[u8]) -> State
-    requires { ⌜ 0 < n ⌝ }
-    ensures { λ r. ⌜ r ≡ caseMet n (now (tail .entry)) s ⌝ }
+// The 1 to 12 bytes that are left at `at`, added to the words, four to each.
+fn add_tail(s: State, bytes: &[u8], at: usize) -> State
+    requires { ⌜ Tail (now bytes) at ⌝ }
+    ensures { λ r. ⌜ r ≡ switched 12 (drop at (now (bytes .entry))) s ⌝ }
 {
-    if n <= tail.len() {
-        add_case(s, n, tail[n - 1])
-    } else {
-        s
+    if bytes.len() < 4 {
+        return State {
+            a: wrapping_add_u32(s.a, short_word(bytes)),
+            b: s.b,
+            c: s.c,
+        };
     }
-}
-
-// The switch, from case 12 down.
-fn add_tail(s: State, tail: &[u8]) -> State
-    ensures { λ r. ⌜ r ≡ switched 12 (now (tail .entry)) s ⌝ }
-{
-    let mut s = s;
-    let mut n: usize = 12;
-    while 0 < n {
-        s = meet_case(s, n, tail);
-        n = n - 1;
+    State {
+        a: wrapping_add_u32(s.a, tail_word(bytes, at)),
+        b: wrapping_add_u32(s.b, tail_word(bytes, at + 4)),
+        c: wrapping_add_u32(s.c, tail_word(bytes, at + 8)),
     }
-    s
 }
 
 // hashlittle(bytes, length, 0).
@@ -223,6 +232,6 @@ pub fn jenkins_lookup3(bytes: &[u8]) -> u32
     if bytes.len() == at {
         return s.c;
     }
-    let s = final_mix(add_tail(s, &bytes[at..]));
+    let s = final_mix(add_tail(s, bytes, at));
     s.c
 }

@@ -2,10 +2,11 @@
 use mathlib.Core.Path.{_≡_, refl, sym, ap, ap₂, _∙_}
 use mathlib.Core.List.{List, [], _∷_, _++_, append-assoc}
 use Prim.Native.Nat.{ℕ, zero, suc, _+_, _-_, _*_, _/_, _%_, _^_, _≤_, _<_}
+use native.Mathlib.Nat.{zero-div}
 use native.Mathlib.Omega.{arith}
 use lib.ListN.{length, take, drop, getD, set, replicate, length-append, length-drop}
-use lib.Seq.{take-add, drop-drop, drop-cons, take-at, drop-at, length-take-le, take-append-le, sets, length-sets, sets-eq}
-use lib.Pow.{pow-add, pow-pos, mod-pow-add}
+use lib.Seq.{take-add, drop-drop, drop-cons, take-all, take-at, drop-at, length-take-le, getD-drop, sets, length-sets, sets-eq}
+use lib.Pow.{pow-add, pow-pos, mod-pow-add, shr-shr}
 use Rattle.fields.specs.LittleEndian.{le, value, leAt, put}
 
 -- one byte more is eight bits more
@@ -21,15 +22,43 @@ unfolding value
 value-append [] cs = omega arith
 value-append (b ∷ bs) cs = rw (value-append bs cs, pow-byte (length bs)) (omega arith)
 
--- two halves of k bytes
-pub leAt-halves : (k : ℕ) (s : List ℕ) (p : ℕ) → p + k ≤ length s → leAt s p (k + k) ≡ leAt s p k + leAt s (p + k) k * 2 ^ (8 * k)
+-- i bytes, then j bytes
+pub leAt-add : (i j : ℕ) (s : List ℕ) (p : ℕ) → p + i ≤ length s → leAt s p (i + j) ≡ leAt s p i + leAt s (p + i) j * 2 ^ (8 * i)
 unfolding leAt
-leAt-halves k s p h =
-    rw (take-add k k (drop p s), drop-drop k p s, value-append, length-take-le k (drop p s) (simp length-drop (omega arith)))
+leAt-add i j s p h =
+    rw (take-add i j (drop p s), drop-drop i p s, value-append, length-take-le i (drop p s) (simp length-drop (omega arith)))
+
+pub leAt-drop : (s : List ℕ) (q p w : ℕ) → leAt (drop q s) p w ≡ leAt s (q + p) w
+unfolding leAt
+leAt-drop s q p w = rw (drop-drop p q s)
+
+-- bytes past the end count for nothing
+pub leAt-end : (s : List ℕ) (p w v : ℕ) → length s ≤ p + w → length s ≤ p + v → leAt s p w ≡ leAt s p v
+unfolding leAt
+leAt-end s p w v h k =
+    ap value (take-all w (drop p s) (rw length-drop (omega arith)) ∙ sym (take-all v (drop p s) (rw length-drop (omega arith))))
 
 pub leAt-byte : (s : List ℕ) (p : ℕ) → p < length s → leAt s p 1 ≡ getD s p 0
 unfolding leAt value
 leAt-byte s p h = rw (drop-cons s p 0) (omega arith)
+
+-- a number of bytes without its k lowest bytes
+value-drop : (bs : List ℕ) → ((j : ℕ) → getD bs j 0 < 256) → (k : ℕ) → value (drop k bs) ≡ value bs / 2 ^ (8 * k)
+unfolding value
+value-drop bs h zero = omega arith
+value-drop [] h (suc k) = sym (zero-div (2 ^ (8 * suc k)))
+value-drop (b ∷ bs) h (suc k) =
+    let e : 8 * suc k ≡ 8 + 8 * k = omega arith in
+    let low : (b + value bs * 256) / 2 ^ 8 ≡ value bs = omega (arith, h 0) in
+    value-drop bs (λ j. h (suc j)) k ∙ ap (λ (n : ℕ). n / 2 ^ (8 * k)) (sym low) ∙ rw e (shr-shr (b + value bs * 256) 8 (8 * k))
+
+-- the bytes from p on, of which there are at most w, are the last w bytes without those before p
+pub leAt-last : (s : List ℕ) → ((j : ℕ) → getD s j 0 < 256) → (w q k : ℕ) → q + w ≡ length s → leAt s (q + k) w ≡ leAt s q w / 2 ^ (8 * k)
+unfolding leAt
+leAt-last s h w q k e =
+    let whole : take w (drop q s) ≡ drop q s = take-all w (drop q s) (rw length-drop (omega arith)) in
+    let part : take w (drop (q + k) s) ≡ drop k (drop q s) = take-all w (drop (q + k) s) (rw length-drop (omega arith)) ∙ sym (drop-drop k q s) in
+    rw (whole, part) (value-drop (drop q s) (λ j. rw (getD-drop q s j 0) (h (q + j))) k)
 
 pub length-le : (w x : ℕ) → length (le w x) ≡ w
 unfolding le

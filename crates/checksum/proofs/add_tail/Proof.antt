@@ -1,36 +1,65 @@
--- `add_tail` meets its contract: the cases left, from the words so far, are the whole switch. Assumes nothing.
+-- `add_tail` meets its contract: the bytes are added as words, which is what the switch adds. Assumes nothing.
 use native.Mathlib.Omega.{arith}
-use mathlib.Core.Path.{_≡_, refl, sym, ap, _∙_}
-use Rattle.checksum.specs.Lookup3.{switched}
-use Rattle.checksum.proofs.Walk.{switch-more, switch-done}
+use borrow.Author.Needs.{needs}
+use mathlib.Core.Path.{_∙_}
+use Rattle.checksum.proofs.Switch.{tail-group}
+use Rattle.checksum.specs.Words.{add32}
+use Rattle.checksum.specs.Lookup3.{grouped}
+use Rattle.checksum.proofs.Tails.{short-group}
 use Rattle.checksum.proofs.add_tail.Statement.{statement}
 use Rattle.checksum.proofs.add_tail.Tie as tie
 
-abbrev Inv-loop : tie.InvT-loop
-Inv-loop tail s₀ n₀ s n = switched 12 tail s₀ ≡ switched n tail s
+short-word-requires : tie.Need-short-word-requires
+short-word-requires c κs = search needs
 
-abbrev μ-loop : tie.MeasureT-loop
-μ-loop tail s₀ n₀ s n = n
+wrapping-add-u32-requires : tie.Need-wrapping-add-u32-requires
+wrapping-add-u32-requires c κs = search needs
 
-loop-holds : tie.Need-loop-holds Inv-loop μ-loop
-loop-holds c = refl
+returns : tie.Need-returns
+unfolding add32
+returns c = rw (c .wrapping-add-u32 .ensures, c .before .short-word .ensures) (short-group _ _ _ (record { a = omega arith; b = omega arith; c = omega arith }) (c .before .before .if1 .taken) (c .before .before .before .before .pre .first (c .before .before .if1 .taken)) ∙ tail-group (c .before .before .before .before .pre) (record { a = omega arith; b = omega arith; c = omega arith }))
 
-meet-case-requires : tie.Need-meet-case-requires Inv-loop μ-loop
-meet-case-requires c κs = omega arith
+tail-word-requires : tie.Need-tail-word-requires
+tail-word-requires c κs = search needs
 
-sub-n : tie.Need-sub-n Inv-loop μ-loop
-sub-n c = omega arith
+wrapping-add-u32-requires-2 : tie.Need-wrapping-add-u32-requires-2
+wrapping-add-u32-requires-2 c κs = search needs
 
-loop-less : tie.Need-loop-less Inv-loop μ-loop
-loop-less c = omega arith
+add-tail-word : tie.Need-add-tail-word
+add-tail-word c = search needs
 
-loop-again : tie.Need-loop-again Inv-loop μ-loop
-loop-again c = c .before .before .loop .inv ∙ switch-more _ _ _ (omega arith) ∙ ap (switched _ _) (sym (c .meet-case .ensures))
+tail-word-requires-2 : tie.Need-tail-word-requires-2
+tail-word-requires-2 c κs = search needs
 
-returns : tie.Need-returns Inv-loop μ-loop
-returns c = sym (c .before .loop .inv ∙ switch-done _ _ _ (omega arith))
+wrapping-add-u32-requires-3 : tie.Need-wrapping-add-u32-requires-3
+wrapping-add-u32-requires-3 c κs = search needs
+
+add-tail-word-2 : tie.Need-add-tail-word-2
+add-tail-word-2 c = search needs
+
+tail-word-requires-3 : tie.Need-tail-word-requires-3
+tail-word-requires-3 c κs = search needs
+
+wrapping-add-u32-requires-4 : tie.Need-wrapping-add-u32-requires-4
+wrapping-add-u32-requires-4 c κs = search needs
+
+returns-2 : tie.Need-returns-2
+unfolding grouped add32
+returns-2 c = rw (c .before .before .before .before .wrapping-add-u322 .ensures, c .before .before .wrapping-add-u323 .ensures, c .wrapping-add-u324 .ensures, c .before .before .before .before .before .tail-word .ensures, c .before .before .before .tail-word2 .ensures, c .before .tail-word3 .ensures) (tail-group (c .before .before .before .before .before .before .before .before .pre) (record { a = omega arith; b = omega arith; c = omega arith }))
 
 pub add-tail-spec : {M : Type 1} → statement M
 add-tail-spec =
     tie.close
-    (tie.spec Inv-loop μ-loop loop-holds meet-case-requires sub-n loop-less loop-again returns)
+    (tie.spec
+    short-word-requires
+    wrapping-add-u32-requires
+    returns
+    tail-word-requires
+    wrapping-add-u32-requires-2
+    add-tail-word
+    tail-word-requires-2
+    wrapping-add-u32-requires-3
+    add-tail-word-2
+    tail-word-requires-3
+    wrapping-add-u32-requires-4
+    returns-2)

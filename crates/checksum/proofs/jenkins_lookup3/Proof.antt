@@ -4,7 +4,7 @@ use native.Mathlib.Omega.{arith}
 use lib.ListN.{length}
 use Rattle.checksum.specs.Words.{add32}
 use Rattle.checksum.specs.Lookup3.{begun}
-use Rattle.checksum.proofs.Walk.{Walk, walk-start, walk-more, walk-empty, walk-tail}
+use Rattle.checksum.proofs.Walk.{Walk, walk-start, walk-more, walk-empty, walk-ended, walk-tail}
 use Rattle.checksum.proofs.jenkins_lookup3.Statement.{statement}
 use Rattle.checksum.proofs.jenkins_lookup3.Tie as tie
 
@@ -45,23 +45,14 @@ loop-again c = rw (c .mix .ensures, c .before .add-group .ensures) (walk-more (c
 returns : tie.Need-returns Inv-loop μ-loop
 returns c = walk-empty (c .before .before .loop .inv) (omega arith) (c .if1 .taken)
 
-sub-add-tail : tie.Need-sub-add-tail Inv-loop μ-loop
-sub-add-tail c = omega arith
-
-part-add-tail-start : tie.Need-part-add-tail-start Inv-loop μ-loop
-part-add-tail-start c = omega arith
-
-part-add-tail-end : tie.Need-part-add-tail-end Inv-loop μ-loop
-part-add-tail-end c = omega arith
-
 add-tail-requires : tie.Need-add-tail-requires Inv-loop μ-loop
-add-tail-requires c κs = tt
+add-tail-requires c κs = walk-ended (c .before .before .loop .inv) (omega arith) (c .if1 .left)
 
 final-mix-requires : tie.Need-final-mix-requires Inv-loop μ-loop
 final-mix-requires c κs = tt
 
 returns-2 : tie.Need-returns-2 Inv-loop μ-loop
-returns-2 c = rw (c .final-mix .ensures, c .before .add-tail .ensures) (walk-tail (c .before .before .before .before .before .loop .inv) (omega arith) (c .before .before .before .if1 .left))
+returns-2 c = rw (c .final-mix .ensures, c .before .add-tail .ensures) (walk-tail (c .before .before .before .before .loop .inv) (omega arith) (c .before .before .if1 .left))
 
 pub jenkins-lookup3-spec : {M : Type 1} → statement M
 jenkins-lookup3-spec =
@@ -79,9 +70,6 @@ jenkins-lookup3-spec =
     loop-less
     loop-again
     returns
-    sub-add-tail
-    part-add-tail-start
-    part-add-tail-end
     add-tail-requires
     final-mix-requires
     returns-2)

@@ -2,7 +2,7 @@
 use borrow.Author.Needs.{needs}
 use native.Mathlib.Omega.{arith}
 use Prim.Native.Nat.{_+_}
-use Rattle.fields.proofs.LittleEndian.{leAt-halves, leAt-byte}
+use Rattle.fields.proofs.LittleEndian.{leAt-add, leAt-byte}
 use Rattle.fields.proofs.bytes.read_u16_le.Statement.{statement}
 use Rattle.fields.proofs.bytes.read_u16_le.Tie as tie
 
@@ -28,7 +28,7 @@ add-result : tie.Need-add-result
 add-result c = omega (arith, c .before .before .before .before .shared-slice-known .given (c .before .before .before .before .before .args .pos), c .before .before .before .before .shared-slice-known .given (c .before .before .before .before .before .args .pos + 1))
 
 returns : tie.Need-returns
-returns c = omega (arith, leAt-halves 1 (c .before .before .before .before .before .args .bytes .now) (c .before .before .before .before .before .args .pos) (omega arith), leAt-byte (c .before .before .before .before .before .args .bytes .now) (c .before .before .before .before .before .args .pos) (omega arith), leAt-byte (c .before .before .before .before .before .args .bytes .now) (c .before .before .before .before .before .args .pos + 1) (omega arith))
+returns c = omega (arith, leAt-add 1 1 (c .before .before .before .before .before .args .bytes .now) (c .before .before .before .before .before .args .pos) (omega arith), leAt-byte (c .before .before .before .before .before .args .bytes .now) (c .before .before .before .before .before .args .pos) (omega arith), leAt-byte (c .before .before .before .before .before .args .bytes .now) (c .before .before .before .before .before .args .pos + 1) (omega arith))
 
 pub read-u16-le-spec : {M : Type 1} → statement M
 read-u16-le-spec =

@@ -1,7 +1,7 @@
 -- `read_u32_le` meets its contract: two halves of 2 bytes. Assumes nothing.
 use borrow.Author.Needs.{needs}
 use native.Mathlib.Omega.{arith}
-use Rattle.fields.proofs.LittleEndian.{leAt-halves}
+use Rattle.fields.proofs.LittleEndian.{leAt-add}
 use Rattle.fields.proofs.bytes.read_u32_le.Statement.{statement}
 use Rattle.fields.proofs.bytes.read_u32_le.Tie as tie
 
@@ -27,7 +27,7 @@ add-result : tie.Need-add-result
 add-result c = search needs
 
 returns : tie.Need-returns
-returns c = omega (arith, leAt-halves 2 (c .before .before .before .args .bytes .now) (c .before .before .before .args .pos) (omega arith))
+returns c = omega (arith, leAt-add 2 2 (c .before .before .before .args .bytes .now) (c .before .before .before .args .pos) (omega arith))
 
 pub read-u32-le-spec : {M : Type 1} → statement M
 read-u32-le-spec =
