@@ -25,6 +25,19 @@ fn each<'a>(parts: impl Iterator<Item = &'a [u8]>, f: impl Fn(&[u8]) -> u32) {
     });
 }
 
+/// The steps of one group of 12 bytes that wait for each other: the word is added to c, then in each of
+/// the mix's six lines a rotation or a difference and an exclusive or. No lookup3 can be faster.
+fn chain(groups: usize) -> u32 {
+    let (mut x, y) = black_box((1u32, 2u32));
+    for _ in 0..groups {
+        x = x.wrapping_add(y);
+        for k in [4, 6, 8, 16, 19, 4] {
+            x = x.rotate_left(k) ^ y;
+        }
+    }
+    x
+}
+
 pub fn checksum() {
     let mut random = Random::new(3);
     let mut bytes = vec![0u8; 16 << 20];
@@ -34,6 +47,9 @@ pub fn checksum() {
         let parts = || std::iter::repeat_n(&bytes[..len], calls);
         let times = best(25, || each(parts(), ours::jenkins_lookup3), || each(parts(), original::jenkins_lookup3));
         line(&format!("lookup3 of {name}"), calls, times);
+        let groups = (len - 1) / 12 * calls;
+        let (floor, _) = best(25, || { black_box(chain(groups)); }, || ());
+        println!("bench:   its waiting steps alone {:>10.1} ns", floor * 1e9 / calls as f64);
     }
     for most in [12, 40, 200] {
         let lens: Vec<usize> = (0..1 << 16).map(|_| random.below(most + 1) as usize).collect();

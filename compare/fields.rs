@@ -1,7 +1,7 @@
 //! The fields, ours against the original: every answer with its pair.
 use crate::{ours, random::Random};
 
-/// A store as document 01 words it: the low 2, 4 or 8 bytes; 2 for another width, 13 past the end.
+/// A store, by the facts of docs/DECISIONS.md: the low 2, 4 or 8 bytes; 2 for another width, 13 past the end.
 pub fn stored(bytes: &mut [u8], pos: u64, value: u64, size: u8) -> original::Answer {
     if !matches!(size, 2 | 4 | 8) {
         return (2, size.into(), 0);
@@ -81,5 +81,5 @@ pub fn compare(n: u64) {
         ours::short_slot(len, &mut bytes);
     }
     println!("compare: ensure_len {lens}, read_offset and read_length {reads}, is_undefined_addr and to_usize {addrs}: equal");
-    println!("compare: write_offset and write_undef_offset {stores}: as document 01 words them, and read back by the original");
+    println!("compare: write_offset and write_undef_offset {stores}: by the facts of docs/DECISIONS.md, and read back by the original");
 }

@@ -15,7 +15,7 @@ mod error;
 pub use checksum::jenkins_lookup3;
 pub use error::FormatError;
 
-/// An answer in document 01's numbers: the refusal's number, 0 where there is none, and two values.
+/// An answer in numbers: the refusal's number, 0 where there is none, and two values.
 pub type Answer = (u32, u64, u64);
 
 fn refused(e: FormatError) -> Answer {

@@ -1,4 +1,4 @@
-//! What the program `vectors` must print, from the original alone (stores: as document 01 words them).
+//! What the program `vectors` must print, from the original alone (stores: by the facts of docs/DECISIONS.md).
 use crate::fields::stored;
 use original::{is_undefined_addr, jenkins_lookup3, read_length, read_offset, Answer};
 use std::fmt::Write;
