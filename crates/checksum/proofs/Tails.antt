@@ -1,5 +1,5 @@
 -- Words at the end of the bytes, where fewer than four are left.
-use mathlib.Core.Path.{_≡_, sym, ap, ap₂, _∙_}
+use mathlib.Core.Path.{_≡_, sym, ap, _∙_}
 use mathlib.Core.List.{List}
 use mathlib.Core.Logic.{dite}
 use Prim.Native.Nat.{ℕ, _+_, _-_, _*_, _/_, _^_, _≤_, _<_, min}
@@ -20,22 +20,20 @@ pub low-gone : (x past : ℕ) → x < 2 ^ 32 → 4 ≤ past → 0 ≡ x / 2 ^ (8
 low-gone x past h k =
     sym (div-eq-of-lt (lt-of-lt-of-le h (pow-mono {i = 32} {j = 8 * past} (omega arith))))
 
-module _ (s : List ℕ) (bytes : (j : ℕ) → getD s j 0 < 256) where
-  -- the last word that there is, shifted down, is what there is at p
-  pub tail-word-is : (p : ℕ) → 4 ≤ length s → leAt s (min p (length s - 4)) 4 / 2 ^ (8 * (p - min p (length s - 4))) ≡ leAt s p 4
-  tail-word-is p h = dite (decLe p (length s - 4)) inside past
-    where
-      inside : p ≤ length s - 4 → leAt s (min p (length s - 4)) 4 / 2 ^ (8 * (p - min p (length s - 4))) ≡ leAt s p 4
-      inside k =
-          let e : min p (length s - 4) ≡ p = omega arith in
-          let z : p - p ≡ 0 = omega arith in
-          rw (e, z) (omega arith)
+-- the last word that there is, shifted down, is what there is at p
+pub tail-word-is : (s : List ℕ) → ((j : ℕ) → getD s j 0 < 256) → (p at : ℕ) → 4 ≤ length s → at ≡ min p (length s - 4) → leAt s at 4 / 2 ^ (8 * (p - at)) ≡ leAt s p 4
+tail-word-is s bytes p at h e = dite (decLe p (length s - 4)) inside past
+  where
+    inside : p ≤ length s - 4 → leAt s at 4 / 2 ^ (8 * (p - at)) ≡ leAt s p 4
+    inside k =
+        let here : at ≡ p = omega arith in
+        let none : p - p ≡ 0 = omega arith in
+        rw (here, none) (omega arith)
 
-      past : (p ≤ length s - 4 → ⊥) → leAt s (min p (length s - 4)) 4 / 2 ^ (8 * (p - min p (length s - 4))) ≡ leAt s p 4
-      past k =
-          let e : min p (length s - 4) ≡ length s - 4 = omega arith in
-          let at : length s - 4 + (p - (length s - 4)) ≡ p = omega arith in
-          rw e (sym (leAt-last s bytes 4 (length s - 4) (p - (length s - 4)) (omega arith)) ∙ ap (λ (q : ℕ). leAt s q 4) at)
+    past : (p ≤ length s - 4 → ⊥) → leAt s at 4 / 2 ^ (8 * (p - at)) ≡ leAt s p 4
+    past k =
+        let there : at + (p - at) ≡ p = omega arith in
+        sym (leAt-last s bytes 4 at (p - at) (omega arith)) ∙ ap (λ (q : ℕ). leAt s q 4) there
 
 -- all of one, two and three bytes
 module _ (s : List ℕ) where

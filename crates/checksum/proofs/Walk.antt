@@ -1,7 +1,7 @@
 -- The loop of `jenkins_lookup3` over the groups: how it starts, goes on and ends.
 use mathlib.Core.Path.{_≡_, sym, ap, _∙_}
 use mathlib.Core.List.{List}
-use Prim.Native.Nat.{ℕ, zero, suc, _+_, _-_, _*_, _≤_, _<_}
+use Prim.Native.Nat.{ℕ, suc, _+_, _-_, _*_, _≤_, _<_}
 use native.Mathlib.Omega.{arith}
 use lib.ListN.{length, drop, length-drop}
 use borrow.Author.Tests.{eq-eqb, ne-eqb}

@@ -163,8 +163,8 @@ fn drop_low_bytes(x: u32, past: usize) -> u32
     if past < 4 { x >> (8 * past) } else { 0 }
 }
 
-// The bytes at `p`, four at most and fewer at the end: the last word that there is, shifted down. No
-// branch depends on the length, which a processor could not foresee.
+// The bytes at `p`, four at most and fewer at the end: the last word that there is, shifted down. It
+// has no branch on the length, which a processor could not predict.
 fn tail_word(bytes: &[u8], p: usize) -> u32
     requires { ⌜ 4 ≤ length (now bytes) ⌝ }
     ensures { λ r. ⌜ r ≡ leAt (now (bytes .entry)) p 4 ⌝ }

@@ -2,7 +2,6 @@
 // functions are apart from these. Each returns the refusal's number, 0 where there is none, and puts
 // the two values into the first 16 bytes of the slot; a shorter slot gives 13 before all else.
 ghost use mathlib.Core.Path.{_≡_};
-ghost use mathlib.Core.Bool.{true};
 ghost use lib.ListN.{length};
 ghost use Rattle.checksum.specs.Lookup3.{hashlittle};
 ghost use Rattle.fields.specs.Fields.{undefinedAddr, lenChecked, offsetAt, lengthAt, storeChecked, offsetStored, undefStored};

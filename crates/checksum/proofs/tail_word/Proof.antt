@@ -1,7 +1,6 @@
 -- `tail_word` meets its contract. Assumes nothing.
 use borrow.Author.Needs.{needs}
 use native.Mathlib.Omega.{arith}
-use mathlib.Core.Path.{_∙_}
 use Rattle.checksum.proofs.Tails.{tail-word-is}
 use Rattle.checksum.proofs.tail_word.Statement.{statement}
 use Rattle.checksum.proofs.tail_word.Tie as tie
@@ -22,7 +21,7 @@ drop-low-bytes-requires : tie.Need-drop-low-bytes-requires
 drop-low-bytes-requires c κs = search needs
 
 returns : tie.Need-returns
-returns c = rw (c .drop-low-bytes .ensures, c .before .read-u32-le .ensures, c .before .before .least .ensures) (tail-word-is _ (λ j. omega (arith, c .before .before .before .shared-slice-known .given j)) _ (c .before .before .before .before .pre))
+returns c = rw (c .drop-low-bytes .ensures, c .before .read-u32-le .ensures) (tail-word-is _ (λ j. omega (arith, c .before .before .before .shared-slice-known .given j)) _ _ (c .before .before .before .before .pre) (c .before .before .least .ensures))
 
 pub tail-word-spec : {M : Type 1} → statement M
 tail-word-spec =

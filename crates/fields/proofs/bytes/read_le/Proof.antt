@@ -1,7 +1,6 @@
 -- `read_le` meets its contract: one read for each width. Assumes nothing.
 use borrow.Author.Needs.{needs}
 use native.Mathlib.Omega.{arith}
-use mathlib.Core.Path.{_∙_, sym, ap}
 use Rattle.fields.proofs.Fields.{legal-eight}
 use Rattle.fields.proofs.bytes.read_le.Statement.{statement}
 use Rattle.fields.proofs.bytes.read_le.Tie as tie
