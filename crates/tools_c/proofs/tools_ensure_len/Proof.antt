@@ -1,5 +1,8 @@
 -- `tools_ensure_len` meets its contract: what its callees ensure, joined. Assumes nothing.
 use borrow.Author.Needs.{needs}
+use mathlib.Core.Path.{ap, ap₂, _∙_}
+use Rattle.fields.specs.Fields.{lenChecked}
+use Rattle.fields.specs.Refusals.{checkedAnswer, slotNumber, slotBytes}
 use Rattle.tools_c.proofs.tools_ensure_len.Statement.{statement}
 use Rattle.tools_c.proofs.tools_ensure_len.Tie as tie
 
@@ -22,7 +25,10 @@ same-length : tie.Need-same-length
 same-length c = search needs
 
 returns : tie.Need-returns
-returns c = (cc, cc)
+returns c =
+    let e = c .before .before .before .answer .ensures ∙ ap checkedAnswer (c .before .before .before .before .ensure-len .ensures ∙ ap₂ (lenChecked (c .before .before .before .before .before .before .before .before .before .before .args .bytes .now)) (c .before .before .before .before .before .before .to-usize .ensures) (c .before .before .before .before .before .to-usize2 .ensures)) in
+    let s = c .before .before .before .before .before .before .before .before .before .before .args .slot .now in
+    (c .before .before .put-answer .ensures .0 ∙ ap (slotNumber s) e, c .before .before .put-answer .ensures .1 ∙ ap (slotBytes s) e)
 
 pub tools-ensure-len-spec : {M : Type 1} → statement M
 tools-ensure-len-spec =

@@ -1,5 +1,9 @@
 -- `tools_read_offset` meets its contract: what its callees ensure, joined. Assumes nothing.
 use borrow.Author.Needs.{needs}
+use mathlib.Core.Path.{ap, _∙_}
+use Rattle.fields.specs.Fields.{offsetAt}
+use Rattle.fields.specs.Refusals.{fieldAnswer, slotNumber, slotBytes}
+use Prim.Native.Nat.{ℕ}
 use Rattle.tools_c.proofs.tools_read_offset.Statement.{statement}
 use Rattle.tools_c.proofs.tools_read_offset.Tie as tie
 
@@ -19,7 +23,10 @@ same-length : tie.Need-same-length
 same-length c = search needs
 
 returns : tie.Need-returns
-returns c = (cc, cc)
+returns c =
+    let e = c .before .before .before .answer .ensures ∙ ap fieldAnswer (c .before .before .before .before .read-offset .ensures ∙ ap (λ (p : ℕ). offsetAt (c .before .before .before .before .before .before .before .before .before .args .bytes .now) p (c .before .before .before .before .before .before .before .before .before .args .offset-size)) (c .before .before .before .before .before .to-usize .ensures)) in
+    let s = c .before .before .before .before .before .before .before .before .before .args .slot .now in
+    (c .before .before .put-answer .ensures .0 ∙ ap (slotNumber s) e, c .before .before .put-answer .ensures .1 ∙ ap (slotBytes s) e)
 
 pub tools-read-offset-spec : {M : Type 1} → statement M
 tools-read-offset-spec =

@@ -1,8 +1,11 @@
 -- `tools_write_offset` meets its contract: what its callees ensure, joined. Assumes nothing.
-use borrow.Author.Needs.{needs}
-use mathlib.Core.Path.{refl}
 use borrow.Author.Tests.{lt-ltb, le-ltb}
-use Rattle.fields.specs.Refusals.{slotNumber, slotBytes}
+use borrow.Author.Needs.{needs}
+use mathlib.Core.Path.{refl, ap, _∙_}
+use Prim.Native.Nat.{ℕ}
+use lib.ListN.{length}
+use Rattle.fields.specs.Fields.{storeChecked, offsetStored}
+use Rattle.fields.specs.Refusals.{checkedAnswer, slotNumber, slotBytes}
 use Rattle.tools_c.specs.Tools.{afterSlot}
 use Rattle.tools_c.proofs.tools_write_offset.Statement.{statement}
 use Rattle.tools_c.proofs.tools_write_offset.Tie as tie
@@ -31,7 +34,10 @@ same-length-2 c = search needs
 
 returns-2 : tie.Need-returns-2
 unfolding afterSlot
-returns-2 c = (cc, (cc, rw (le-ltb _ _ (c .before .before .before .before .before .before .before .before .before .before .if1 .left)) (cc)))
+returns-2 c =
+    let e = c .before .before .before .answer .ensures ∙ ap checkedAnswer (c .before .before .before .before .before .before .before .write-offset .ensures .0 ∙ ap (λ (p : ℕ). storeChecked (length (c .before .before .before .before .before .before .before .before .before .before .before .before .before .args .bytes .now)) p (c .before .before .before .before .before .before .before .before .before .before .before .before .before .args .offset-size)) (c .before .before .before .before .before .before .before .before .to-usize .ensures)) in
+    let s = c .before .before .before .before .before .before .before .before .before .before .before .before .before .args .slot .now in
+    (c .before .before .put-answer .ensures .0 ∙ ap (slotNumber s) e, (c .before .before .put-answer .ensures .1 ∙ ap (slotBytes s) e, rw (le-ltb _ _ (c .before .before .before .before .before .before .before .before .before .before .if1 .left)) (c .before .before .before .before .before .before .before .write-offset .ensures .1 ∙ ap (λ (p : ℕ). offsetStored (c .before .before .before .before .before .before .before .before .before .before .before .before .before .args .bytes .now) p (c .before .before .before .before .before .before .before .before .before .before .before .before .before .args .value) (c .before .before .before .before .before .before .before .before .before .before .before .before .before .args .offset-size)) (c .before .before .before .before .before .before .before .before .to-usize .ensures))))
 
 pub tools-write-offset-spec : {M : Type 1} → statement M
 tools-write-offset-spec =
