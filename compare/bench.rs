@@ -10,12 +10,19 @@ fn best(rounds: usize, mut a: impl FnMut(), mut b: impl FnMut()) -> (f64, f64) {
         f();
         start.elapsed().as_secs_f64()
     };
-    (0..rounds).fold((f64::MAX, f64::MAX), |(x, y), _| (x.min(time(&mut a)), y.min(time(&mut b))))
+    (0..rounds).fold((f64::MAX, f64::MAX), |(x, y), _| {
+        (x.min(time(&mut a)), y.min(time(&mut b)))
+    })
 }
 
 fn line(name: &str, calls: usize, (ours, original): (f64, f64)) {
     let ns = |t: f64| t * 1e9 / calls as f64;
-    println!("bench: {name:<32} ours {:>12.1} ns, original {:>12.1} ns, ratio {:.2}", ns(ours), ns(original), ours / original);
+    println!(
+        "bench: {name:<32} ours {:>12.1} ns, original {:>12.1} ns, ratio {:.2}",
+        ns(ours),
+        ns(original),
+        ours / original
+    );
 }
 
 /// `f` once for each of the parts, each call's answer kept from being dropped by the compiler.
@@ -42,19 +49,47 @@ pub fn checksum() {
     let mut random = Random::new(3);
     let mut bytes = vec![0u8; 16 << 20];
     random.fill(&mut bytes);
-    for (name, len) in [("64 B", 64), ("1 KiB", 1 << 10), ("64 KiB", 1 << 16), ("16 MiB", 16 << 20)] {
+    for (name, len) in [
+        ("64 B", 64),
+        ("1 KiB", 1 << 10),
+        ("64 KiB", 1 << 16),
+        ("16 MiB", 16 << 20),
+    ] {
         let calls = ((1 << 22) / len).max(1);
         let parts = || std::iter::repeat_n(&bytes[..len], calls);
-        let times = best(25, || each(parts(), ours::jenkins_lookup3), || each(parts(), original::jenkins_lookup3));
+        let times = best(
+            25,
+            || each(parts(), ours::jenkins_lookup3),
+            || each(parts(), original::jenkins_lookup3),
+        );
         line(&format!("lookup3 of {name}"), calls, times);
         let groups = (len - 1) / 12 * calls;
-        let (floor, _) = best(25, || { black_box(chain(groups)); }, || ());
-        println!("bench:   its waiting steps alone {:>10.1} ns", floor * 1e9 / calls as f64);
+        let (floor, _) = best(
+            25,
+            || {
+                black_box(chain(groups));
+            },
+            || (),
+        );
+        println!(
+            "bench:   its waiting steps alone {:>10.1} ns",
+            floor * 1e9 / calls as f64
+        );
     }
     for most in [12, 40, 200] {
-        let lens: Vec<usize> = (0..1 << 16).map(|_| random.below(most + 1) as usize).collect();
+        let lens: Vec<usize> = (0..1 << 16)
+            .map(|_| random.below(most + 1) as usize)
+            .collect();
         let parts = || lens.iter().map(|&n| &bytes[..n]);
-        let times = best(25, || each(parts(), ours::jenkins_lookup3), || each(parts(), original::jenkins_lookup3));
-        line(&format!("lookup3 of 0 to {most} B, random"), lens.len(), times);
+        let times = best(
+            25,
+            || each(parts(), ours::jenkins_lookup3),
+            || each(parts(), original::jenkins_lookup3),
+        );
+        line(
+            &format!("lookup3 of 0 to {most} B, random"),
+            lens.len(),
+            times,
+        );
     }
 }

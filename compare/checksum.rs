@@ -8,7 +8,12 @@ pub fn compare(n: u64) {
     random.fill(&mut bytes);
     let mut count = 0u64;
     let mut same = |part: &[u8]| {
-        assert_eq!(ours::jenkins_lookup3(part), original::jenkins_lookup3(part), "{} bytes", part.len());
+        assert_eq!(
+            ours::jenkins_lookup3(part),
+            original::jenkins_lookup3(part),
+            "{} bytes",
+            part.len()
+        );
         count += 1;
     };
     for at in 0..16 {
@@ -16,7 +21,16 @@ pub fn compare(n: u64) {
             same(&bytes[at..at + len]);
         }
     }
-    for len in [4095, 4096, 4097, 65_535, 65_536, 1 << 20, (1 << 20) + 1, 3 << 20] {
+    for len in [
+        4095,
+        4096,
+        4097,
+        65_535,
+        65_536,
+        1 << 20,
+        (1 << 20) + 1,
+        3 << 20,
+    ] {
         same(&bytes[..len]);
     }
     for _ in 0..n {

@@ -16,27 +16,55 @@ pub fn stored(bytes: &mut [u8], pos: u64, value: u64, size: u8) -> original::Ans
 
 fn same_reads(bytes: &[u8], pos: u64, size: u8) {
     let at = || format!("{} bytes, position {pos}, width {size}", bytes.len());
-    assert_eq!(ours::read_offset(bytes, pos, size), original::read_offset(bytes, pos as usize, size), "{}", at());
-    assert_eq!(ours::read_length(bytes, pos, size), original::read_length(bytes, pos as usize, size), "{}", at());
+    assert_eq!(
+        ours::read_offset(bytes, pos, size),
+        original::read_offset(bytes, pos as usize, size),
+        "{}",
+        at()
+    );
+    assert_eq!(
+        ours::read_length(bytes, pos, size),
+        original::read_length(bytes, pos as usize, size),
+        "{}",
+        at()
+    );
 }
 
 fn same_stores(bytes: &[u8], pos: u64, value: u64, size: u8) {
-    let at = || format!("{} bytes, position {pos}, value {value}, width {size}", bytes.len());
+    let at = || {
+        format!(
+            "{} bytes, position {pos}, value {value}, width {size}",
+            bytes.len()
+        )
+    };
     for (undef, value) in [(false, value), (true, u64::MAX)] {
         let (mut a, mut b) = (bytes.to_vec(), bytes.to_vec());
         let expected = stored(&mut b, pos, value, size);
-        let got = if undef { ours::write_undef_offset(&mut a, pos, size) } else { ours::write_offset(&mut a, pos, value, size) };
+        let got = if undef {
+            ours::write_undef_offset(&mut a, pos, size)
+        } else {
+            ours::write_offset(&mut a, pos, value, size)
+        };
         assert_eq!(got, expected, "{}", at());
         assert_eq!(a, b, "{}", at());
         if got.0 == 0 {
             let ones = u64::MAX >> (64 - 8 * u32::from(size));
-            assert_eq!(original::read_offset(&a, pos as usize, size), (0, value & ones, 0), "{}", at());
+            assert_eq!(
+                original::read_offset(&a, pos as usize, size),
+                (0, value & ones, 0),
+                "{}",
+                at()
+            );
         }
     }
 }
 
 fn same_undefined(addr: u64, size: u8) {
-    assert_eq!(ours::is_undefined_addr(addr, size), original::is_undefined_addr(addr, size).into(), "address {addr}, width {size}");
+    assert_eq!(
+        ours::is_undefined_addr(addr, size),
+        original::is_undefined_addr(addr, size).into(),
+        "address {addr}, width {size}"
+    );
 }
 
 /// Every width and every place around the ends of short slices; then `n` random cases of each kind.
@@ -57,7 +85,8 @@ pub fn compare(n: u64) {
     }
     for size in 0..=255u8 {
         for bits in 0..=64u32 {
-            for addr in [-1i64, 0, 1].map(|d| (1u128 << bits).wrapping_add_signed(d.into()) as u64) {
+            for addr in [-1i64, 0, 1].map(|d| (1u128 << bits).wrapping_add_signed(d.into()) as u64)
+            {
                 same_undefined(addr, size);
                 assert_eq!(ours::to_usize(addr), original::to_usize(addr) as u64);
                 addrs += 2;
@@ -67,11 +96,19 @@ pub fn compare(n: u64) {
     for _ in 0..n {
         let len = random.below(49) as usize;
         random.fill(&mut bytes);
-        let (pos, needed, size) = (random.place(len as u64), random.place(len as u64), random.width());
+        let (pos, needed, size) = (
+            random.place(len as u64),
+            random.place(len as u64),
+            random.width(),
+        );
         same_reads(&bytes[..len], pos, size);
         same_stores(&bytes[..len], pos, random.next() >> random.below(64), size);
         same_undefined(random.next() | 1 << random.below(64), size);
-        assert_eq!(ours::ensure_len(&bytes[..len], pos, needed), original::ensure_len(&bytes[..len], pos as usize, needed as usize), "{len} bytes, {needed} from {pos} on");
+        assert_eq!(
+            ours::ensure_len(&bytes[..len], pos, needed),
+            original::ensure_len(&bytes[..len], pos as usize, needed as usize),
+            "{len} bytes, {needed} from {pos} on"
+        );
         reads += 2;
         stores += 2;
         addrs += 1;
@@ -80,6 +117,10 @@ pub fn compare(n: u64) {
     for len in 0..16 {
         ours::short_slot(len, &mut bytes);
     }
-    println!("compare: ensure_len {lens}, read_offset and read_length {reads}, is_undefined_addr and to_usize {addrs}: equal");
-    println!("compare: write_offset and write_undef_offset {stores}: by the facts of docs/DECISIONS.md, and read back by the original");
+    println!(
+        "compare: ensure_len {lens}, read_offset and read_length {reads}, is_undefined_addr and to_usize {addrs}: equal"
+    );
+    println!(
+        "compare: write_offset and write_undef_offset {stores}: by the facts of docs/DECISIONS.md, and read back by the original"
+    );
 }

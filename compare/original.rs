@@ -20,7 +20,10 @@ pub type Answer = (u32, u64, u64);
 
 fn refused(e: FormatError) -> Answer {
     match e {
-        FormatError::UnexpectedEof { expected, available } => (1, expected as u64, available as u64),
+        FormatError::UnexpectedEof {
+            expected,
+            available,
+        } => (1, expected as u64, available as u64),
         FormatError::InvalidOffsetSize(size) => (2, size.into(), 0),
         FormatError::InvalidLengthSize(size) => (3, size.into(), 0),
         other => panic!("no number for {other:?}"),

@@ -6,11 +6,47 @@ unsafe extern "C" {
     fn tools_jenkins_lookup3(bytes: *const u8, len: usize) -> u32;
     fn tools_to_usize(value: u64) -> u64;
     fn tools_is_undefined_addr(addr: u64, offset_size: u8) -> u32;
-    fn tools_ensure_len(bytes: *const u8, len: usize, offset: u64, needed: u64, slot: *mut u8, slot_len: usize) -> u32;
-    fn tools_read_offset(bytes: *const u8, len: usize, pos: u64, size: u8, slot: *mut u8, slot_len: usize) -> u32;
-    fn tools_read_length(bytes: *const u8, len: usize, pos: u64, size: u8, slot: *mut u8, slot_len: usize) -> u32;
-    fn tools_write_offset(bytes: *mut u8, len: usize, pos: u64, value: u64, size: u8, slot: *mut u8, slot_len: usize) -> u32;
-    fn tools_write_undef_offset(bytes: *mut u8, len: usize, pos: u64, size: u8, slot: *mut u8, slot_len: usize) -> u32;
+    fn tools_ensure_len(
+        bytes: *const u8,
+        len: usize,
+        offset: u64,
+        needed: u64,
+        slot: *mut u8,
+        slot_len: usize,
+    ) -> u32;
+    fn tools_read_offset(
+        bytes: *const u8,
+        len: usize,
+        pos: u64,
+        size: u8,
+        slot: *mut u8,
+        slot_len: usize,
+    ) -> u32;
+    fn tools_read_length(
+        bytes: *const u8,
+        len: usize,
+        pos: u64,
+        size: u8,
+        slot: *mut u8,
+        slot_len: usize,
+    ) -> u32;
+    fn tools_write_offset(
+        bytes: *mut u8,
+        len: usize,
+        pos: u64,
+        value: u64,
+        size: u8,
+        slot: *mut u8,
+        slot_len: usize,
+    ) -> u32;
+    fn tools_write_undef_offset(
+        bytes: *mut u8,
+        len: usize,
+        pos: u64,
+        size: u8,
+        slot: *mut u8,
+        slot_len: usize,
+    ) -> u32;
 }
 
 /// What a slot holds before a call; every byte past 16 must still hold it after.
@@ -57,11 +93,15 @@ pub fn read_length(bytes: &[u8], pos: u64, size: u8) -> Answer {
 }
 
 pub fn write_offset(bytes: &mut [u8], pos: u64, value: u64, size: u8) -> Answer {
-    with_slot(|s, n| unsafe { tools_write_offset(bytes.as_mut_ptr(), bytes.len(), pos, value, size, s, n) })
+    with_slot(|s, n| unsafe {
+        tools_write_offset(bytes.as_mut_ptr(), bytes.len(), pos, value, size, s, n)
+    })
 }
 
 pub fn write_undef_offset(bytes: &mut [u8], pos: u64, size: u8) -> Answer {
-    with_slot(|s, n| unsafe { tools_write_undef_offset(bytes.as_mut_ptr(), bytes.len(), pos, size, s, n) })
+    with_slot(|s, n| unsafe {
+        tools_write_undef_offset(bytes.as_mut_ptr(), bytes.len(), pos, size, s, n)
+    })
 }
 
 /// Every function with a slot, lent one of fewer than 16 bytes: nothing is written anywhere.
@@ -71,7 +111,11 @@ pub fn short_slot(len: usize, bytes: &mut [u8]) {
     with_short_slot(len, |s, k| unsafe { tools_ensure_len(p, n, 0, 1, s, k) });
     with_short_slot(len, |s, k| unsafe { tools_read_offset(p, n, 0, 2, s, k) });
     with_short_slot(len, |s, k| unsafe { tools_read_length(p, n, 0, 2, s, k) });
-    with_short_slot(len, |s, k| unsafe { tools_write_offset(p, n, 0, 7, 2, s, k) });
-    with_short_slot(len, |s, k| unsafe { tools_write_undef_offset(p, n, 0, 2, s, k) });
+    with_short_slot(len, |s, k| unsafe {
+        tools_write_offset(p, n, 0, 7, 2, s, k)
+    });
+    with_short_slot(len, |s, k| unsafe {
+        tools_write_undef_offset(p, n, 0, 2, s, k)
+    });
     assert_eq!(bytes, before, "bytes lent beside a short slot");
 }
