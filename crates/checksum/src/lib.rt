@@ -12,6 +12,7 @@ use fields::bytes::read_u32_le;
 use std::num::wrapping_add_u32;
 use std::num::wrapping_sub_u32;
 
+// The three words a, b and c.
 pub struct State {
     pub a: u32,
     pub b: u32,

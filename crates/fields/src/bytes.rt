@@ -66,6 +66,7 @@ fn has_room(lent: usize, pos: usize, needed: usize) -> bool
     }
 }
 
+// The sum, or 2^64 - 1 where it is above.
 fn saturating_add(a: u64, b: u64) -> u64
     ensures { λ r. ⌜ r ≡ saturated (a + b) ⌝ }
 {
@@ -85,6 +86,12 @@ pub fn ensure_len(bytes: &[u8], offset: usize, needed: usize) -> Checked
     }
 }
 
+fn wide(b: u8) -> u16
+    ensures { λ r. ⌜ r ≡ b ⌝ }
+{
+    b as u16
+}
+
 // The two bytes at `pos`. Public for the crates above alone, as are the next three: the caller has
 // tested the length.
 pub fn read_u16_le(bytes: &[u8], pos: usize) -> u16
@@ -94,12 +101,7 @@ pub fn read_u16_le(bytes: &[u8], pos: usize) -> u16
     wide(bytes[pos]) + wide(bytes[pos + 1]) * 0x100
 }
 
-fn wide(b: u8) -> u16
-    ensures { λ r. ⌜ r ≡ b ⌝ }
-{
-    b as u16
-}
-
+// The four bytes at `pos`.
 pub fn read_u32_le(bytes: &[u8], pos: usize) -> u32
     requires { ⌜ pos + 4 ≤ length (now bytes) ⌝ }
     ensures { λ r. ⌜ r ≡ leAt (now (bytes .entry)) pos 4 ⌝ }
@@ -107,6 +109,7 @@ pub fn read_u32_le(bytes: &[u8], pos: usize) -> u32
     (read_u16_le(bytes, pos) as u32) + (read_u16_le(bytes, pos + 2) as u32) * 0x1_0000
 }
 
+// The eight bytes at `pos`.
 pub fn read_u64_le(bytes: &[u8], pos: usize) -> u64
     requires { ⌜ pos + 8 ≤ length (now bytes) ⌝ }
     ensures { λ r. ⌜ r ≡ leAt (now (bytes .entry)) pos 8 ⌝ }
