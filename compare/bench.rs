@@ -32,8 +32,9 @@ fn each<'a>(parts: impl Iterator<Item = &'a [u8]>, f: impl Fn(&[u8]) -> u32) {
     });
 }
 
-/// The steps of one group of 12 bytes that wait for each other: the word is added to c, then in each of
-/// the mix's six lines a rotation or a difference and an exclusive or. No lookup3 can be faster.
+/// As many steps as wait for each other in one group of 12 bytes: the word is added to c, then in each of
+/// the mix's six lines a rotation or a difference and an exclusive or. Within one call lookup3, in this
+/// order of steps, takes at least that long; calls that follow each other may overlap.
 fn chain(groups: usize) -> u32 {
     let (mut x, y) = black_box((1u32, 2u32));
     for _ in 0..groups {
