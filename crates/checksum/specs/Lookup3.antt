@@ -1,5 +1,5 @@
--- hashlittle with initial value 0, from lookup3.c (Bob Jenkins, May 2006, public domain). Each
--- definition stands beside the lines it is taken from.
+-- hashlittle with initial value 0, after lookup3.c (Bob Jenkins, May 2006, public domain). A comment
+-- gives the C that a definition follows.
 use Prim.Native.Nat.{ℕ, zero, suc, _+_, _-_, _*_, _/_, _%_, _^_}
 use mathlib.Core.Bool.{cond}
 use mathlib.Core.List.{List}
