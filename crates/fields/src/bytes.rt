@@ -131,7 +131,7 @@ pub fn read_le(bytes: &[u8], pos: usize, width: u8) -> u64
 }
 
 // Whether an address or a length may have this width.
-fn is_width(width: u8) -> bool
+pub fn is_width(width: u8) -> bool
     ensures { λ r. ⌜ r ≡ legal width ⌝ }
 {
     match width {

@@ -14,7 +14,7 @@ use Rattle.table.specs.declared.RowCol.{RowCol}
 use Rattle.table.specs.declared.Slot.{Slot}
 use Rattle.table.specs.declared.TableSlot.{TableSlot}
 use Rattle.table.proofs.Powers.{pow-lt-cancel, digits-unique, join}
-use Rattle.table.proofs.Rows.{Top, heap-rows, top-row, row-lo, row-29, row-of-is, row-mono, slot-start-is, slot-rows}
+use Rattle.table.proofs.Rows.{Top, heap-rows, top-row, row-lo, row-le, row-29, row-of-is, row-mono, slot-start-is, slot-rows}
 use Rattle.table.proofs.Slots.{Slotted, top, sub, top-unique, slotted-unique, slotted-hi, slot-bits-is}
 
 module _ (t : Table) where
@@ -169,11 +169,31 @@ rows-of-slot r l u =
     let e : 2 ^ rowBits fixed r ≡ rowOffset fixed (r - 2) = slot-rows fixed r (omega arith) (omega arith) (unfold rowBits in (let w : 16 < 10 + (r - 1) = omega arith in w)) in
     ap (rowOf fixed) e ∙ row-of-is fixed (rowOffset fixed (r - 2)) (r - 2) (below (r - 2) 41 (omega arith)) (omega arith) (below (r - 2) (suc (r - 2)) (omega arith))
 
-indirect-small : (w n : ℕ) → w ≤ 255 → n ≤ 29 → indirectSize fixed w n ≤ 2 ^ 18
+pub indirect-small : (w n : ℕ) → w ≤ 255 → n ≤ 40 → indirectSize fixed w n ≤ 2 ^ 18
 unfolding indirectSize offsetBytes
 indirect-small w n l u =
     let a : n * 4 * w ≤ n * 4 * 255 = mul-le-mul-left (n * 4) l in
     omega arith
+
+entered-in-small : (w f e a x : ℕ) → w ≤ 255 → enteredIn fixed w f e a x ≤ f * 2 ^ 18
+unfolding enteredIn
+entered-in-small w zero e a x l = zero-le
+entered-in-small w (suc f) e a x l =
+    go (leb (rowBits fixed (rowOf fixed x)) 16) (leb e (a + slotStart fixed x)) (entered-in-small w f e (a + slotStart fixed x) (x - slotStart fixed x) l)
+  where
+    go : (u v : Bool) → enteredIn fixed w f e (a + slotStart fixed x) (x - slotStart fixed x) ≤ f * 2 ^ 18
+        → elim u [
+          | true ↦ 0
+          | false ↦ cond v (indirectSize fixed w (rowOf fixed x - 2)) 0 + enteredIn fixed w f e (a + slotStart fixed x) (x - slotStart fixed x)
+        ]
+        ≤ suc f * 2 ^ 18
+    go true v i = zero-le
+    go false true i = let r = row-le fixed x in let s = indirect-small w (rowOf fixed x - 2) l (omega arith) in omega arith
+    go false false i = omega arith
+
+pub entered-small : (w e s : ℕ) → w ≤ 255 → entered fixed w e s ≤ 2 ^ 24
+unfolding entered
+entered-small w e s l = let z = entered-in-small w 40 e 0 s l in omega arith
 
 -- what is counted so far, and what the block at base has still to add
 pub record Entering (w e s total base x : ℕ) : Type 0 where
@@ -182,11 +202,10 @@ pub record Entering (w e s total base x : ℕ) : Type 0 where
   pub heap : s < 2 ^ 40
   pub sum : base + x ≡ s
   pub rest : entered fixed w e s ≡ total + enteredIn fixed w fuel e base x
-  pub small : total + fuel * 2 ^ 18 ≤ 40 * 2 ^ 18
 
 pub entering-start : (w e s : ℕ) → s < 2 ^ 40 → Entering w e s 0 0 s
 unfolding entered
-entering-start w e s h = record { fuel = 40; enough = h; heap = h; sum = omega arith; rest = sym (zero-add (enteredIn fixed w 40 e 0 s)); small = omega arith }
+entering-start w e s h = record { fuel = 40; enough = h; heap = h; sum = omega arith; rest = sym (zero-add (enteredIn fixed w 40 e 0 s)) }
 
 module _ (w e s total base x row size within : ℕ) (I : Entering w e s total base x) (h : x < 2 ^ 40) (v : Level x row size within) where
   none-entered : row < 8 → (f : ℕ) → enteredIn fixed w f e base x ≡ 0
@@ -194,26 +213,18 @@ module _ (w e s total base x row size within : ℕ) (I : Entering w e s total ba
   none-entered l zero = refl
   none-entered l (suc f) = rw (le-leb (rowBits fixed (rowOf fixed x)) 16 (bits-direct x row size within v l), enteredIn)
 
-  pub entering-done : row < 8 → (total ≡ entered fixed w e s) × (total ≤ 2 ^ 24)
+  pub entering-done : row < 8 → total ≡ entered fixed w e s
   entering-done l =
       let z = none-entered l (I .fuel) in
       let r = I .rest in
-      let m = I .small in
-      (omega arith, omega arith)
+      omega arith
 
-  module _ (l : 8 ≤ row) (u : w ≤ 255) (here : ℕ) (p : here ≡ cond (leb e (base + within)) (indirectSize fixed w (rowOf fixed size)) 0) where
+  module _ (l : 8 ≤ row) (here : ℕ) (p : here ≡ cond (leb e (base + within)) (indirectSize fixed w (rowOf fixed size)) 0) where
     rows-is : rowOf fixed size ≡ rowOf fixed x - 2
     rows-is = ap (rowOf fixed) (v .size-is) ∙ (let r = v .row-is in let k = v .last in rows-of-slot (rowOf fixed x) (omega arith) (omega arith))
 
     here-is : here ≡ cond (leb e (base + slotStart fixed x)) (indirectSize fixed w (rowOf fixed x - 2)) 0
     here-is = p ∙ ap₂ (λ (a n : ℕ). cond (leb e (base + a)) (indirectSize fixed w n) 0) (v .within-is) rows-is
-
-    here-small : here ≤ 2 ^ 18
-    here-small = subst (λ (y : ℕ). y ≤ 2 ^ 18) (sym here-is) (by (leb e (base + slotStart fixed x)))
-      where
-        by : (b : Bool) → cond b (indirectSize fixed w (rowOf fixed x - 2)) 0 ≤ 2 ^ 18
-        by true = let r = row-29 x h in indirect-small w (rowOf fixed x - 2) u (omega arith)
-        by false = zero-le
 
     one-entered : (f : ℕ) → enteredIn fixed w (suc f) e base x ≡ here + enteredIn fixed w f e (base + within) (x - within)
     unfolding enteredIn
@@ -222,14 +233,13 @@ module _ (w e s total base x row size within : ℕ) (I : Entering w e s total ba
         (ap₂ (λ (a b : ℕ). a + b) (sym here-is) (ap (λ (a : ℕ). enteredIn fixed w f e (base + a) (x - a)) (sym (v .within-is))))
 
     pub entering-more : Entering w e s (total + here) (base + within) (x - within)
-    entering-more = go (I .fuel) (I .enough) (I .rest) (I .small)
+    entering-more = go (I .fuel) (I .enough) (I .rest)
       where
-        go : (f : ℕ) → x < 2 ^ f → entered fixed w e s ≡ total + enteredIn fixed w f e base x → total + f * 2 ^ 18 ≤ 40 * 2 ^ 18 → Entering w e s (total + here) (base + within) (x - within)
-        go zero b r m = absurd (let z = rest-small x row size within v l h .1 in let k = v .below in omega arith)
-        go (suc f) b r m =
+        go : (f : ℕ) → x < 2 ^ f → entered fixed w e s ≡ total + enteredIn fixed w f e base x → Entering w e s (total + here) (base + within) (x - within)
+        go zero b r = absurd (let z = rest-small x row size within v l h .1 in let k = v .below in omega arith)
+        go (suc f) b r =
             let sm = rest-small x row size within v l h in
             let wb = v .below in
             let i = I .sum in
             let d = one-entered f in
-            let k = here-small in
-            record { fuel = f; enough = sm .2 f b; heap = I .heap; sum = omega arith; rest = omega arith; small = omega arith }
+            record { fuel = f; enough = sm .2 f b; heap = I .heap; sum = omega arith; rest = omega arith }

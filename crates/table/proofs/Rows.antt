@@ -31,6 +31,15 @@ module _ (t : Table) where
       go true e g = h
       go false e g = g (leb-false _ _ e)
 
+  row-in-most : (n x : ℕ) → rowIn t n x ≤ n
+  unfolding rowIn
+  row-in-most zero x = zero-le
+  row-in-most (suc n) x = go (leb (rowOffset t (suc n)) x) (row-in-most n x)
+    where
+      go : (b : Bool) → rowIn t n x ≤ n → cond b (suc n) (rowIn t n x) ≤ suc n
+      go true h = omega arith
+      go false h = omega arith
+
   pub row-mono : (r s : ℕ) → r ≤ s → rowOffset t r ≤ rowOffset t s
   unfolding rowOffset
   row-mono zero s l = zero-le
@@ -48,6 +57,10 @@ module _ (t : Table) where
   pub heap-rows : (x : ℕ) → x < 2 ^ t .heapBits → x < rowOffset t (suc (t .heapBits))
   unfolding rowOffset
   heap-rows x h = lt-of-lt-of-le h (pow-mono (omega arith))
+
+  pub row-le : (x : ℕ) → rowOf t x ≤ t .heapBits
+  unfolding rowOf
+  row-le x = row-in-most (t .heapBits) x
 
   pub row-lo : (x : ℕ) → rowOffset t (rowOf t x) ≤ x
   unfolding rowOf

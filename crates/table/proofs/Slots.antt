@@ -213,6 +213,10 @@ module _ (t : Table) where
       let below : m′ * 2 ^ c < 2 ^ b = omega arith in
       sub q b (m′ * 2 ^ c) T l below w (down i m′ s′ (sym sp) us)
 
+  pub slot-some : (c : ℕ) → 0 < slotAt t c .size
+  unfolding slotAt
+  slot-some c = pow-pos (slotBits t c)
+
   -- a slot ends past what it holds
   pub end-gt : (c : ℕ) → c < slotEnd (slotAt t c)
   unfolding slotAt

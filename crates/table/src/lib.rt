@@ -157,7 +157,6 @@ fn entered_here(end: u64, start: u64, size: u64, offset_size: u8) -> u64
 pub fn entered_blocks(end: u64, start: u64, offset_size: u8) -> u64
     requires { ⌜ start < 2 ^ 40 ⌝ }
     ensures { λ r. ⌜ r ≡ entered fixed «offset_size» end start ⌝ }
-    ensures { λ r. ⌜ r ≤ 2 ^ 24 ⌝ }
 {
     let mut total = 0;
     let mut base = 0;

@@ -1,7 +1,7 @@
 -- `entered_blocks` meets its contract: what is counted and what is left give the whole. Assumes nothing.
 use Prim.Native.Nat.{_+_, _-_, _^_, _<_}
 use native.Mathlib.Omega.{arith}
-use Rattle.table.proofs.Locating.{Level, level, slot-size-le, rest-small, Entering, entering-start, entering-done, entering-more}
+use Rattle.table.proofs.Locating.{Level, level, slot-size-le, entered-small, rest-small, Entering, entering-start, entering-done, entering-more}
 use Rattle.table.proofs.entered_blocks.Statement.{statement}
 use Rattle.table.proofs.entered_blocks.Tie as tie
 
@@ -41,10 +41,10 @@ more : (c : tie.After-entered-here Inv-loop μ-loop)
     (c .before .before .before .before .before .before .loop .base + c .before .before .before .before .before .table-slot .result .start)
     (c .before .before .before .before .before .before .loop .local - c .before .before .before .before .before .table-slot .result .start)
 more c =
-    entering-more _ _ _ _ _ _ _ _ _ (c .before .before .before .before .before .before .loop .inv) (small (c .before .before .before .before .before)) (lev (c .before .before .before .before .before)) (c .before .before .before .if1 .left) (omega arith) _ (c .entered-here .ensures)
+    entering-more _ _ _ _ _ _ _ _ _ (c .before .before .before .before .before .before .loop .inv) (small (c .before .before .before .before .before)) (lev (c .before .before .before .before .before)) (c .before .before .before .if1 .left) _ (c .entered-here .ensures)
 
 add-total : tie.Need-add-total Inv-loop μ-loop
-add-total c = omega (arith, more c .small)
+add-total c = omega (arith, more c .rest, entered-small (c .before .before .before .before .before .before .before .args .offset-size) (c .before .before .before .before .before .before .before .args .end) (c .before .before .before .before .before .before .before .args .start) (omega arith))
 
 loop-less : tie.Need-loop-less Inv-loop μ-loop
 loop-less c = let z = rest-small _ _ _ _ (lev (c .before .before .before .before .before)) (c .before .before .before .if1 .left) (small (c .before .before .before .before .before)) in omega (arith, z .1, lev (c .before .before .before .before .before) .below)

@@ -1,0 +1,123 @@
+-- The planner's answer: totals, refusals in their order, and what the lent lists hold at the end.
+use Prim.Native.Nat.{ℕ, zero, suc, _+_, _-_, _^_, max}
+use mathlib.Core.Bool.{Bool, true, false, cond}
+use mathlib.Core.List.{List, [], _∷_, _++_}
+use lib.ListN.{length, drop}
+use lib.Dec.{leb, eqb}
+use Rattle.fields.specs.Fields.{legal}
+use Rattle.fields.specs.declared.error.FormatError.{FormatError}
+use Rattle.fields.specs.declared.error.FormatError.the-variants.{InvalidOffsetSize, ObjectTooLarge, HeapSpaceExhausted, SliceTooShort}
+use Rattle.fields.specs.declared.bytes.Checked.{Checked}
+use Rattle.fields.specs.declared.bytes.Checked.the-variants.{Passed, Refused as NotPassed}
+use Rattle.table.specs.Table.{Table, fixed, rowOffset, covering}
+use Rattle.table.specs.declared.Covering.{Covering}
+use Rattle.table.specs.declared.Covering.the-variants.{Rows, Beyond}
+use Rattle.table.specs.Sizes.{directHeader, maxManaged, indirectSize}
+use Rattle.table.specs.Capacity.{capacity}
+use Rattle.plan.specs.declared.State.{State}
+use Rattle.plan.specs.declared.Run.{Run}
+use Rattle.plan.specs.declared.Run.the-variants.{Done, Short}
+use Rattle.plan.specs.declared.ManagedPlan.{ManagedPlan}
+use Rattle.plan.specs.declared.Planned.{Planned}
+use Rattle.plan.specs.declared.Planned.the-variants.{Accepted, Refused}
+use Rattle.plan.specs.Steps.{initial, blockEnd, run}
+
+-- without objects there is one block of the starting size, at 0
+abbrev pub oneBlock : Table → ℕ → State
+oneBlock t w = record {
+  start = 0;
+  size = 2 ^ t .startBits;
+  fill = directHeader t w;
+  count = 1;
+  allocated = 2 ^ t .startBits;
+  used = 0;
+  indirect = 0;
+}
+
+unfoldable pub closed : Table → ℕ → State → State
+closed t w s = cond (eqb (s .count) 0) (oneBlock t w) s
+
+abbrev pub rowsIn : Covering → ℕ
+rowsIn (Rows n) = n
+rowsIn Beyond = 0
+
+-- the fewest rows that reach e, the last block's end; none where that block is the one of the starting size at 0
+unfoldable pub rootRows : Table → ℕ → ℕ
+rootRows t e = cond (eqb e (2 ^ t .startBits)) 0 (rowsIn (covering t e))
+
+-- the root is a block of the starting size at 0
+abbrev pub bareTotals : Table → ℕ → State → ManagedPlan
+bareTotals t w s = record {
+  «block_count» = 1;
+  «region_size» = 2 ^ t .startBits;
+  «root_rows» = 0;
+  «root_place» = 0;
+  «managed_space» = 2 ^ t .startBits;
+  «allocated_space» = 2 ^ t .startBits;
+  «free_space» = 2 ^ t .startBits - directHeader t w - s .used;
+  «allocation_iterator» = 0;
+}
+
+-- the root is an indirect block of n rows. In the region all other indirect blocks come before it, and the
+-- direct blocks after it
+abbrev pub rowTotals : Table → ℕ → State → ℕ → ManagedPlan
+rowTotals t w s n = record {
+  «block_count» = s .count;
+  «region_size» = s .indirect + indirectSize t w n + s .allocated;
+  «root_rows» = n;
+  «root_place» = s .indirect;
+  «managed_space» = rowOffset t n;
+  «allocated_space» = s .allocated;
+  «free_space» = capacity t (directHeader t w) n - s .used;
+  «allocation_iterator» = blockEnd s;
+}
+
+unfoldable pub totals : Table → ℕ → State → ManagedPlan
+totals t w s =
+    cond (eqb (rootRows t (blockEnd s)) 0) (bareTotals t w s) (rowTotals t w s (rootRows t (blockEnd s)))
+
+-- the first size above the limit, counted from i on: 11
+unfoldable pub sizesChecked : ℕ → ℕ → List ℕ → Checked
+sizesChecked limit i [] = Passed
+sizesChecked limit i (x ∷ xs) =
+    elim (leb x limit) [ true ↦ sizesChecked limit (suc i) xs | false ↦ NotPassed (ObjectTooLarge i x) ]
+
+-- a list of m places for n numbers: 13
+unfoldable pub placesChecked : ℕ → ℕ → Checked
+placesChecked n m = cond (leb n m) Passed (NotPassed (SliceTooShort n m))
+
+-- the width of addresses: 2
+unfoldable pub widthChecked : ℕ → Checked
+widthChecked w = cond (legal w) Passed (NotPassed (InvalidOffsetSize w))
+
+abbrev pub thenChecked : Checked → Checked → Checked
+thenChecked Passed d = d
+thenChecked (NotPassed e) d = NotPassed e
+
+-- the tests before any planning, for lists of o and b places: 2, 13 offsets, 13 blocks, 11
+unfoldable pub inputChecked : List ℕ → ℕ → ℕ → ℕ → Checked
+inputChecked xs o b w =
+    thenChecked (widthChecked w)
+    (thenChecked (placesChecked (length xs) o)
+    (thenChecked (placesChecked (max 1 (length xs)) b) (sizesChecked (maxManaged fixed w) 0 xs)))
+
+abbrev pub ranPlan : ℕ → Run → Planned
+ranPlan w (Done s) = Accepted (totals fixed w (closed fixed w s))
+ranPlan w (Short i) = Refused (HeapSpaceExhausted i)
+
+abbrev pub ifChecked : Checked → Planned → Planned
+ifChecked Passed p = p
+ifChecked (NotPassed e) p = Refused e
+
+-- the answer for the sizes xs, lists of o and b places and addresses of w bytes: 12 after the tests
+unfoldable pub answer : List ℕ → ℕ → ℕ → ℕ → Planned
+answer xs o b w = ifChecked (inputChecked xs o b w) (ranPlan w (run fixed w xs))
+
+-- a list with other numbers in its first places
+unfoldable pub fronted : List ℕ → List ℕ → List ℕ
+fronted new old = new ++ drop (length new) old
+
+-- a lent list at the end: new numbers in front where the plan is accepted, else as it was
+abbrev pub written : Planned → List ℕ → List ℕ → List ℕ
+written (Accepted p) new old = fronted new old
+written (Refused e) new old = old

@@ -1,0 +1,1 @@
+// Theorems about planning; nothing runs here.
