@@ -4,3 +4,5 @@ pub mod Full
 pub mod Objects
 pub mod Root
 pub mod Free
+pub mod Worked
+pub mod Tally

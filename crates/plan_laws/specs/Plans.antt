@@ -6,7 +6,7 @@ use mathlib.Core.Bool.{Bool, true}
 use mathlib.Core.List.{List, [], _∷_, _++_}
 use lib.ListN.{length, take, getD}
 use Rattle.table.specs.Table.{Table, fixed, rowOffset}
-use Rattle.table.specs.Slots.{Direct}
+use Rattle.table.specs.Slots.{Direct, slotAt}
 use Rattle.table.specs.Sizes.{directHeader}
 use Rattle.plan.specs.declared.State.{State}
 use Rattle.plan.specs.declared.Run.the-variants.{Done}
@@ -83,3 +83,14 @@ pub record OneBlock (w : ℕ) (xs : List ℕ) (p : ManagedPlan) : Type 0 where
   pub slot : Direct fixed 29 0 1024
   pub managed : p .«managed_space» ≡ 1024
   pub iterator : p .«allocation_iterator» ≡ 0
+
+-- the sizes of the direct slots at these starts together
+unfoldable pub sizesAt : List ℕ → ℕ
+sizesAt [] = 0
+sizesAt (b ∷ bs) = slotAt fixed b .size + sizesAt bs
+
+-- every object has an offset, and p says how many blocks are placed and how large they are together
+pub record Tallied (w : ℕ) (xs : List ℕ) (p : ManagedPlan) : Type 0 where
+  pub offsets : length (planOffsets fixed w xs) ≡ length xs
+  pub blocks : p .«block_count» ≡ length (planStarts fixed w xs)
+  pub allocated : p .«allocated_space» ≡ sizesAt (planStarts fixed w xs)

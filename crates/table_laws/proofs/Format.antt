@@ -221,8 +221,3 @@ fixed-slot D = direct-start fixed (omega arith) (omega arith) (omega arith) (unf
 
 pub slot-fixed : {s z : ℕ} → SlotOf fixed s z → Direct fixed 29 s z
 slot-fixed S = unfold maxRows in start-direct fixed (omega arith) (omega arith) (omega arith) S
-
--- worked case 9: row 7 is direct and row 8 is not; a slot of row 8 has 6 rows, which fill it
-pub row-7-direct-row-8-of-6-rows : (rowBits fixed 7 ≤ fixed .directBits) × (fixed .directBits < rowBits fixed 8) × (8 - fixed .widthBits ≡ 6) × (rowOffset fixed 6 ≡ 2 ^ rowBits fixed 8)
-unfolding rowBits rowOffset
-row-7-direct-row-8-of-6-rows = (omega arith, omega arith, refl, refl)

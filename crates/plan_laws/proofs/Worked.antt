@@ -1,0 +1,16 @@
+-- The worked heaps hold of the definitions.
+use mathlib.Core.Path.{refl}
+use native.Mathlib.Omega.{arith}
+use Rattle.fields.specs.Fields.{legal}
+use Rattle.table.specs.Table.{rowBits, rowOffset, rowIn, rowOf, maxRows, coveringIn, covering}
+use Rattle.table.specs.Slots.{slotStart, slotIn, slotBits, slotAt, enteredIn, entered}
+use Rattle.table.specs.Sizes.{offsetBytes, directHeader, maxManaged, indirectSize}
+use Rattle.table.specs.Capacity.{sum, blockCapacity, capacities, capacity}
+use Rattle.plan.specs.Steps.{openIn, openAt, stepOf, runFrom, offsetsFrom, startsFrom, run, planOffsets, planStarts}
+use Rattle.plan.specs.Answer.{closed, rootRows, totals, sizesChecked, placesChecked, widthChecked, inputChecked, answer}
+use Rattle.plan_laws.specs.Cases.{All, cases}
+
+pub worked : All cases
+unfolding legal rowBits rowOffset rowIn rowOf maxRows coveringIn covering slotStart slotIn slotBits slotAt enteredIn entered offsetBytes directHeader maxManaged indirectSize sum blockCapacity capacities capacity openIn openAt stepOf runFrom offsetsFrom startsFrom run planOffsets planStarts closed rootRows totals sizesChecked placesChecked widthChecked inputChecked answer
+worked =
+    record { first = (refl, refl, refl); rest = record { first = (refl, refl, refl); rest = record { first = (refl, refl, refl); rest = record { first = (refl, refl, refl); rest = record { first = (refl, refl, refl); rest = record { first = (refl, refl, refl); rest = record { first = refl; rest = record { first = (refl, refl, refl); rest = record { first = omega arith; rest = record { first = (omega arith, refl, refl); rest = record { first = (refl, refl, refl); rest = refl } } } } } } } } } } }
