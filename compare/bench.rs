@@ -1,4 +1,4 @@
-//! Times, ours against the original: one process, the same buffers, the best of many rounds.
+//! Times, ours against the original: one process, the same input, the best of many rounds.
 use crate::{ours, random::Random};
 use std::hint::black_box;
 use std::time::Instant;
@@ -92,5 +92,52 @@ pub fn checksum() {
             lens.len(),
             times,
         );
+    }
+}
+
+/// Sizes at w = 8.
+fn sizes(random: &mut Random, kind: &str, n: usize) -> Vec<u64> {
+    let draw = |_| match kind {
+        "small" => 1 + random.below(200),
+        "mixed" => (random.next() >> (48 + random.below(16))).min(65_514),
+        _ => 65_514,
+    };
+    (0..n).map(draw).collect()
+}
+
+fn plan_in(sizes: &[u64], offsets: &mut [u64], blocks: &mut [u64]) {
+    let mut totals = [0; 8];
+    let number = ours::plan(black_box(sizes), offsets, blocks, 8, &mut totals);
+    black_box((number, totals));
+}
+
+/// Planning, of one list after the other. The original allocates its lists in every call and frees them.
+/// Ours writes into lists that are allocated once, outside of the time; in the second line in every call.
+pub fn plan() {
+    let mut random = Random::new(5);
+    for n in [10, 1000, 1_000_000] {
+        for kind in ["small", "mixed", "largest"] {
+            let all = sizes(&mut random, kind, n.max(100_000));
+            let lists = || all.chunks_exact(n);
+            let (calls, rounds) = (lists().count(), if n > 1000 { 7 } else { 25 });
+            let original = || {
+                lists().for_each(|sizes| {
+                    black_box(original::plans(black_box(sizes), 8));
+                })
+            };
+            let (mut offsets, mut blocks) = (vec![0; n], vec![0; n]);
+            let times = best(
+                rounds,
+                || lists().for_each(|sizes| plan_in(sizes, &mut offsets, &mut blocks)),
+                original,
+            );
+            line(&format!("plan of {n} {kind}"), calls, times);
+            let times = best(
+                rounds,
+                || lists().for_each(|sizes| plan_in(sizes, &mut vec![0; n], &mut vec![0; n])),
+                original,
+            );
+            line("  with lists allocated", calls, times);
+        }
     }
 }

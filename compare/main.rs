@@ -3,17 +3,24 @@ mod bench;
 mod checksum;
 mod fields;
 mod ours;
+mod plan;
 mod random;
 mod record;
 
 fn main() {
-    match std::env::args().nth(1).as_deref() {
-        Some("compare") => {
+    let words: Vec<String> = std::env::args().skip(1).collect();
+    match words.iter().map(String::as_str).collect::<Vec<_>>()[..] {
+        ["compare"] => {
             fields::compare(1_000_000);
             checksum::compare(1_000_000);
+            plan::compare(100_000);
         }
-        Some("record") => print!("{}", record::record()),
-        Some("bench") => bench::checksum(),
-        _ => panic!("compare, record or bench"),
+        ["record", "vectors"] => print!("{}", record::vectors()),
+        ["record", "heaps"] => print!("{}", record::heaps()),
+        ["bench"] => {
+            bench::checksum();
+            bench::plan();
+        }
+        _ => panic!("compare, record vectors, record heaps or bench"),
     }
 }

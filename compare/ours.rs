@@ -47,6 +47,17 @@ unsafe extern "C" {
         slot: *mut u8,
         slot_len: usize,
     ) -> u32;
+    fn tools_plan(
+        sizes: *const u64,
+        sizes_len: usize,
+        offsets: *mut u64,
+        offsets_len: usize,
+        blocks: *mut u64,
+        blocks_len: usize,
+        offset_size: u8,
+        totals: *mut u64,
+        totals_len: usize,
+    ) -> u32;
 }
 
 /// What a slot holds before a call; every byte past 16 must still hold it after.
@@ -102,6 +113,29 @@ pub fn write_undef_offset(bytes: &mut [u8], pos: u64, size: u8) -> Answer {
     with_slot(|s, n| unsafe {
         tools_write_undef_offset(bytes.as_mut_ptr(), bytes.len(), pos, size, s, n)
     })
+}
+
+/// The refusal's number, or 0; its pair, or the eight totals, are put into `totals`.
+pub fn plan(
+    sizes: &[u64],
+    offsets: &mut [u64],
+    blocks: &mut [u64],
+    offset_size: u8,
+    totals: &mut [u64],
+) -> u32 {
+    unsafe {
+        tools_plan(
+            sizes.as_ptr(),
+            sizes.len(),
+            offsets.as_mut_ptr(),
+            offsets.len(),
+            blocks.as_mut_ptr(),
+            blocks.len(),
+            offset_size,
+            totals.as_mut_ptr(),
+            totals.len(),
+        )
+    }
 }
 
 /// Every function with a slot, lent one of fewer than 16 bytes: nothing is written anywhere.

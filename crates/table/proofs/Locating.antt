@@ -6,7 +6,7 @@ use native.Mathlib.Omega.{arith}
 use native.Mathlib.Nat.{zero-add, le-trans, lt-of-lt-of-le, mul-add-div-right, mod-lt, mul-le-mul-right, mul-le-mul-left}
 use lib.Dec.{leb}
 use lib.Pow.{pow-pos, pow-mono, pow-lt, split}
-use borrow.Author.Tests.{le-leb, lt-leb}
+use borrow.Author.Tests.{le-leb, lt-leb, leb-true, leb-false}
 use Rattle.table.specs.Table.{Table, fixed, rowBits, rowOffset, rowOf, placeOf}
 use Rattle.table.specs.Slots.{slotBits, slotAt, slotStart, tableSlot, enteredIn, entered}
 use Rattle.table.specs.Sizes.{indirectSize, offsetBytes}
@@ -78,11 +78,11 @@ unfolding placeOf
 placed-row x at h e = let l = row-29 x h in let r : at .row ≡ rowOf fixed x = ap (λ (y : RowCol). y .row) e in omega arith
 
 module _ (x row size within : ℕ) (v : Level x row size within) where
-  bits-direct : row < 8 → rowBits fixed (rowOf fixed x) ≤ 16
-  bits-direct l = let r = v .row-is in unfold rowBits in (let w : 10 + (rowOf fixed x - 1) ≤ 16 = omega arith in w)
+  bits-direct : leb (rowBits fixed row) 16 ≡ true → rowBits fixed (rowOf fixed x) ≤ 16
+  bits-direct l = leb-true _ _ (subst (λ (r : ℕ). leb (rowBits fixed r) 16 ≡ true) (v .row-is) l)
 
-  bits-deep : 8 ≤ row → 16 < rowBits fixed (rowOf fixed x)
-  bits-deep l = let r = v .row-is in unfold rowBits in (let w : 16 < 10 + (rowOf fixed x - 1) = omega arith in w)
+  bits-deep : leb (rowBits fixed row) 16 ≡ false → 16 < rowBits fixed (rowOf fixed x)
+  bits-deep l = leb-false _ _ (subst (λ (r : ℕ). leb (rowBits fixed r) 16 ≡ false) (v .row-is) l)
 
   pub slot-size-le : size ≤ 2 ^ 40
   slot-size-le =
@@ -91,7 +91,7 @@ module _ (x row size within : ℕ) (v : Level x row size within) where
       omega arith
 
   -- below an indirect slot the rest of the offset is smaller than the slot, and so than what holds f bits
-  pub rest-small : 8 ≤ row → x < 2 ^ 40 → (x - within ≡ x % 2 ^ rowBits fixed (rowOf fixed x)) × (0 < within) × ((f : ℕ) → x < 2 ^ suc f → x - within < 2 ^ f)
+  pub rest-small : leb (rowBits fixed row) 16 ≡ false → x < 2 ^ 40 → (x - within ≡ x % 2 ^ rowBits fixed (rowOf fixed x)) × (0 < within) × ((f : ℕ) → x < 2 ^ suc f → x - within < 2 ^ f)
   rest-small l h =
       let b = rowBits fixed (rowOf fixed x) in
       let d = bits-deep l in
@@ -124,7 +124,7 @@ pub loc-start : (offset : ℕ) → offset < 2 ^ 40 → Loc offset 0 offset
 loc-start o h = record { heap = h; sum = omega arith; slotted = slot-bits-is fixed o (omega arith) h; nth = 0; mult = omega arith }
 
 module _ (o base x row size within : ℕ) (L : Loc o base x) (h : x < 2 ^ 40) (v : Level x row size within) where
-  pub loc-direct : row < 8 → _≡_ {A = Slot} (record { start = base + within; size = size }) (slotAt fixed o)
+  pub loc-direct : leb (rowBits fixed row) 16 ≡ true → _≡_ {A = Slot} (record { start = base + within; size = size }) (slotAt fixed o)
   unfolding slotAt slotStart
   loc-direct l =
       let b = rowBits fixed (rowOf fixed x) in
@@ -139,7 +139,7 @@ module _ (o base x row size within : ℕ) (L : Loc o base x) (h : x < 2 ^ 40) (v
       let e2 : base + within ≡ o / 2 ^ c * 2 ^ c = omega arith in
       λ i. record { start = e2 i; size = e1 i }
 
-  pub loc-deeper : 8 ≤ row → Loc o (base + within) (x - within)
+  pub loc-deeper : leb (rowBits fixed row) 16 ≡ false → Loc o (base + within) (x - within)
   loc-deeper l =
       let b = rowBits fixed (rowOf fixed x) in
       let c = slotBits fixed o in
@@ -164,10 +164,10 @@ below zero (suc n) l = pow-pos (12 + n)
 below (suc m) (suc n) l = pow-lt (omega arith)
 
 -- an indirect slot's size gives its rows
-pub rows-of-slot : (r : ℕ) → 8 ≤ r → r < 29 → rowOf fixed (2 ^ rowBits fixed r) ≡ r - 2
+rows-of-slot : (r : ℕ) → 16 < rowBits fixed r → r < 29 → rowOf fixed (2 ^ rowBits fixed r) ≡ r - 2
 rows-of-slot r l u =
-    let e : 2 ^ rowBits fixed r ≡ rowOffset fixed (r - 2) = slot-rows fixed r (omega arith) (omega arith) (unfold rowBits in (let w : 16 < 10 + (r - 1) = omega arith in w)) in
-    ap (rowOf fixed) e ∙ row-of-is fixed (rowOffset fixed (r - 2)) (r - 2) (below (r - 2) 41 (omega arith)) (omega arith) (below (r - 2) (suc (r - 2)) (omega arith))
+    ap (rowOf fixed) (slot-rows fixed r (omega arith) (omega arith) l)
+    ∙ row-of-is fixed (rowOffset fixed (r - 2)) (r - 2) (below (r - 2) 41 (omega arith)) (omega arith) (below (r - 2) (suc (r - 2)) (omega arith))
 
 pub indirect-small : (w n : ℕ) → w ≤ 255 → n ≤ 40 → indirectSize fixed w n ≤ 2 ^ 18
 unfolding indirectSize offsetBytes
@@ -208,20 +208,20 @@ unfolding entered
 entering-start w e s h = record { fuel = 40; enough = h; heap = h; sum = omega arith; rest = sym (zero-add (enteredIn fixed w 40 e 0 s)) }
 
 module _ (w e s total base x row size within : ℕ) (I : Entering w e s total base x) (h : x < 2 ^ 40) (v : Level x row size within) where
-  none-entered : row < 8 → (f : ℕ) → enteredIn fixed w f e base x ≡ 0
+  none-entered : leb (rowBits fixed row) 16 ≡ true → (f : ℕ) → enteredIn fixed w f e base x ≡ 0
   unfolding enteredIn
   none-entered l zero = refl
   none-entered l (suc f) = rw (le-leb (rowBits fixed (rowOf fixed x)) 16 (bits-direct x row size within v l), enteredIn)
 
-  pub entering-done : row < 8 → total ≡ entered fixed w e s
+  pub entering-done : leb (rowBits fixed row) 16 ≡ true → total ≡ entered fixed w e s
   entering-done l =
       let z = none-entered l (I .fuel) in
       let r = I .rest in
       omega arith
 
-  module _ (l : 8 ≤ row) (here : ℕ) (p : here ≡ cond (leb e (base + within)) (indirectSize fixed w (rowOf fixed size)) 0) where
+  module _ (l : leb (rowBits fixed row) 16 ≡ false) (here : ℕ) (p : here ≡ cond (leb e (base + within)) (indirectSize fixed w (rowOf fixed size)) 0) where
     rows-is : rowOf fixed size ≡ rowOf fixed x - 2
-    rows-is = ap (rowOf fixed) (v .size-is) ∙ (let r = v .row-is in let k = v .last in rows-of-slot (rowOf fixed x) (omega arith) (omega arith))
+    rows-is = ap (rowOf fixed) (v .size-is) ∙ (let r = v .row-is in let k = v .last in rows-of-slot (rowOf fixed x) (bits-deep x row size within v l) (omega arith))
 
     here-is : here ≡ cond (leb e (base + slotStart fixed x)) (indirectSize fixed w (rowOf fixed x - 2)) 0
     here-is = p ∙ ap₂ (λ (a n : ℕ). cond (leb e (base + a)) (indirectSize fixed w n) 0) (v .within-is) rows-is

@@ -4,10 +4,11 @@ use mathlib.Core.Path.{_≡_, refl, sym, ap, _∙_, subst}
 use mathlib.Core.Bool.{Bool, true, false, cond}
 use native.Mathlib.Omega.{arith}
 use native.Mathlib.Nat.{lt-of-lt-of-le, lt-of-le-of-lt, le-div-iff-mul-le, mul-add-div-right}
-use lib.Dec.{leb}
+use native.Mathlib.Decide.{decLt}
+use lib.Dec.{leb, ltb}
 use lib.Count.{leadingZeros, leading-top}
 use lib.Pow.{pow-pos, pow-mono, pow-lt, pow-add, shr-lt}
-use borrow.Author.Tests.{leb-true, leb-false}
+use borrow.Author.Tests.{leb-true, leb-false, le-leb, lt-leb, lt-ltb, le-ltb}
 use Rattle.table.specs.Table.{Table, fixed, rowBits, rowOffset, rowIn, rowOf}
 use Rattle.table.specs.Slots.{slotStart}
 use Rattle.table.proofs.Powers.{pow-lt-cancel, le-of-not-lt}
@@ -184,3 +185,12 @@ row-clz x l h =
 
 pub row-29 : (x : ℕ) → x < 2 ^ 40 → rowOf fixed x < 29
 row-29 x h = row-lt fixed x 29 (unfold rowOffset in h)
+
+-- eight rows are direct
+pub direct-rows : (r : ℕ) → ltb r 8 ≡ leb (rowBits fixed r) 16
+unfolding rowBits
+direct-rows r = go (decLt r 8)
+  where
+    go : Dec (r < 8) → ltb r 8 ≡ leb (10 + (r - 1)) 16
+    go (yes l) = lt-ltb r 8 l ∙ sym (le-leb (10 + (r - 1)) 16 (omega arith))
+    go (no l) = le-ltb r 8 (omega arith) ∙ sym (lt-leb (10 + (r - 1)) 16 (omega arith))

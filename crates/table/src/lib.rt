@@ -39,7 +39,7 @@ pub enum Covering {
 pub fn direct_block_header(offset_size: u8) -> u64
     ensures { λ r. ⌜ r ≡ directHeader fixed «offset_size» ⌝ }
 {
-    14 + offset_size as u64
+    offset_size as u64 + 14
 }
 
 // The largest object that a direct block holds.
@@ -63,6 +63,13 @@ pub fn row_block_size(row: u64) -> u64
     ensures { λ r. ⌜ r ≡ 2 ^ rowBits fixed row ⌝ }
 {
     if row <= 1 { 1024 } else { 1024 << (row - 1) }
+}
+
+// Whether a row's slots are direct blocks; those of later rows are indirect.
+pub fn is_direct(row: u64) -> bool
+    ensures { λ r. ⌜ r ≡ leb (rowBits fixed row) (fixed .directBits) ⌝ }
+{
+    row < 8
 }
 
 // Where a row begins, from its indirect block's own offset on.
@@ -128,7 +135,7 @@ pub fn locate(offset: u64) -> Slot
     let mut local = offset;
     loop {
         let at = table_slot(local);
-        if at.row < 8 {
+        if is_direct(at.row) {
             return Slot {
                 start: base + at.start,
                 size: at.size,
@@ -163,7 +170,7 @@ pub fn entered_blocks(end: u64, start: u64, offset_size: u8) -> u64
     let mut local = start;
     loop {
         let at = table_slot(local);
-        if at.row < 8 {
+        if is_direct(at.row) {
             return total;
         }
         base += at.start;
@@ -191,7 +198,7 @@ fn block_capacity(row: u64, below: u64, header: u64) -> u64
     requires { ⌜ (row < 29) × (below ≤ 2 ^ 40) × (header ≤ 1024) ⌝ }
     ensures { λ r. ⌜ r ≡ cond (leb (rowBits fixed row) 16) (2 ^ rowBits fixed row - header) (4 * below) ⌝ }
 {
-    if row < 8 {
+    if is_direct(row) {
         row_block_size(row) - header
     } else {
         4 * below

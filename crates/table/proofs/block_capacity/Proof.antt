@@ -1,29 +1,31 @@
 -- `block_capacity` meets its contract. Assumes nothing.
 use borrow.Author.Needs.{needs}
-use Prim.Native.Nat.{ℕ, _+_, _-_, _≤_, _<_}
-use mathlib.Core.Path.{ap, _∙_, sym}
+use Prim.Native.Nat.{ℕ, _-_}
+use mathlib.Core.Path.{sym, ap, _∙_}
 use native.Mathlib.Omega.{arith}
-use borrow.Author.Tests.{le-leb, lt-leb}
-use Rattle.table.specs.Table.{fixed, rowBits}
 use Rattle.table.proofs.Capacity.{row-size-ge}
 use Rattle.table.proofs.block_capacity.Statement.{statement}
 use Rattle.table.proofs.block_capacity.Tie as tie
 
+is-direct-requires : tie.Need-is-direct-requires
+is-direct-requires c κs = search needs
+
 row-block-size-requires : tie.Need-row-block-size-requires
-row-block-size-requires c κs = search needs
+row-block-size-requires c κs = omega (arith, c .before .before .pre .0)
 
 sub-result : tie.Need-sub-result
-sub-result c = omega (arith, c .row-block-size .ensures, row-size-ge (c .before .before .args .row), c .before .before .pre .2)
+sub-result c = omega (arith, c .row-block-size .ensures, row-size-ge (c .before .before .before .args .row), c .before .before .before .pre .2)
 
 mul-result : tie.Need-mul-result
-mul-result c = search needs
+mul-result c = omega (arith, c .before .before .pre .1)
 
 returns : tie.Need-returns
-returns c = rw (le-leb (rowBits fixed (c .before .before .args .row)) 16 (unfold rowBits in let e : 10 + (c .before .before .args .row - 1) ≤ 16 = omega (arith, c .before .if1 .taken) in e)) (ap (λ (z : ℕ). z - c .before .before .args .header) (c .row-block-size .ensures))
+returns c = rw (sym (c .before .before .is-direct .ensures) ∙ c .before .if1 .taken) (ap (λ (z : ℕ). z - c .before .before .before .args .header) (c .row-block-size .ensures))
 
 returns-2 : tie.Need-returns-2
-returns-2 c = rw (lt-leb (rowBits fixed (c .before .args .row)) 16 (unfold rowBits in let e : 16 < 10 + (c .before .args .row - 1) = omega (arith, c .if1 .left) in e))
+returns-2 c = rw (sym (c .before .is-direct .ensures) ∙ c .if1 .left)
 
 pub block-capacity-spec : {M : Type 1} → statement M
 block-capacity-spec =
-    tie.close (tie.spec row-block-size-requires sub-result mul-result returns returns-2)
+    tie.close
+    (tie.spec is-direct-requires row-block-size-requires sub-result mul-result returns returns-2)

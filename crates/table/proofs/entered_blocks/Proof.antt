@@ -1,7 +1,9 @@
 -- `entered_blocks` meets its contract: what is counted and what is left give the whole. Assumes nothing.
+use borrow.Author.Needs.{needs}
 use Prim.Native.Nat.{_+_, _-_, _^_, _<_}
+use mathlib.Core.Path.{sym, _∙_}
 use native.Mathlib.Omega.{arith}
-use Rattle.table.proofs.Locating.{Level, level, slot-size-le, entered-small, rest-small, Entering, entering-start, entering-done, entering-more}
+use Rattle.table.proofs.Locating.{Level, level, slot-size-le, rest-small, entered-small, Entering, entering-start, entering-done, entering-more}
 use Rattle.table.proofs.entered_blocks.Statement.{statement}
 use Rattle.table.proofs.entered_blocks.Tie as tie
 
@@ -17,6 +19,9 @@ loop-holds c = entering-start (c .args .offset-size) (c .args .end) (c .args .st
 table-slot-requires : tie.Need-table-slot-requires Inv-loop μ-loop
 table-slot-requires c κs = omega (arith, c .loop .inv .heap, c .loop .inv .sum)
 
+is-direct-requires : tie.Need-is-direct-requires Inv-loop μ-loop
+is-direct-requires c κs = search needs
+
 small : (c : tie.After-table-slot Inv-loop μ-loop) → c .before .loop .local < 2 ^ 40
 small c = omega (arith, c .before .loop .inv .heap, c .before .loop .inv .sum)
 
@@ -24,7 +29,7 @@ lev : (c : tie.After-table-slot Inv-loop μ-loop) → Level (c .before .loop .lo
 lev c = level _ _ (small c) (c .table-slot .ensures)
 
 returns : tie.Need-returns Inv-loop μ-loop
-returns c = entering-done _ _ _ _ _ _ _ _ _ ((c .before .before .before) .loop .inv) (small (c .before .before)) (lev (c .before .before)) (c .if1 .taken)
+returns c = entering-done _ _ _ _ _ _ _ _ _ ((c .before .before .before) .loop .inv) (small (c .before .before)) (lev (c .before .before)) (sym (c .before .is-direct .ensures) ∙ c .if1 .taken)
 
 add-base : tie.Need-add-base Inv-loop μ-loop
 add-base c = omega (arith, lev (c .before .before .before) .below, (c .before .before .before) .before .loop .inv .heap, (c .before .before .before) .before .loop .inv .sum)
@@ -36,18 +41,15 @@ entered-here-requires : tie.Need-entered-here-requires Inv-loop μ-loop
 entered-here-requires c κs = slot-size-le _ _ _ _ (lev (c .before .before .before .before))
 
 more : (c : tie.After-entered-here Inv-loop μ-loop)
-    → Entering (c .before .before .before .before .before .before .before .args .offset-size) (c .before .before .before .before .before .before .before .args .end) (c .before .before .before .before .before .before .before .args .start)
-    (c .before .before .before .before .before .before .loop .total + c .entered-here .result)
-    (c .before .before .before .before .before .before .loop .base + c .before .before .before .before .before .table-slot .result .start)
-    (c .before .before .before .before .before .before .loop .local - c .before .before .before .before .before .table-slot .result .start)
-more c =
-    entering-more _ _ _ _ _ _ _ _ _ (c .before .before .before .before .before .before .loop .inv) (small (c .before .before .before .before .before)) (lev (c .before .before .before .before .before)) (c .before .before .before .if1 .left) _ (c .entered-here .ensures)
+    → Entering ((c .before .before .before .before .before .before .before) .args .offset-size) ((c .before .before .before .before .before .before .before) .args .end) ((c .before .before .before .before .before .before .before) .args .start) ((c .before .before .before .before .before .before) .loop .total + c .entered-here .result)
+    ((c .before .before .before .before .before .before) .loop .base + (c .before .before .before .before .before) .table-slot .result .start) ((c .before .before .before .before .before .before) .loop .local - (c .before .before .before .before .before) .table-slot .result .start)
+more c = entering-more _ _ _ _ _ _ _ _ _ ((c .before .before .before .before .before .before) .loop .inv) (small (c .before .before .before .before .before)) (lev (c .before .before .before .before .before)) (sym (c .before .before .before .before .is-direct .ensures) ∙ c .before .before .before .if1 .left) _ (c .entered-here .ensures)
 
 add-total : tie.Need-add-total Inv-loop μ-loop
-add-total c = omega (arith, more c .rest, entered-small (c .before .before .before .before .before .before .before .args .offset-size) (c .before .before .before .before .before .before .before .args .end) (c .before .before .before .before .before .before .before .args .start) (omega arith))
+add-total c = omega (arith, more c .rest, entered-small ((c .before .before .before .before .before .before .before) .args .offset-size) ((c .before .before .before .before .before .before .before) .args .end) ((c .before .before .before .before .before .before .before) .args .start) (omega arith))
 
 loop-less : tie.Need-loop-less Inv-loop μ-loop
-loop-less c = let z = rest-small _ _ _ _ (lev (c .before .before .before .before .before)) (c .before .before .before .if1 .left) (small (c .before .before .before .before .before)) in omega (arith, z .1, lev (c .before .before .before .before .before) .below)
+loop-less c = let z = rest-small _ _ _ _ (lev (c .before .before .before .before .before)) (sym (c .before .before .before .before .is-direct .ensures) ∙ c .before .before .before .if1 .left) (small (c .before .before .before .before .before)) in omega (arith, z .1, lev (c .before .before .before .before .before) .below)
 
 loop-again : tie.Need-loop-again Inv-loop μ-loop
 loop-again c = more c
@@ -60,6 +62,7 @@ entered-blocks-spec =
     μ-loop
     loop-holds
     table-slot-requires
+    is-direct-requires
     returns
     add-base
     sub-local

@@ -1,5 +1,7 @@
 -- `locate` meets its contract: each level of the descent leaves the slot to be found the same. Assumes nothing.
+use borrow.Author.Needs.{needs}
 use Prim.Native.Nat.{_^_, _<_}
+use mathlib.Core.Path.{sym, _∙_}
 use native.Mathlib.Omega.{arith}
 use Rattle.table.proofs.Locating.{Level, level, rest-small, Loc, loc-start, loc-direct, loc-deeper}
 use Rattle.table.proofs.locate.Statement.{statement}
@@ -17,6 +19,9 @@ loop-holds c = loc-start (c .args .offset) (c .pre)
 table-slot-requires : tie.Need-table-slot-requires Inv-loop μ-loop
 table-slot-requires c κs = omega (arith, c .loop .inv .heap, c .loop .inv .sum)
 
+is-direct-requires : tie.Need-is-direct-requires Inv-loop μ-loop
+is-direct-requires c κs = search needs
+
 small : (c : tie.After-table-slot Inv-loop μ-loop) → c .before .loop .local < 2 ^ 40
 small c = omega (arith, c .before .loop .inv .heap, c .before .loop .inv .sum)
 
@@ -27,7 +32,7 @@ add-t6 : tie.Need-add-t6 Inv-loop μ-loop
 add-t6 c = omega (arith, lev (c .before .before .before) .below, (c .before .before .before) .before .loop .inv .heap, (c .before .before .before) .before .loop .inv .sum)
 
 returns : tie.Need-returns Inv-loop μ-loop
-returns c = loc-direct _ _ _ _ _ _ ((c .before .before .before .before) .loop .inv) (small (c .before .before .before)) (lev (c .before .before .before)) (c .before .if1 .taken)
+returns c = loc-direct _ _ _ _ _ _ ((c .before .before .before .before) .loop .inv) (small (c .before .before .before)) (lev (c .before .before .before)) (sym (c .before .before .is-direct .ensures) ∙ c .before .if1 .taken)
 
 add-base : tie.Need-add-base Inv-loop μ-loop
 add-base c = omega (arith, lev (c .before .before .before) .below, (c .before .before .before) .before .loop .inv .heap, (c .before .before .before) .before .loop .inv .sum)
@@ -36,10 +41,10 @@ sub-local : tie.Need-sub-local Inv-loop μ-loop
 sub-local c = lev (c .before .before .before .before) .below
 
 loop-less : tie.Need-loop-less Inv-loop μ-loop
-loop-less c = let z = rest-small _ _ _ _ (lev (c .before .before .before .before)) (c .before .before .if1 .left) (small (c .before .before .before .before)) in omega (arith, z .1, lev (c .before .before .before .before) .below)
+loop-less c = let z = rest-small _ _ _ _ (lev (c .before .before .before .before)) (sym (c .before .before .before .is-direct .ensures) ∙ c .before .before .if1 .left) (small (c .before .before .before .before)) in omega (arith, z .1, lev (c .before .before .before .before) .below)
 
 loop-again : tie.Need-loop-again Inv-loop μ-loop
-loop-again c = loc-deeper _ _ _ _ _ _ ((c .before .before .before .before .before) .loop .inv) (small (c .before .before .before .before)) (lev (c .before .before .before .before)) (c .before .before .if1 .left)
+loop-again c = loc-deeper _ _ _ _ _ _ ((c .before .before .before .before .before) .loop .inv) (small (c .before .before .before .before)) (lev (c .before .before .before .before)) (sym (c .before .before .before .is-direct .ensures) ∙ c .before .before .if1 .left)
 
 pub locate-spec : {M : Type 1} → statement M
 locate-spec =
@@ -49,6 +54,7 @@ locate-spec =
     μ-loop
     loop-holds
     table-slot-requires
+    is-direct-requires
     add-t6
     returns
     add-base
