@@ -122,7 +122,7 @@ module _ (w : ℕ) (l : w ≤ 255) (s : State) where
   unfolding directHeader offsetBytes
   one-totalled = record {
     some = omega arith;
-    bounded = record { heap = omega arith; filling = omega arith; blocks = omega arith; spent = omega arith; objects = zero-le; between = zero-le };
+    bounded = record { heap = omega arith; filling = omega arith; blocks = omega arith; spent = omega arith; objects = omega arith; between = zero-le };
     one = λ e. omega arith;
     more = λ n. absurd (n refl);
   }

@@ -3,6 +3,7 @@ use Prim.Native.Nat.{ℕ, zero, suc, _+_, _-_, _*_, _^_, _≤_, _<_, zero-le}
 use mathlib.Core.Path.{_≡_, refl, sym, ap, ap₂, _∙_, subst, subst₂}
 use mathlib.Core.Logic.{_⊎_, inl, inr}
 use mathlib.Core.Bool.{Bool, true, false}
+use mathlib.Core.List.{List}
 use native.Mathlib.Omega.{arith}
 use lib.Dec.{leb}
 use lib.Pow.{pow-pos, pow-mono}
@@ -13,7 +14,7 @@ use Rattle.table.specs.Sizes.{offsetBytes, directHeader, maxManaged}
 use Rattle.table.specs.declared.Slot.{Slot}
 use Rattle.table.proofs.Slots.{Start, top-start, slotted-lo, slot-bits-is, end-le, start-next}
 use Rattle.plan.specs.Steps.{openAt, blockEnd, initial, filled, inNew, opened, stepOf}
-use Rattle.plan.specs.Requires.{InHeap}
+use Rattle.plan.specs.Requires.{InHeap, Small}
 use Rattle.plan.specs.declared.Open.{Open}
 use Rattle.plan.specs.declared.Open.the-variants.{At, Full}
 use Rattle.plan.specs.declared.State.{State}
@@ -154,12 +155,17 @@ module _ (w : ℕ) (s : State) (x : ℕ) where
   pub same-is : (s′ : State) → s .fill + x ≤ s .size → s′ ≡ filled s x → Placed s′ (s .start + s .fill) ≡ stepOf fixed w s x
   same-is s′ l e = ap (λ (y : State). Placed y (s .start + s .fill)) e ∙ sym (step-same fixed w s x l)
 
-  module _ (l : s .size < s .fill + x) (h : ℕ) (he : h ≡ directHeader fixed w) (v : Open) (e : v ≡ openAt fixed (h + x) (blockEnd s)) where
-    step-is : stepOf fixed w s x ≡ opened fixed w s x v
-    step-is = step-open fixed w s x l ∙ ap (λ (y : ℕ). opened fixed w s x (openAt fixed (y + x) (blockEnd s))) (sym he) ∙ ap (opened fixed w s x) (sym e)
+  module _ (h : ℕ) (he : h ≡ directHeader fixed w) (v : Open) (e : v ≡ openAt fixed (h + x) (blockEnd s)) where
+    opened-is : opened fixed w s x v ≡ opened fixed w s x (openAt fixed (directHeader fixed w + x) (blockEnd s))
+    opened-is = ap (opened fixed w s x) e ∙ ap (λ (y : ℕ). opened fixed w s x (openAt fixed (y + x) (blockEnd s))) he
 
-    pub new-is : (b : Slot) (s′ : State) → v ≡ At b → s′ ≡ inNew fixed w s x b → Placed s′ (b .start + h) ≡ stepOf fixed w s x
-    new-is b s′ f n = ap₂ (λ (y : State) (z : ℕ). Placed y (b .start + z)) n he ∙ sym (step-is ∙ ap (opened fixed w s x) f)
+    pub new-is : (b : Slot) (s′ : State) → v ≡ At b → s′ ≡ inNew fixed w s x b → Placed s′ (b .start + h) ≡ opened fixed w s x (openAt fixed (directHeader fixed w + x) (blockEnd s))
+    new-is b s′ f n = ap₂ (λ (y : State) (z : ℕ). Placed y (b .start + z)) n he ∙ sym (ap (opened fixed w s x) f) ∙ opened-is
 
-    pub ends-is : v ≡ Full → Ends ≡ stepOf fixed w s x
-    ends-is f = sym (step-is ∙ ap (opened fixed w s x) f)
+    pub ends-is : v ≡ Full → Ends ≡ opened fixed w s x (openAt fixed (directHeader fixed w + x) (blockEnd s))
+    ends-is f = sym (ap (opened fixed w s x) f) ∙ opened-is
+
+-- sizes within the limit are below 65,536
+pub limit-small : (w : ℕ) (xs : List ℕ) → Small (maxManaged fixed w) xs → Small 65536 xs
+unfolding maxManaged
+limit-small w xs S = record { small = λ k l. (let z = S .small k l in omega arith) }

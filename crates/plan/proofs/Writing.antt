@@ -1,22 +1,26 @@
 -- The loop that writes both lists, a turn at a time: what stands in front and what is left give the whole list.
 use Prim.Native.Nat.{ℕ, zero, suc, _+_, _-_, _≤_, _<_, zero-le}
-use mathlib.Core.Path.{_≡_, refl, sym, ap, _∙_, subst}
-use mathlib.Core.Logic.{_⊎_, inl, inr}
+use mathlib.Core.Path.{_≡_, refl, sym, ap, ap₂, _∙_}
+use mathlib.Core.Logic.{_⊎_, ⊎-elim}
 use mathlib.Core.List.{List, [], _∷_, _++_, append-assoc, append-nil}
 use native.Mathlib.Omega.{arith}
 use native.Mathlib.Numerals.{add-one}
-use lib.ListN.{length, take, drop, getD, set, length-set, take-append-drop}
-use lib.Seq.{take-suc-set, drop-set-lt, drop-drop, length-take-le, set-split}
+use lib.ListN.{length, take, drop, getD, set, length-set, length-append, length-drop, take-append-drop}
+use lib.Seq.{take-suc-set, drop-set-lt, drop-drop, length-take-le, set-split, take-at, drop-append-seam}
 use Rattle.table.specs.Table.{fixed}
-use Rattle.plan.specs.Steps.{initial, stepOf, offsetsFrom, startsFrom, run, planOffsets, planStarts}
+use Rattle.plan.specs.Steps.{initial, filled, stepOf, offsetsFrom, startsFrom, run, planOffsets, planStarts}
 use Rattle.plan.specs.Answer.{fronted}
-use Rattle.plan.specs.Requires.{Runs}
+use Rattle.plan.specs.Filling.{fillState, fillOffsets, filledFrom, overwritten}
+use Rattle.plan.specs.Requires.{Bounded, Runs}
+use Rattle.plan.specs.declared.Filled.{Filled}
 use Rattle.plan.specs.declared.State.{State}
 use Rattle.plan.specs.declared.Step.{Step}
 use Rattle.plan.specs.declared.Step.the-variants.{Placed, Ends}
 use Rattle.plan.specs.declared.Run.{Run}
 use Rattle.plan.specs.declared.Run.the-variants.{Done, Short}
-use Rattle.plan.proofs.Running.{Going, going-start, going-on, going-ends, counts, offsets-placed, offsets-done, starts-same, starts-new, starts-done}
+use Rattle.plan.proofs.Stepping.{Same, New, Placing}
+use Rattle.plan.proofs.Running.{Going, going-start, going-on, going-ends, placing, offsets-placed, offsets-done, starts-new, starts-done}
+use Rattle.plan.proofs.Filling.{Filling, filling-start, filling-more, filling-ends, offsets-on, state-stop, offsets-stop, state-end, offsets-end, next-is, count-kept, offsets-from-next, starts-from-next, going-fill}
 
 -- ---- one place of a list
 
@@ -44,7 +48,66 @@ fronted-is {new} {old} {l} {n} F =
     let e : length new ≡ n = ap length (sym (F .front)) ∙ length-take-le n l (F .inside) in
     sym (take-append-drop n l) ∙ ap (λ (y : List ℕ). y ++ drop n l) (F .front) ∙ ap (λ (y : List ℕ). new ++ y) (F .tail ∙ ap (λ (j : ℕ). drop j old) (sym e))
 
--- ---- the loop
+-- ---- the offsets of the objects that fit into the current block
+
+pub record Noting (xs o₀ : List ℕ) (from : ℕ) (s₀ : State) (os : List ℕ) (s : State) (next : ℕ) : Type 0 where
+  pub filling : Filling xs from s₀ s next
+  pub olen : length os ≡ length o₀
+  pub front : take next os ++ fillOffsets s (drop next xs) ≡ take from o₀ ++ fillOffsets s₀ (drop from xs)
+  pub tail : drop next os ≡ drop next o₀
+
+pub noting-start : (xs o₀ : List ℕ) (from : ℕ) (s : State) → from ≤ length xs → Bounded s → Noting xs o₀ from s o₀ s from
+noting-start xs o₀ from s l B = record { filling = filling-start xs from s l B; olen = refl; front = refl; tail = refl }
+
+module _ (xs o₀ : List ℕ) (from : ℕ) (s₀ : State) (os : List ℕ) (s : State) (next : ℕ) (I : Noting xs o₀ from s₀ os s next) (lo : length xs ≤ length o₀) where
+  pub noting-more : next < length xs → s .fill + getD xs next 0 ≤ s .size → (s′ : State) → s′ ≡ filled s (getD xs next 0)
+      → Noting xs o₀ from s₀ (set os next (s .start + s .fill)) s′ (next + 1)
+  noting-more l f s′ e =
+      let a = I .olen in
+      record {
+        filling = filling-more xs from s₀ s next (I .filling) l f s′ e;
+        olen = length-set os next (s .start + s .fill) ∙ a;
+        front = ap (λ (y : State). take (next + 1) (set os next (s .start + s .fill)) ++ fillOffsets y (drop (next + 1) xs)) e
+            ∙ take-set-more os next (s .start + s .fill) (fillOffsets (filled s (getD xs next 0)) (drop (next + 1) xs)) (omega arith)
+            ∙ ap (λ (y : List ℕ). take next os ++ y) (sym (offsets-on xs s next l f)) ∙ I .front;
+        tail = drop-set-more os o₀ next (s .start + s .fill) (I .tail);
+      }
+
+  noting-ends : from ≤ length o₀ → fillState s (drop next xs) ≡ s → fillOffsets s (drop next xs) ≡ [] → os ≡ overwritten from (fillOffsets s₀ (drop from xs)) o₀
+  unfolding overwritten filledFrom
+  noting-ends fl st of =
+      let F = fillOffsets s₀ (drop from xs) in
+      let n : from + length F ≡ next = ap (λ (y : Filled). y .next) (sym (filling-ends xs from s₀ s next (I .filling) st of)) in
+      let fr : take next os ≡ take from o₀ ++ F = sym (append-nil (take next os)) ∙ ap (λ (y : List ℕ). take next os ++ y) (sym of) ∙ I .front in
+      sym (take-append-drop next os) ∙ ap₂ _++_ fr (I .tail ∙ ap (λ (j : ℕ). drop j o₀) (sym n)) ∙ append-assoc (take from o₀) F (drop (from + length F) o₀)
+
+  pub noting-full : from ≤ length o₀ → next < length xs → s .size < s .fill + getD xs next 0 → os ≡ overwritten from (fillOffsets s₀ (drop from xs)) o₀
+  noting-full fl l f = noting-ends fl (state-stop xs s next l f) (offsets-stop xs s next l f)
+
+  pub noting-done : from ≤ length o₀ → length xs ≤ next → os ≡ overwritten from (fillOffsets s₀ (drop from xs)) o₀
+  noting-done fl l = noting-ends fl (state-end xs s next l) (offsets-end xs s next l)
+
+-- a list after numbers went into it from its i-th place on
+module _ (i : ℕ) (new old : List ℕ) (l : i + length new ≤ length old) where
+  front-length : length (take i old ++ new) ≡ i + length new
+  front-length = length-append (take i old) new ∙ ap (λ (n : ℕ). n + length new) (length-take-le i old (omega arith))
+
+  over-is : overwritten i new old ≡ (take i old ++ new) ++ drop (i + length new) old
+  unfolding overwritten
+  over-is = sym (append-assoc (take i old) new (drop (i + length new) old))
+
+  pub over-length : length (overwritten i new old) ≡ length old
+  over-length =
+      ap length over-is ∙ length-append (take i old ++ new) (drop (i + length new) old)
+      ∙ (let a = front-length in let b = length-drop (i + length new) old in omega arith)
+
+  pub over-front : take (i + length new) (overwritten i new old) ≡ take i old ++ new
+  over-front = ap (take (i + length new)) over-is ∙ take-at (take i old ++ new) (drop (i + length new) old) (i + length new) front-length
+
+  pub over-tail : drop (i + length new) (overwritten i new old) ≡ drop (i + length new) old
+  over-tail = ap (drop (i + length new)) over-is ∙ ap (λ (n : ℕ). drop n ((take i old ++ new) ++ drop (i + length new) old)) (sym front-length) ∙ drop-append-seam (take i old ++ new) (drop (i + length new) old)
+
+-- ---- the loop over the blocks
 
 pub record Wrote (w : ℕ) (xs o₀ b₀ os bs : List ℕ) (s : State) (i : ℕ) : Type 0 where
   pub going : Going w xs s i
@@ -59,63 +122,62 @@ pub record Wrote (w : ℕ) (xs o₀ b₀ os bs : List ℕ) (s : State) (i : ℕ)
 pub wrote-start : (w : ℕ) (xs o₀ b₀ : List ℕ) → Wrote w xs o₀ b₀ o₀ b₀ (initial fixed w) 0
 wrote-start w xs o₀ b₀ = record { going = going-start w xs; few = zero-le; olen = refl; blen = refl; offs = refl; strs = refl; otail = refl; btail = refl }
 
-module _ (w : ℕ) (xs o₀ b₀ os bs : List ℕ) (s : State) (i : ℕ) (I : Wrote w xs o₀ b₀ os bs s i) where
-  module _ (u : w ≤ 255) (l : i < length xs) (lo : length xs ≤ length o₀) (lb : length xs ≤ length b₀) (s′ : State) (o : ℕ) (e : stepOf fixed w s (getD xs i 0) ≡ Placed s′ o) where
-    pub offsets-room : i < length os
-    offsets-room = let z = I .olen in omega arith
+module _ (w : ℕ) (xs o₀ b₀ os bs : List ℕ) (s : State) (i : ℕ) (I : Wrote w xs o₀ b₀ os bs s i) (lo : length xs ≤ length o₀) where
+  -- the objects that fit into the current block
+  pub wrote-fill : w ≤ 255 → (f : Filled) → f ≡ filledFrom xs i s → (os′ : List ℕ) → os′ ≡ overwritten i (fillOffsets s (drop i xs)) os
+      → Wrote w xs o₀ b₀ os′ bs (f .state) (f .next)
+  wrote-fill u f e os′ q =
+      let F = fillOffsets s (drop i xs) in
+      let n = next-is w xs s i f e in
+      let g = going-fill w xs s i f e u (I .going) in
+      let gi = g .inside in let ol = I .olen in let fw = I .few in let ck = count-kept w xs s i f e in
+      let r : i + length F ≤ length os = omega arith in
+      record {
+        going = g;
+        few = omega arith;
+        olen = ap length q ∙ over-length i F os r ∙ ol;
+        blen = I .blen;
+        offs = ap₂ (λ (j : ℕ) (y : List ℕ). take j y ++ offsetsFrom fixed w (f .state) (drop (f .next) xs)) n q
+            ∙ ap (λ (y : List ℕ). y ++ offsetsFrom fixed w (f .state) (drop (f .next) xs)) (over-front i F os r)
+            ∙ append-assoc (take i os) F (offsetsFrom fixed w (f .state) (drop (f .next) xs))
+            ∙ ap (λ (y : List ℕ). take i os ++ y) (sym (offsets-from-next w xs s i f e)) ∙ I .offs;
+        strs = ap (λ (j : ℕ). take j bs ++ startsFrom fixed w (f .state) (drop (f .next) xs)) ck
+            ∙ ap (λ (y : List ℕ). take (s .count) bs ++ y) (sym (starts-from-next w xs s i f e)) ∙ I .strs;
+        otail = ap₂ (λ (j : ℕ) (y : List ℕ). drop j y) n q ∙ over-tail i F os r
+            ∙ sym (drop-drop (length F) i os) ∙ ap (drop (length F)) (I .otail) ∙ drop-drop (length F) i o₀ ∙ ap (λ (j : ℕ). drop j o₀) (sym n);
+        btail = ap (λ (j : ℕ). drop j bs) ck ∙ I .btail ∙ ap (λ (j : ℕ). drop j b₀) (sym ck);
+      }
 
-    pub blocks-room : s .count < length bs
-    blocks-room = let z = I .blen in let f = I .few in omega arith
-
-    offs-more : take (i + 1) (set os i o) ++ offsetsFrom fixed w s′ (drop (i + 1) xs) ≡ offsetsFrom fixed w (initial fixed w) xs
-    offs-more =
-        take-set-more os i o (offsetsFrom fixed w s′ (drop (i + 1) xs)) offsets-room
-        ∙ ap (λ (y : List ℕ). take i os ++ y) (sym (offsets-placed fixed w xs s i l s′ o e)) ∙ I .offs
-
-    one-or-none : (s′ .count ≡ s .count) ⊎ (s′ .count ≡ s .count + 1)
-    one-or-none = counts w s (getD xs i 0) s′ o u (I .going .sound) e
-
-    pub wrote-same : s′ .count ≤ s .count → Wrote w xs o₀ b₀ (set os i o) bs s′ (i + 1)
-    wrote-same m =
-        let c : s′ .count ≡ s .count = same one-or-none in
-        let f = I .few in
-        record {
-          going = going-on w xs s i (I .going) u l s′ o e;
-          few = omega arith;
-          olen = length-set os i o ∙ I .olen;
-          blen = I .blen;
-          offs = offs-more;
-          strs = ap (λ (j : ℕ). take j bs ++ startsFrom fixed w s′ (drop (i + 1) xs)) c
-              ∙ ap (λ (y : List ℕ). take (s .count) bs ++ y) (sym (starts-same fixed w xs s i l s′ o e m)) ∙ I .strs;
-          otail = drop-set-more os o₀ i o (I .otail);
-          btail = ap (λ (j : ℕ). drop j bs) c ∙ I .btail ∙ ap (λ (j : ℕ). drop j b₀) (sym c);
-        }
+  module _ (u : w ≤ 255) (l : i < length xs) (lb : length xs ≤ length b₀) (s′ : State) (o : ℕ) (e : stepOf fixed w s (getD xs i 0) ≡ Placed s′ o) (full : s .size < s .fill + getD xs i 0) where
+    -- an object that does not fit opens one block
+    opens : s′ .count ≡ s .count + 1
+    opens = go (placing w s (getD xs i 0) s′ o u (I .going .sound) e)
       where
-        same : (s′ .count ≡ s .count) ⊎ (s′ .count ≡ s .count + 1) → s′ .count ≡ s .count
-        same (inl c) = c
-        same (inr c) = absurd (omega arith)
+        go : Placing fixed w s (getD xs i 0) s′ o → s′ .count ≡ s .count + 1
+        go P = ⊎-elim
+            (λ (n : Same s s′ o). absurd (let a = P .to in let b = P .within in let c = n .place in let d = n .start-is in let f = n .size-is in omega arith))
+            (λ (n : New fixed w s s′ o). n .count-is)
+            (P .way)
 
-    pub wrote-new : s .count < s′ .count → Wrote w xs o₀ b₀ (set os i o) (set bs (s .count) (s′ .start)) s′ (i + 1)
-    wrote-new m =
-        let c : s′ .count ≡ s .count + 1 = one one-or-none in
-        let f = I .few in
+    -- the object that opens the next block
+    pub wrote-new : Wrote w xs o₀ b₀ (set os i o) (set bs (s .count) (s′ .start)) s′ (i + 1)
+    wrote-new =
+        let c = opens in
+        let f = I .few in let a = I .olen in let d = I .blen in
         let bs′ = set bs (s .count) (s′ .start) in
         record {
           going = going-on w xs s i (I .going) u l s′ o e;
           few = omega arith;
-          olen = length-set os i o ∙ I .olen;
-          blen = length-set bs (s .count) (s′ .start) ∙ I .blen;
-          offs = offs-more;
+          olen = length-set os i o ∙ a;
+          blen = length-set bs (s .count) (s′ .start) ∙ d;
+          offs = take-set-more os i o (offsetsFrom fixed w s′ (drop (i + 1) xs)) (omega arith)
+              ∙ ap (λ (y : List ℕ). take i os ++ y) (sym (offsets-placed fixed w xs s i l s′ o e)) ∙ I .offs;
           strs = ap (λ (j : ℕ). take j bs′ ++ startsFrom fixed w s′ (drop (i + 1) xs)) c
-              ∙ take-set-more bs (s .count) (s′ .start) (startsFrom fixed w s′ (drop (i + 1) xs)) blocks-room
-              ∙ ap (λ (y : List ℕ). take (s .count) bs ++ y) (sym (starts-new fixed w xs s i l s′ o e m)) ∙ I .strs;
+              ∙ take-set-more bs (s .count) (s′ .start) (startsFrom fixed w s′ (drop (i + 1) xs)) (omega arith)
+              ∙ ap (λ (y : List ℕ). take (s .count) bs ++ y) (sym (starts-new fixed w xs s i l s′ o e (omega arith))) ∙ I .strs;
           otail = drop-set-more os o₀ i o (I .otail);
           btail = ap (λ (j : ℕ). drop j bs′) c ∙ drop-set-more bs b₀ (s .count) (s′ .start) (I .btail) ∙ ap (λ (j : ℕ). drop j b₀) (sym c);
         }
-      where
-        one : (s′ .count ≡ s .count) ⊎ (s′ .count ≡ s .count + 1) → s′ .count ≡ s .count + 1
-        one (inl c) = absurd (omega arith)
-        one (inr c) = c
 
   -- a list that the heap space holds does not end it
   pub never-ends : Runs w xs → i < length xs → stepOf fixed w s (getD xs i 0) ≡ Ends → ⊥
@@ -124,8 +186,8 @@ module _ (w : ℕ) (xs o₀ b₀ os bs : List ℕ) (s : State) (i : ℕ) (I : Wr
       let v : _≡_ {A = ℕ} 0 1 = cc in
       omega arith
 
-  pub wrote-offsets : length xs ≤ length o₀ → length xs ≤ i → os ≡ fronted (offsetsFrom fixed w (initial fixed w) xs) o₀
-  wrote-offsets lo l =
+  pub wrote-offsets : length xs ≤ i → os ≡ fronted (offsetsFrom fixed w (initial fixed w) xs) o₀
+  wrote-offsets l =
       let a = I .olen in let b = I .going .inside in
       fronted-is {n = i} (record {
         inside = omega arith;

@@ -1,4 +1,5 @@
 pub mod Steps
 pub mod Spans
+pub mod Filling
 pub mod Answer
 pub mod Requires

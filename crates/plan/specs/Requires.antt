@@ -1,5 +1,5 @@
 -- What some functions ask of their arguments, so that their sums stay within 64 bits.
-use Prim.Native.Nat.{ℕ, _+_, _*_, _^_, _≤_, _<_}
+use Prim.Native.Nat.{ℕ, _+_, _-_, _^_, _≤_, _<_}
 use mathlib.Core.Path.{_≡_}
 use mathlib.Core.List.{List}
 use lib.ListN.{length, getD}
@@ -19,7 +19,7 @@ pub record Bounded (s : State) : Type 0 where
   pub filling : s .fill ≤ 2 ^ 41
   pub blocks : s .count ≤ 2 ^ 32
   pub spent : s .allocated ≤ 2 ^ 40
-  pub objects : s .used ≤ 2 ^ 40
+  pub objects : s .used + (s .size - s .fill) ≤ 2 ^ 40
   pub between : s .indirect ≤ 2 ^ 62
 
 -- a slot of the heap

@@ -7,9 +7,10 @@ ghost use mathlib.Core.List.{_++_};
 ghost use lib.ListN.{length, drop};
 ghost use Rattle.table.specs.Table.{fixed};
 ghost use Rattle.table.specs.Sizes.{directHeader, maxManaged};
-ghost use Rattle.plan.specs.Steps.{openAt, filled, inNew, stepOf, initial, run, offsetsFrom, startsFrom, planOffsets, planStarts};
+ghost use Rattle.plan.specs.Steps.{openAt, blockEnd, filled, inNew, opened, stepOf, initial, run, offsetsFrom, startsFrom, planOffsets, planStarts};
 ghost use Rattle.plan.specs.Answer.{closed, rootRows, totals, sizesChecked, placesChecked, widthChecked, inputChecked, answer, fronted, written};
 ghost use Rattle.plan.specs.Spans.{ceilBits};
+ghost use Rattle.plan.specs.Filling.{fillOffsets, filledFrom, overwritten};
 ghost use Rattle.plan.specs.Requires.{Bounded, InHeap, Small, Totalled, Runs};
 use fields::bytes::Checked;
 use fields::bytes::is_width;
@@ -47,6 +48,12 @@ pub struct State {
 pub enum Step {
     Placed(State, u64),
     Ends,
+}
+
+// Some objects in the current block: the index of the next object, and the state before it.
+pub struct Filled {
+    pub next: usize,
+    pub state: State,
 }
 
 // All objects: the state after them, or the index at which the heap space ends.
@@ -137,6 +144,19 @@ fn in_new(s: State, size: u64, b: Slot, offset_size: u8) -> State
     }
 }
 
+// Place one object in the next slot that is large enough.
+fn open_block(s: State, size: u64, offset_size: u8) -> Step
+    requires { ⌜ Bounded s ⌝ }
+    requires { ⌜ size ≤ maxManaged fixed «offset_size» ⌝ }
+    ensures { λ r. ⌜ r ≡ opened fixed «offset_size» s size (openAt fixed (directHeader fixed «offset_size» + size) (blockEnd s)) ⌝ }
+{
+    let header = direct_block_header(offset_size);
+    match open_from(s.start + s.size, header + size) {
+        Open::At(b) => Step::Placed(in_new(s, size, b, offset_size), b.start + header),
+        Open::Full => Step::Ends,
+    }
+}
+
 // Place one object: in the current block, or in the next slot that is large enough.
 pub fn advance(s: State, size: u64, offset_size: u8) -> Step
     requires { ⌜ Bounded s ⌝ }
@@ -146,11 +166,7 @@ pub fn advance(s: State, size: u64, offset_size: u8) -> Step
     if s.fill + size <= s.size {
         return Step::Placed(in_current(s, size), s.start + s.fill);
     }
-    let header = direct_block_header(offset_size);
-    match open_from(s.start + s.size, header + size) {
-        Open::At(b) => Step::Placed(in_new(s, size, b, offset_size), b.start + header),
-        Open::Full => Step::Ends,
-    }
+    open_block(s, size, offset_size)
 }
 
 // Before the first object.
@@ -168,6 +184,25 @@ pub fn initial(offset_size: u8) -> State
     }
 }
 
+// The objects from `from` on that fit into the current block.
+fn fill_block(sizes: &[u64], from: usize, s: State) -> Filled
+    requires { ⌜ Bounded s ⌝ }
+    requires { ⌜ Small 65536 (now sizes) × (from ≤ length (now sizes)) ⌝ }
+    ensures { λ r. ⌜ r ≡ filledFrom (now (sizes .entry)) from s ⌝ }
+{
+    let mut state = s;
+    let mut next = from;
+    while next < sizes.len() {
+        let size = sizes[next];
+        if state.fill + size > state.size {
+            return Filled { next, state };
+        }
+        state = in_current(state, size);
+        next += 1;
+    }
+    Filled { next, state }
+}
+
 // The state after all objects; no list is written.
 pub fn run_all(sizes: &[u64], offset_size: u8) -> Run
     requires { ⌜ Small (maxManaged fixed «offset_size») (now sizes) ⌝ }
@@ -175,18 +210,45 @@ pub fn run_all(sizes: &[u64], offset_size: u8) -> Run
 {
     let mut s = initial(offset_size);
     let mut i: usize = 0;
-    while i < sizes.len() {
-        match advance(s, sizes[i], offset_size) {
+    loop {
+        let f = fill_block(sizes, i, s);
+        let at = f.next;
+        let full = f.state;
+        if at >= sizes.len() {
+            return Run::Done(full);
+        }
+        match open_block(full, sizes[at], offset_size) {
             Step::Placed(next, _) => {
                 s = next;
             }
             Step::Ends => {
-                return Run::Short(i as u64);
+                return Run::Short(at as u64);
             }
         }
-        i += 1;
+        i = at + 1;
     }
-    Run::Done(s)
+}
+
+// The objects from `from` on that fit into the current block, and their offsets.
+fn fill_offsets(sizes: &[u64], offsets: &mut [u64], from: usize, s: State) -> Filled
+    requires { ⌜ Bounded s ⌝ }
+    requires { ⌜ Small 65536 (now sizes) × (from ≤ length (now sizes)) ⌝ }
+    requires { ⌜ length (now sizes) ≤ length (now offsets) ⌝ }
+    ensures { λ r. ⌜ r ≡ filledFrom (now (sizes .entry)) from s ⌝ }
+    ensures { λ _. ⌜ now (offsets .exit) ≡ overwritten from (fillOffsets s (drop from (now (sizes .entry)))) (now (offsets .entry)) ⌝ }
+{
+    let mut state = s;
+    let mut next = from;
+    while next < sizes.len() {
+        let size = sizes[next];
+        if state.fill + size > state.size {
+            return Filled { next, state };
+        }
+        offsets[next] = state.start + state.fill;
+        state = in_current(state, size);
+        next += 1;
+    }
+    Filled { next, state }
 }
 
 // The offsets and the placed blocks' starts of a list that the heap space holds.
@@ -199,21 +261,25 @@ fn write_plan(sizes: &[u64], offsets: &mut [u64], blocks: &mut [u64], offset_siz
 {
     let mut s = initial(offset_size);
     let mut i: usize = 0;
-    while i < sizes.len() {
-        match advance(s, sizes[i], offset_size) {
+    loop {
+        let f = fill_offsets(sizes, offsets, i, s);
+        let at = f.next;
+        let full = f.state;
+        if at >= sizes.len() {
+            return;
+        }
+        match open_block(full, sizes[at], offset_size) {
             Step::Placed(next, offset) => {
-                offsets[i] = offset;
-                if s.count < next.count {
-                    let at = s.count as usize;
-                    blocks[at] = next.start;
-                }
+                offsets[at] = offset;
+                let block = full.count as usize;
+                blocks[block] = next.start;
                 s = next;
             }
             Step::Ends => {
                 return;
             }
         }
-        i += 1;
+        i = at + 1;
     }
 }
 

@@ -5,7 +5,9 @@ use mathlib.Core.Path.{sym, _∙_, subst}
 use native.Mathlib.Omega.{arith}
 use lib.ListN.{length}
 use Rattle.plan.specs.declared.State.{State}
+use Rattle.plan.proofs.Stepping.{limit-small}
 use Rattle.plan.proofs.Running.{Going, going-start, going-on, going-ends, going-done, sound-bounded}
+use Rattle.plan.proofs.Filling.{next-later, next-inside, next-opens, going-fill}
 use Rattle.plan.proofs.run_all.Statement.{statement}
 use Rattle.plan.proofs.run_all.Tie as tie
 
@@ -19,16 +21,22 @@ initial-requires : tie.Need-initial-requires Inv-loop μ-loop
 initial-requires c κs = search needs
 
 loop-holds : tie.Need-loop-holds Inv-loop μ-loop
-loop-holds c = subst (λ (s : State). Going (c .before .before .args .offset-size) (c .before .before .args .sizes .now) s 0) (sym (c .initial .ensures)) (going-start (c .before .before .args .offset-size) (c .before .before .args .sizes .now))
+loop-holds c = subst (λ (s : State). Going ((c .before .before) .args .offset-size) ((c .before .before) .args .sizes .now) s 0) (sym (c .initial .ensures)) (going-start ((c .before .before) .args .offset-size) ((c .before .before) .args .sizes .now))
 
-mul-advance : tie.Need-mul-advance Inv-loop μ-loop
-mul-advance c = search needs
+fill-block-requires : tie.Need-fill-block-requires Inv-loop μ-loop
+fill-block-requires c κs = (sound-bounded _ _ (omega arith) (c .loop .inv .sound), (limit-small _ _ ((c .before .before .before) .pre), c .loop .inv .inside))
 
-shared-slice-read-advance : tie.Need-shared-slice-read-advance Inv-loop μ-loop
-shared-slice-read-advance c = c .before .loop-test .taken
+returns : tie.Need-returns Inv-loop μ-loop
+returns c = sym (going-done _ _ _ _ (going-fill ((c .before .before .before .before .before .before) .args .offset-size) ((c .before .before .before .before .before .before) .args .sizes .now) ((c .before .before .before) .loop .s) ((c .before .before .before) .loop .i) ((c .before .before) .fill-block .result) ((c .before .before) .fill-block .ensures) (omega arith) ((c .before .before .before) .loop .inv)) (c .if1 .taken))
 
-advance-requires : tie.Need-advance-requires Inv-loop μ-loop
-advance-requires c κs = (sound-bounded _ _ (omega arith) ((c .before .before) .loop .inv .sound), (c .before .before .before .before .before) .pre .small _ (c .before .loop-test .taken))
+mul-open-block : tie.Need-mul-open-block Inv-loop μ-loop
+mul-open-block c = omega (arith, c .if1 .left, (c .before .before .before .before .before .before) .good .0 .1)
+
+shared-slice-read-open-block : tie.Need-shared-slice-read-open-block Inv-loop μ-loop
+shared-slice-read-open-block c = c .before .if1 .left
+
+open-block-requires : tie.Need-open-block-requires Inv-loop μ-loop
+open-block-requires c κs = (sound-bounded _ _ (omega arith) (going-fill ((c .before .before .before .before .before .before .before) .args .offset-size) ((c .before .before .before .before .before .before .before) .args .sizes .now) ((c .before .before .before .before) .loop .s) ((c .before .before .before .before) .loop .i) ((c .before .before .before) .fill-block .result) ((c .before .before .before) .fill-block .ensures) (omega arith) ((c .before .before .before .before) .loop .inv) .sound), (c .before .before .before .before .before .before .before) .pre .small _ (c .before .if1 .left))
 
 enum-known-next : tie.Need-enum-known-next Inv-loop μ-loop
 enum-known-next c = search needs
@@ -36,20 +44,17 @@ enum-known-next c = search needs
 enum-told : tie.Need-enum-told Inv-loop μ-loop
 enum-told c = search needs
 
-returns : tie.Need-returns Inv-loop μ-loop
-returns c = sym (going-ends _ _ _ _ ((c .before .before .before .before .before) .loop .inv) ((c .before .before .before .before) .loop-test .taken) (sym ((c .before .before) .advance .ensures) ∙ c .enum-told .given .1))
+returns-2 : tie.Need-returns-2 Inv-loop μ-loop
+returns-2 c = sym (going-ends _ _ _ _ (going-fill ((c .before .before .before .before .before .before .before .before .before .before) .args .offset-size) ((c .before .before .before .before .before .before .before .before .before .before) .args .sizes .now) ((c .before .before .before .before .before .before .before) .loop .s) ((c .before .before .before .before .before .before .before) .loop .i) ((c .before .before .before .before .before .before) .fill-block .result) ((c .before .before .before .before .before .before) .fill-block .ensures) (omega arith) ((c .before .before .before .before .before .before .before) .loop .inv)) ((c .before .before .before .before) .if1 .left) (next-opens ((c .before .before .before .before .before .before .before .before .before .before) .args .offset-size) ((c .before .before .before .before .before .before .before .before .before .before) .args .sizes .now) ((c .before .before .before .before .before .before .before) .loop .s) ((c .before .before .before .before .before .before .before) .loop .i) ((c .before .before .before .before .before .before) .fill-block .result) ((c .before .before .before .before .before .before) .fill-block .ensures) ((c .before .before .before .before) .if1 .left) _ ((c .before .before) .open-block .ensures) ∙ c .enum-told .given .1))
 
 add-i : tie.Need-add-i Inv-loop μ-loop
-add-i c = search needs
+add-i c = omega (arith, (c .before .before .before .before .before) .if1 .left, (c .before .before .before .before .before .before .before .before .before .before .before) .good .0 .1)
 
 loop-less : tie.Need-loop-less Inv-loop μ-loop
-loop-less c = omega arith
+loop-less c = omega (arith, next-later ((c .before .before .before .before .before .before .before .before .before .before .before) .args .offset-size) ((c .before .before .before .before .before .before .before .before .before .before .before) .args .sizes .now) ((c .before .before .before .before .before .before .before .before) .loop .s) ((c .before .before .before .before .before .before .before .before) .loop .i) ((c .before .before .before .before .before .before .before) .fill-block .result) ((c .before .before .before .before .before .before .before) .fill-block .ensures), (c .before .before .before .before .before) .if1 .left)
 
 loop-again : tie.Need-loop-again Inv-loop μ-loop
-loop-again c = going-on _ _ _ _ ((c .before .before .before .before .before .before) .loop .inv) (omega arith) ((c .before .before .before .before .before) .loop-test .taken) _ _ (sym ((c .before .before .before) .advance .ensures) ∙ c .before .next .given .1)
-
-returns-2 : tie.Need-returns-2 Inv-loop μ-loop
-returns-2 c = sym (going-done _ _ _ _ (c .before .loop .inv) (c .loop-test .left))
+loop-again c = going-on _ _ _ _ (going-fill ((c .before .before .before .before .before .before .before .before .before .before .before) .args .offset-size) ((c .before .before .before .before .before .before .before .before .before .before .before) .args .sizes .now) ((c .before .before .before .before .before .before .before .before) .loop .s) ((c .before .before .before .before .before .before .before .before) .loop .i) ((c .before .before .before .before .before .before .before) .fill-block .result) ((c .before .before .before .before .before .before .before) .fill-block .ensures) (omega arith) ((c .before .before .before .before .before .before .before .before) .loop .inv)) (omega arith) ((c .before .before .before .before .before) .if1 .left) _ _ (next-opens ((c .before .before .before .before .before .before .before .before .before .before .before) .args .offset-size) ((c .before .before .before .before .before .before .before .before .before .before .before) .args .sizes .now) ((c .before .before .before .before .before .before .before .before) .loop .s) ((c .before .before .before .before .before .before .before .before) .loop .i) ((c .before .before .before .before .before .before .before) .fill-block .result) ((c .before .before .before .before .before .before .before) .fill-block .ensures) ((c .before .before .before .before .before) .if1 .left) _ ((c .before .before .before) .open-block .ensures) ∙ c .before .next .given .1)
 
 pub run-all-spec : {M : Type 1} → statement M
 run-all-spec =
@@ -59,13 +64,14 @@ run-all-spec =
     μ-loop
     initial-requires
     loop-holds
-    mul-advance
-    shared-slice-read-advance
-    advance-requires
+    fill-block-requires
+    returns
+    mul-open-block
+    shared-slice-read-open-block
+    open-block-requires
     enum-known-next
     enum-told
-    returns
+    returns-2
     add-i
     loop-less
-    loop-again
-    returns-2)
+    loop-again)
