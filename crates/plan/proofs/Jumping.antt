@@ -1,7 +1,7 @@
 -- A slot begins at a multiple of its size: so no slot of 2 ^ e bytes or more begins between two multiples of
 -- 2 ^ e, and the search may go on at the next one.
 use Prim.Native.Nat.{ℕ, zero, suc, _+_, _-_, _*_, _/_, _%_, _^_, _≤_, _<_}
-use mathlib.Core.Path.{_≡_, refl, sym, ap, _∙_, subst}
+use mathlib.Core.Path.{_≡_, sym, ap, _∙_, subst}
 use native.Mathlib.Omega.{arith}
 use native.Mathlib.Nat.{lt-div-mul-add, lt-of-not-le, mul-le-mul-right, div-mul-le-self, mod-eq-of-lt}
 use native.Mathlib.Decide.{decLe, decLt}

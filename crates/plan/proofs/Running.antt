@@ -1,12 +1,12 @@
 -- The loops over the sizes, a turn at a time: what is left gives the answer.
 use Prim.Native.Nat.{ℕ, zero, suc, _+_, _-_, _*_, _^_, _≤_, _<_, zero-le}
-use mathlib.Core.Path.{_≡_, refl, sym, ap, ap₂, _∙_, subst}
-use mathlib.Core.Logic.{_⊎_, inl, inr, ⊎-elim}
+use mathlib.Core.Path.{_≡_, refl, sym, ap, _∙_}
+use mathlib.Core.Logic.{_⊎_, inl, inr}
 use mathlib.Core.Bool.{Bool, true, false}
-use mathlib.Core.List.{List, [], _∷_, _++_}
+use mathlib.Core.List.{List, [], _∷_}
 use native.Mathlib.Omega.{arith}
 use native.Mathlib.Numerals.{add-one}
-use lib.Dec.{leb, ltb}
+use lib.Dec.{leb}
 use lib.ListN.{length, drop, getD, drop-of-length-le}
 use lib.Seq.{drop-cons}
 use borrow.Author.Tests.{le-leb, lt-leb, leb-true, le-ltb, lt-ltb}
@@ -18,11 +18,9 @@ use Rattle.table.specs.Sizes.{offsetBytes, directHeader}
 use Rattle.table.proofs.Locating.{entered-small}
 use Rattle.plan.specs.Steps.{blockEnd, initial, startIfNew, stepOf, runFrom, offsetsFrom, startsFrom, run}
 use Rattle.plan.specs.Answer.{sizesChecked}
-use Rattle.plan.specs.Requires.{Bounded, Small}
+use Rattle.plan.specs.Requires.{Bounded}
 use Rattle.plan.specs.declared.State.{State}
-use Rattle.plan.specs.declared.Step.{Step}
 use Rattle.plan.specs.declared.Step.the-variants.{Placed, Ends}
-use Rattle.plan.specs.declared.Run.{Run}
 use Rattle.plan.specs.declared.Run.the-variants.{Done, Short}
 use Rattle.plan.proofs.Stepping.{Ok, Same, New, Placing, step-placed, ok-initial}
 
@@ -105,11 +103,6 @@ module _ (t : Table) (w : ℕ) (xs : List ℕ) (s : State) (i : ℕ) (l : i < le
         ap (offsetsFrom t w s) (drop-cons xs i 0 l) ∙ offsets-go t w s (getD xs i 0) (drop (suc i) xs) s′ o e
         ∙ ap (λ (j : ℕ). o ∷ offsetsFrom t w s′ (drop j xs)) (sym (add-one i))
 
-    pub starts-same : s′ .count ≤ s .count → startsFrom t w s (drop i xs) ≡ startsFrom t w s′ (drop (i + 1) xs)
-    starts-same u =
-        ap (startsFrom t w s) (drop-cons xs i 0 l) ∙ starts-go-same t w s (getD xs i 0) (drop (suc i) xs) s′ o e u
-        ∙ ap (λ (j : ℕ). startsFrom t w s′ (drop j xs)) (sym (add-one i))
-
     pub starts-new : s .count < s′ .count → startsFrom t w s (drop i xs) ≡ s′ .start ∷ startsFrom t w s′ (drop (i + 1) xs)
     starts-new u =
         ap (startsFrom t w s) (drop-cons xs i 0 l) ∙ starts-go-new t w s (getD xs i 0) (drop (suc i) xs) s′ o e u
@@ -157,14 +150,6 @@ module _ (w : ℕ) (s : State) (x : ℕ) (s′ : State) (o : ℕ) (l : w ≤ 255
       go : Same s s′ o ⊎ New fixed w s s′ o → s′ .indirect ≤ s′ .count * 2 ^ 24
       go (inl n) = let a = n .count-is in let b = n .indirect-is in let z = d in omega arith
       go (inr n) = let a = n .count-is in let b = n .indirect-is in let z = d in let k = entered-small w (blockEnd s) (s′ .start) l in omega arith
-
-  -- either no block is opened or one
-  pub counts : (s′ .count ≡ s .count) ⊎ (s′ .count ≡ s .count + 1)
-  counts = go (placing .way)
-    where
-      go : Same s s′ o ⊎ New fixed w s s′ o → (s′ .count ≡ s .count) ⊎ (s′ .count ≡ s .count + 1)
-      go (inl n) = inl (n .count-is)
-      go (inr n) = inr (n .count-is)
 
 -- ---- planning without lists
 

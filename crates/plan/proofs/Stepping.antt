@@ -1,5 +1,5 @@
 -- What a step of planning keeps and does: in the same block, or in a new one after it.
-use Prim.Native.Nat.{ℕ, zero, suc, _+_, _-_, _*_, _^_, _≤_, _<_, zero-le}
+use Prim.Native.Nat.{ℕ, suc, _+_, _-_, _*_, _^_, _≤_, _<_, zero-le}
 use mathlib.Core.Path.{_≡_, refl, sym, ap, ap₂, _∙_, subst, subst₂}
 use mathlib.Core.Logic.{_⊎_, inl, inr}
 use mathlib.Core.Bool.{Bool, true, false}
@@ -9,7 +9,7 @@ use lib.Dec.{leb}
 use lib.Pow.{pow-pos, pow-mono}
 use borrow.Author.Tests.{le-leb, lt-leb, leb-true}
 use Rattle.table.specs.Table.{Table, fixed}
-use Rattle.table.specs.Slots.{slotBits, slotAt, slotEnd, entered}
+use Rattle.table.specs.Slots.{slotAt, slotEnd, entered}
 use Rattle.table.specs.Sizes.{offsetBytes, directHeader, maxManaged}
 use Rattle.table.specs.declared.Slot.{Slot}
 use Rattle.table.proofs.Slots.{Start, top-start, slotted-lo, slot-bits-is, end-le, start-next}

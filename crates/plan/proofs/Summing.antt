@@ -1,6 +1,6 @@
 -- The totals of a plan, from the numbers that the code has.
-use Prim.Native.Nat.{ℕ, _+_, _-_, _*_, _^_, _≤_, _<_}
-use mathlib.Core.Path.{_≡_, refl, sym, ap, _∙_}
+use Prim.Native.Nat.{ℕ, _+_, _-_, _*_, _^_, _≤_}
+use mathlib.Core.Path.{_≡_, sym, ap, _∙_}
 use mathlib.Core.List.{List}
 use native.Mathlib.Omega.{arith}
 use native.Mathlib.Decide.{ℕ-discrete}
@@ -11,7 +11,7 @@ use Rattle.table.specs.Sizes.{directHeader, indirectSize}
 use Rattle.table.specs.Capacity.{sum, capacities, capacity}
 use Rattle.table.proofs.Capacity.{take-capacities, capacity-small}
 use Rattle.plan.specs.Steps.{blockEnd}
-use Rattle.plan.specs.Answer.{rootRows, bareTotals, rowTotals, totals}
+use Rattle.plan.specs.Answer.{rootRows, rowTotals, totals}
 use Rattle.plan.specs.Requires.{Totalled}
 use Rattle.plan.specs.declared.State.{State}
 use Rattle.plan.specs.declared.ManagedPlan.{ManagedPlan}

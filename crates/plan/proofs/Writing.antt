@@ -1,5 +1,5 @@
 -- The loop that writes both lists, a turn at a time: what stands in front and what is left give the whole list.
-use Prim.Native.Nat.{ℕ, zero, suc, _+_, _-_, _≤_, _<_, zero-le}
+use Prim.Native.Nat.{ℕ, _+_, _-_, _≤_, _<_, zero-le}
 use mathlib.Core.Path.{_≡_, refl, sym, ap, ap₂, _∙_}
 use mathlib.Core.Logic.{_⊎_, ⊎-elim}
 use mathlib.Core.List.{List, [], _∷_, _++_, append-assoc, append-nil}
@@ -8,15 +8,13 @@ use native.Mathlib.Numerals.{add-one}
 use lib.ListN.{length, take, drop, getD, set, length-set, length-append, length-drop, take-append-drop}
 use lib.Seq.{take-suc-set, drop-set-lt, drop-drop, length-take-le, set-split, take-at, drop-append-seam}
 use Rattle.table.specs.Table.{fixed}
-use Rattle.plan.specs.Steps.{initial, filled, stepOf, offsetsFrom, startsFrom, run, planOffsets, planStarts}
+use Rattle.plan.specs.Steps.{initial, filled, stepOf, offsetsFrom, startsFrom, planOffsets, planStarts}
 use Rattle.plan.specs.Answer.{fronted}
 use Rattle.plan.specs.Filling.{fillState, fillOffsets, filledFrom, overwritten}
 use Rattle.plan.specs.Requires.{Bounded, Runs}
 use Rattle.plan.specs.declared.Filled.{Filled}
 use Rattle.plan.specs.declared.State.{State}
-use Rattle.plan.specs.declared.Step.{Step}
 use Rattle.plan.specs.declared.Step.the-variants.{Placed, Ends}
-use Rattle.plan.specs.declared.Run.{Run}
 use Rattle.plan.specs.declared.Run.the-variants.{Done, Short}
 use Rattle.plan.proofs.Stepping.{Same, New, Placing}
 use Rattle.plan.proofs.Running.{Going, going-start, going-on, going-ends, placing, offsets-placed, offsets-done, starts-new, starts-done}

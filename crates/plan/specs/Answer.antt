@@ -1,11 +1,10 @@
 -- The planner's answer: totals, refusals in their order, and what the lent lists hold at the end.
-use Prim.Native.Nat.{ℕ, zero, suc, _+_, _-_, _^_, max}
-use mathlib.Core.Bool.{Bool, true, false, cond}
+use Prim.Native.Nat.{ℕ, suc, _+_, _-_, _^_, max}
+use mathlib.Core.Bool.{true, false, cond}
 use mathlib.Core.List.{List, [], _∷_, _++_}
 use lib.ListN.{length, drop}
 use lib.Dec.{leb, eqb}
 use Rattle.fields.specs.Fields.{legal}
-use Rattle.fields.specs.declared.error.FormatError.{FormatError}
 use Rattle.fields.specs.declared.error.FormatError.the-variants.{InvalidOffsetSize, ObjectTooLarge, HeapSpaceExhausted, SliceTooShort}
 use Rattle.fields.specs.declared.bytes.Checked.{Checked}
 use Rattle.fields.specs.declared.bytes.Checked.the-variants.{Passed, Refused as NotPassed}
@@ -20,7 +19,7 @@ use Rattle.plan.specs.declared.Run.the-variants.{Done, Short}
 use Rattle.plan.specs.declared.ManagedPlan.{ManagedPlan}
 use Rattle.plan.specs.declared.Planned.{Planned}
 use Rattle.plan.specs.declared.Planned.the-variants.{Accepted, Refused}
-use Rattle.plan.specs.Steps.{initial, blockEnd, run}
+use Rattle.plan.specs.Steps.{blockEnd, run}
 
 -- without objects there is one block of the starting size, at 0
 abbrev pub oneBlock : Table → ℕ → State

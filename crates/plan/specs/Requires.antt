@@ -3,13 +3,12 @@ use Prim.Native.Nat.{ℕ, _+_, _-_, _^_, _≤_, _<_}
 use mathlib.Core.Path.{_≡_}
 use mathlib.Core.List.{List}
 use lib.ListN.{length, getD}
-use Rattle.table.specs.Table.{Table, fixed}
+use Rattle.table.specs.Table.{fixed}
 use Rattle.table.specs.Sizes.{directHeader}
 use Rattle.table.specs.Capacity.{capacity}
 use Rattle.table.specs.declared.Slot.{Slot}
 use Rattle.plan.specs.declared.State.{State}
-use Rattle.plan.specs.declared.Run.{Run}
-use Rattle.plan.specs.declared.Run.the-variants.{Done, Short}
+use Rattle.plan.specs.declared.Run.the-variants.{Done}
 use Rattle.plan.specs.Steps.{blockEnd, run}
 use Rattle.plan.specs.Answer.{rootRows}
 

@@ -1,5 +1,5 @@
 -- How many offsets and blocks a plan has, and how large its blocks are together.
-use Prim.Native.Nat.{ℕ, suc, _+_, _≤_, _<_}
+use Prim.Native.Nat.{ℕ, suc, _+_}
 use mathlib.Core.Path.{_≡_, refl, sym, ap, _∙_, subst}
 use mathlib.Core.Logic.{_⊎_, inl, inr, ⊎-elim}
 use mathlib.Core.Bool.{Bool, true, false, cond}
@@ -15,11 +15,11 @@ use Rattle.plan.specs.declared.State.{State}
 use Rattle.plan.specs.declared.Run.the-variants.{Done}
 use Rattle.plan.specs.declared.ManagedPlan.{ManagedPlan}
 use Rattle.plan.specs.declared.Planned.the-variants.{Accepted}
-use Rattle.plan.specs.Steps.{initial, blockEnd, run, runFrom, planOffsets, planStarts}
-use Rattle.plan.specs.Answer.{oneBlock, closed, rootRows, bareTotals, rowTotals, totals, answer}
-use Rattle.plan.proofs.Answering.{Went, accepted}
+use Rattle.plan.specs.Steps.{initial, blockEnd, run, runFrom, planStarts}
+use Rattle.plan.specs.Answer.{closed, rootRows, bareTotals, rowTotals, totals, answer}
+use Rattle.plan.proofs.Answering.{accepted}
 use Rattle.plan_laws.specs.Plans.{sizesAt, Tallied}
-use Rattle.plan_laws.proofs.Laying.{Laid, end, same, new, Blocks, count-starts, blocks, starts-some, ran-laid}
+use Rattle.plan_laws.proofs.Laying.{Laid, end, same, new, count-starts, blocks, starts-some, ran-laid}
 use Rattle.plan_laws.proofs.Root.{no-root-rows}
 
 offsets-laid : {w : ℕ} {s s′ : State} {xs os bs : List ℕ} → Laid fixed w s xs os bs s′ → length os ≡ length xs

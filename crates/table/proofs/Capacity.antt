@@ -11,7 +11,7 @@ use native.Mathlib.Decide.{decLe}
 use lib.Dec.{leb}
 use lib.ListN.{length, take, drop, getD, set, replicate, length-append, length-set}
 use lib.Seq.{take-append-le, take-all, take-add, take-suc, take-suc-set, take-take, take-set-le, getD-set-other}
-use lib.Pow.{pow-pos, pow-mono}
+use lib.Pow.{pow-mono}
 use borrow.Author.Tests.{le-leb, lt-leb}
 use Rattle.table.specs.Table.{Table, fixed, rowBits, rowOffset}
 use Rattle.table.specs.Sizes.{offsetBytes, directHeader}

@@ -3,7 +3,7 @@ use Prim.Native.Nat.{ℕ, zero, suc, _+_, _-_, _*_, _/_, _%_, _^_, _≤_, _<_, z
 use mathlib.Core.Path.{_≡_, refl, sym, ap, ap₂, _∙_, subst}
 use mathlib.Core.Bool.{Bool, true, false, cond}
 use native.Mathlib.Omega.{arith}
-use native.Mathlib.Nat.{zero-add, le-trans, lt-of-lt-of-le, mul-add-div-right, mod-lt, mul-le-mul-right, mul-le-mul-left}
+use native.Mathlib.Nat.{zero-add, le-trans, mul-add-div-right, mod-lt, mul-le-mul-right, mul-le-mul-left}
 use lib.Dec.{leb}
 use lib.Pow.{pow-pos, pow-mono, pow-lt, split}
 use borrow.Author.Tests.{le-leb, lt-leb, leb-true, leb-false}
@@ -14,7 +14,7 @@ use Rattle.table.specs.declared.RowCol.{RowCol}
 use Rattle.table.specs.declared.Slot.{Slot}
 use Rattle.table.specs.declared.TableSlot.{TableSlot}
 use Rattle.table.proofs.Powers.{pow-lt-cancel, digits-unique, join}
-use Rattle.table.proofs.Rows.{Top, heap-rows, top-row, row-lo, row-le, row-29, row-of-is, row-mono, slot-start-is, slot-rows}
+use Rattle.table.proofs.Rows.{Top, heap-rows, top-row, row-le, row-29, row-of-is, slot-start-is, slot-rows}
 use Rattle.table.proofs.Slots.{Slotted, top, sub, top-unique, slotted-unique, slotted-hi, slot-bits-is}
 
 module _ (t : Table) where

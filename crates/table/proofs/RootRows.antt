@@ -1,12 +1,11 @@
 -- The fewest rows that span a number of bytes.
 use Prim.Native.Nat.{ℕ, zero, suc, _+_, _-_, _^_, _≤_, _<_, zero-le}
-use mathlib.Core.Path.{_≡_, refl, sym, ap, _∙_, subst}
+use mathlib.Core.Path.{_≡_, refl, sym, ap, subst}
 use native.Mathlib.Omega.{arith}
 use native.Mathlib.Decide.{ℕ-discrete}
 use native.Mathlib.Numerals.{add-one}
 use borrow.Author.Tests.{le-leb, lt-leb}
 use Rattle.table.specs.Table.{Table, fixed, rowOffset, rowOf, maxRows, coveringIn, covering}
-use Rattle.table.specs.declared.Covering.{Covering}
 use Rattle.table.specs.declared.Covering.the-variants.{Rows, Beyond}
 use Rattle.table.proofs.Rows.{row-mono, row-lo, row-up, row-29, heap-rows}
 

@@ -11,7 +11,6 @@ use lib.Pow.{pow-pos, pow-mono, pow-lt, pow-add, split}
 use borrow.Author.Tests.{leb-true, leb-false}
 use Rattle.table.specs.Table.{Table, rowBits, rowOf}
 use Rattle.table.specs.Slots.{slotIn, slotBits, slotAt, slotEnd}
-use Rattle.table.specs.declared.Slot.{Slot}
 use Rattle.table.proofs.Powers.{pow-lt-cancel, le-of-not-lt, digits-unique, pow-split, join, part}
 use Rattle.table.proofs.Rows.{Top, heap-rows, top-row}
 

@@ -1,6 +1,6 @@
 -- The doubling table of a fractal heap (Format, Fractal Heap: Doubling Table), by the logarithms of its
 -- four numbers: table width, starting block size, maximum direct block size, maximum heap size.
-use Prim.Native.Nat.{ℕ, zero, suc, _+_, _-_, _*_, _/_, _^_}
+use Prim.Native.Nat.{ℕ, zero, suc, _+_, _-_, _/_, _^_}
 use mathlib.Core.Path.{_≡_, refl}
 use mathlib.Core.Bool.{true, false, cond}
 use lib.Dec.{leb}

@@ -1,7 +1,6 @@
 -- `in_new` meets its contract. Assumes nothing.
 use borrow.Author.Needs.{needs}
-use mathlib.Core.Path.{ap, ap₂}
-use Prim.Native.Nat.{ℕ, _+_}
+use Prim.Native.Nat.{_+_}
 use native.Mathlib.Omega.{arith}
 use Rattle.table.proofs.Capacity.{header-small}
 use Rattle.table.proofs.Locating.{entered-small}

@@ -6,7 +6,7 @@ use Rattle.table.specs.Table.{fixed}
 use Rattle.table.specs.declared.Slot.{Slot}
 use Rattle.plan.specs.Steps.{openAt}
 use Rattle.plan.specs.Spans.{ceilBits}
-use Rattle.plan.specs.declared.Open.the-variants.{At, Full}
+use Rattle.plan.specs.declared.Open.the-variants.{At}
 use Rattle.plan.proofs.Opening.{open-here, open-full}
 use Rattle.plan.proofs.Jumping.{Jumped, jumped}
 use Rattle.plan.proofs.open_from.Statement.{statement}

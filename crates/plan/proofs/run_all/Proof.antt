@@ -7,7 +7,7 @@ use lib.ListN.{length}
 use Rattle.plan.specs.declared.State.{State}
 use Rattle.plan.proofs.Stepping.{limit-small}
 use Rattle.plan.proofs.Running.{Going, going-start, going-on, going-ends, going-done, sound-bounded}
-use Rattle.plan.proofs.Filling.{next-later, next-inside, next-opens, going-fill}
+use Rattle.plan.proofs.Filling.{next-later, next-opens, going-fill}
 use Rattle.plan.proofs.run_all.Statement.{statement}
 use Rattle.plan.proofs.run_all.Tie as tie
 

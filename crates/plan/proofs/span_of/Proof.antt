@@ -1,6 +1,5 @@
 -- `span_of` meets its contract. Assumes nothing.
 use borrow.Author.Needs.{needs}
-use native.Mathlib.Omega.{arith}
 use Rattle.plan.proofs.Jumping.{ceil-one, ceil-shift}
 use Rattle.plan.proofs.span_of.Statement.{statement}
 use Rattle.plan.proofs.span_of.Tie as tie

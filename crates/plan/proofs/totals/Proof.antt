@@ -1,7 +1,7 @@
 -- `totals` meets its contract. Assumes nothing.
 use borrow.Author.Needs.{needs}
-use Prim.Native.Nat.{_+_, _^_, _≤_}
-use mathlib.Core.Path.{_≡_, ap, _∙_}
+use Prim.Native.Nat.{_^_, _≤_}
+use mathlib.Core.Path.{_≡_, _∙_}
 use native.Mathlib.Omega.{arith}
 use Rattle.table.specs.Table.{fixed}
 use Rattle.table.specs.Sizes.{directHeader}

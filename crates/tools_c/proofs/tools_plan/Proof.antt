@@ -1,8 +1,7 @@
 -- `tools_plan` meets its contract. Assumes nothing.
 use borrow.Author.Needs.{needs}
-use Prim.Native.Nat.{ℕ}
 use mathlib.Core.Path.{sym, ap, _∙_}
-use mathlib.Core.List.{List, [], _∷_}
+use mathlib.Core.List.{[], _∷_}
 use Rattle.fields.specs.declared.error.Answer.{Answer as Pair}
 use Rattle.table.specs.Table.{fixed}
 use Rattle.plan.specs.Steps.{planOffsets, planStarts}

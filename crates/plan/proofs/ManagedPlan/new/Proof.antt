@@ -10,7 +10,7 @@ use Rattle.plan.specs.Answer.{totals as totalsOf}
 use Rattle.plan.specs.declared.Planned.the-variants.{Accepted}
 use Rattle.plan.proofs.Running.{all-small}
 use Rattle.plan.proofs.Room.{totalled}
-use Rattle.plan.proofs.Answering.{Passing, passing, answers, refuses}
+use Rattle.plan.proofs.Answering.{passing, answers, refuses}
 use Rattle.plan.proofs.ManagedPlan.new.Statement.{statement}
 use Rattle.plan.proofs.ManagedPlan.new.Tie as tie
 
