@@ -71,19 +71,19 @@ module _ (xs o₀ : List ℕ) (from : ℕ) (s₀ : State) (os : List ℕ) (s : S
         tail = drop-set-more os o₀ next (s .start + s .fill) (I .tail);
       }
 
-  noting-ends : from ≤ length o₀ → fillState s (drop next xs) ≡ s → fillOffsets s (drop next xs) ≡ [] → os ≡ overwritten from (fillOffsets s₀ (drop from xs)) o₀
+  noting-ends : fillState s (drop next xs) ≡ s → fillOffsets s (drop next xs) ≡ [] → os ≡ overwritten from (fillOffsets s₀ (drop from xs)) o₀
   unfolding overwritten filledFrom
-  noting-ends fl st of =
+  noting-ends st of =
       let F = fillOffsets s₀ (drop from xs) in
       let n : from + length F ≡ next = ap (λ (y : Filled). y .next) (sym (filling-ends xs from s₀ s next (I .filling) st of)) in
       let fr : take next os ≡ take from o₀ ++ F = sym (append-nil (take next os)) ∙ ap (λ (y : List ℕ). take next os ++ y) (sym of) ∙ I .front in
       sym (take-append-drop next os) ∙ ap₂ _++_ fr (I .tail ∙ ap (λ (j : ℕ). drop j o₀) (sym n)) ∙ append-assoc (take from o₀) F (drop (from + length F) o₀)
 
-  pub noting-full : from ≤ length o₀ → next < length xs → s .size < s .fill + getD xs next 0 → os ≡ overwritten from (fillOffsets s₀ (drop from xs)) o₀
-  noting-full fl l f = noting-ends fl (state-stop xs s next l f) (offsets-stop xs s next l f)
+  pub noting-full : next < length xs → s .size < s .fill + getD xs next 0 → os ≡ overwritten from (fillOffsets s₀ (drop from xs)) o₀
+  noting-full l f = noting-ends (state-stop xs s next l f) (offsets-stop xs s next l f)
 
-  pub noting-done : from ≤ length o₀ → length xs ≤ next → os ≡ overwritten from (fillOffsets s₀ (drop from xs)) o₀
-  noting-done fl l = noting-ends fl (state-end xs s next l) (offsets-end xs s next l)
+  pub noting-done : length xs ≤ next → os ≡ overwritten from (fillOffsets s₀ (drop from xs)) o₀
+  noting-done l = noting-ends (state-end xs s next l) (offsets-end xs s next l)
 
 -- a list after numbers went into it from its i-th place on
 module _ (i : ℕ) (new old : List ℕ) (l : i + length new ≤ length old) where

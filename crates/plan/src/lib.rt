@@ -4,6 +4,7 @@
 ghost use mathlib.Core.Path.{_≡_};
 ghost use Prim.Native.Nat.{_+_, _*_, _^_, _<_, _≤_, max};
 ghost use mathlib.Core.List.{_++_};
+ghost use lib.Dec.{ltb};
 ghost use lib.ListN.{length, drop};
 ghost use Rattle.table.specs.Table.{fixed};
 ghost use Rattle.table.specs.Sizes.{directHeader, maxManaged};
@@ -108,6 +109,15 @@ fn open_from(cursor: u64, need: u64) -> Open
     Open::Full
 }
 
+// Whether the current block has no room for an object.
+fn too_full(s: State, size: u64) -> bool
+    requires { ⌜ Bounded s ⌝ }
+    requires { ⌜ size ≤ 65536 ⌝ }
+    ensures { λ r. ⌜ r ≡ ltb (s .size) (s .fill + size) ⌝ }
+{
+    s.fill + size > s.size
+}
+
 // The state after an object that goes into the current block.
 fn in_current(s: State, size: u64) -> State
     requires { ⌜ Bounded s ⌝ }
@@ -163,10 +173,10 @@ pub fn advance(s: State, size: u64, offset_size: u8) -> Step
     requires { ⌜ size ≤ maxManaged fixed «offset_size» ⌝ }
     ensures { λ r. ⌜ r ≡ stepOf fixed «offset_size» s size ⌝ }
 {
-    if s.fill + size <= s.size {
-        return Step::Placed(in_current(s, size), s.start + s.fill);
+    if too_full(s, size) {
+        return open_block(s, size, offset_size);
     }
-    open_block(s, size, offset_size)
+    Step::Placed(in_current(s, size), s.start + s.fill)
 }
 
 // Before the first object.
@@ -194,7 +204,7 @@ fn fill_block(sizes: &[u64], from: usize, s: State) -> Filled
     let mut next = from;
     while next < sizes.len() {
         let size = sizes[next];
-        if state.fill + size > state.size {
+        if too_full(state, size) {
             return Filled { next, state };
         }
         state = in_current(state, size);
@@ -241,7 +251,7 @@ fn fill_offsets(sizes: &[u64], offsets: &mut [u64], from: usize, s: State) -> Fi
     let mut next = from;
     while next < sizes.len() {
         let size = sizes[next];
-        if state.fill + size > state.size {
+        if too_full(state, size) {
             return Filled { next, state };
         }
         offsets[next] = state.start + state.fill;
@@ -391,12 +401,13 @@ pub fn totals(s: State, offset_size: u8) -> ManagedPlan
         };
     }
     let capacity = capacity_sum(rows_capacity(offset_size), rows as usize);
+    let managed = row_offset(rows);
     ManagedPlan {
         block_count: s.count,
         region_size: s.indirect + indirect_block_size(rows, offset_size) + s.allocated,
         root_rows: rows,
         root_place: s.indirect,
-        managed_space: row_offset(rows),
+        managed_space: managed,
         allocated_space: s.allocated,
         free_space: capacity - s.used,
         allocation_iterator: end,

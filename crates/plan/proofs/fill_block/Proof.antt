@@ -1,7 +1,9 @@
 -- `fill_block` meets its contract: what is left gives the same. Assumes nothing.
 use borrow.Author.Needs.{needs}
 use Prim.Native.Nat.{_-_}
+use mathlib.Core.Path.{sym, _∙_}
 use native.Mathlib.Omega.{arith}
+use borrow.Author.Tests.{ltb-true, ltb-false}
 use lib.ListN.{length}
 use Rattle.plan.proofs.Filling.{Filling, filling-start, filling-more, filling-full, filling-done}
 use Rattle.plan.proofs.fill_block.Statement.{statement}
@@ -22,14 +24,14 @@ mul-size c = search needs
 shared-slice-read-size : tie.Need-shared-slice-read-size Inv-loop μ-loop
 shared-slice-read-size c = c .before .loop-test .taken
 
-add-if1 : tie.Need-add-if1 Inv-loop μ-loop
-add-if1 c = omega (arith, (c .before .before .before) .loop .inv .bounded .filling, (c .before .before .before .before .before) .pre .1 .0 .small _ ((c .before .before) .loop-test .taken))
+too-full-requires : tie.Need-too-full-requires Inv-loop μ-loop
+too-full-requires c κs = ((c .before .before) .loop .inv .bounded, (c .before .before .before .before) .pre .1 .0 .small _ ((c .before) .loop-test .taken))
 
 returns : tie.Need-returns Inv-loop μ-loop
-returns c = filling-full _ _ _ _ _ ((c .before .before .before .before .before) .loop .inv) ((c .before .before .before .before) .loop-test .taken) (c .if1 .taken)
+returns c = filling-full _ _ _ _ _ ((c .before .before .before .before) .loop .inv) ((c .before .before .before) .loop-test .taken) (ltb-true _ _ (sym ((c .before) .too-full .ensures) ∙ (c) .if1 .taken))
 
 in-current-requires : tie.Need-in-current-requires Inv-loop μ-loop
-in-current-requires c κs = ((c .before .before .before .before .before) .loop .inv .bounded, (c .before .before .before .before .before .before .before) .pre .1 .0 .small _ ((c .before .before .before .before) .loop-test .taken))
+in-current-requires c κs = ((c .before .before .before .before) .loop .inv .bounded, (c .before .before .before .before .before .before) .pre .1 .0 .small _ ((c .before .before .before) .loop-test .taken))
 
 add-next : tie.Need-add-next Inv-loop μ-loop
 add-next c = search needs
@@ -38,7 +40,7 @@ loop-less : tie.Need-loop-less Inv-loop μ-loop
 loop-less c = omega arith
 
 loop-again : tie.Need-loop-again Inv-loop μ-loop
-loop-again c = filling-more _ _ _ _ _ ((c .before .before .before .before .before .before) .loop .inv) ((c .before .before .before .before .before) .loop-test .taken) (c .before .if1 .left) _ (c .in-current .ensures)
+loop-again c = filling-more _ _ _ _ _ ((c .before .before .before .before .before) .loop .inv) ((c .before .before .before .before) .loop-test .taken) (ltb-false _ _ (sym ((c .before .before) .too-full .ensures) ∙ (c .before) .if1 .left)) _ (c .in-current .ensures)
 
 returns-2 : tie.Need-returns-2 Inv-loop μ-loop
 returns-2 c = filling-done _ _ _ _ _ (c .before .loop .inv) (c .loop-test .left)
@@ -52,7 +54,7 @@ fill-block-spec =
     loop-holds
     mul-size
     shared-slice-read-size
-    add-if1
+    too-full-requires
     returns
     in-current-requires
     add-next

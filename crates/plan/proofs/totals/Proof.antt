@@ -21,11 +21,11 @@ root-rows-requires c κs = search needs
 direct-block-header-requires : tie.Need-direct-block-header-requires
 direct-block-header-requires c κs = search needs
 
-sub-t8 : tie.Need-sub-t8
-sub-t8 c = omega (arith, c .direct-block-header .ensures, header-small ((c .before .before .before .before) .args .offset-size) (omega arith))
-
 sub-t9 : tie.Need-sub-t9
-sub-t9 c = omega (arith, c .before .direct-block-header .ensures, (c .before .before .before .before .before) .pre .one (bare-end _ _ ((c .before .before .before .before .before) .pre) _ ((c .before .before .before) .root-rows .ensures) ((c .before .before) .if1 .taken)))
+sub-t9 c = omega (arith, c .direct-block-header .ensures, header-small ((c .before .before .before .before) .args .offset-size) (omega arith))
+
+sub-t10 : tie.Need-sub-t10
+sub-t10 c = omega (arith, c .before .direct-block-header .ensures, (c .before .before .before .before .before) .pre .one (bare-end _ _ ((c .before .before .before .before .before) .pre) _ ((c .before .before .before) .root-rows .ensures) ((c .before .before) .if1 .taken)))
 
 returns : tie.Need-returns
 returns c = bare-is _ _ ((c .before .before .before .before .before) .pre) _ ((c .before .before .before) .root-rows .ensures) _ ((c .before .before) .if1 .taken) (c .before .direct-block-header .ensures)
@@ -36,20 +36,20 @@ rows-capacity-requires c κs = search needs
 capacity-sum-requires : tie.Need-capacity-sum-requires
 capacity-sum-requires c κs = (rows-few _ _ ((c .before .before .before .before) .pre) _ ((c .before .before) .root-rows .ensures) (c .before .if1 .left), sum-fits _ _ _ (rows-few _ _ ((c .before .before .before .before) .pre) _ ((c .before .before) .root-rows .ensures) (c .before .if1 .left)) (c .rows-capacity .ensures))
 
+row-offset-requires : tie.Need-row-offset-requires
+row-offset-requires c κs = omega (arith, rows-few _ _ ((c .before .before .before .before .before) .pre) _ ((c .before .before .before) .root-rows .ensures) ((c .before .before) .if1 .left))
+
 indirect-block-size-requires : tie.Need-indirect-block-size-requires
-indirect-block-size-requires c κs = omega (arith, rows-few _ _ ((c .before .before .before .before .before) .pre) _ ((c .before .before .before) .root-rows .ensures) ((c .before .before) .if1 .left))
+indirect-block-size-requires c κs = omega (arith, rows-few _ _ ((c .before .before .before .before .before .before) .pre) _ ((c .before .before .before .before) .root-rows .ensures) ((c .before .before .before) .if1 .left))
 
 own-small : (c : tie.After-indirect-block-size) → c .indirect-block-size .result ≤ 2 ^ 18
-own-small c = omega (arith, c .indirect-block-size .ensures, indirect-small ((c .before .before .before .before .before .before) .args .offset-size) ((c .before .before .before .before) .root-rows .result) (omega arith) (omega (arith, rows-few _ _ ((c .before .before .before .before .before .before) .pre) _ ((c .before .before .before .before) .root-rows .ensures) ((c .before .before .before) .if1 .left))))
-
-add-t13 : tie.Need-add-t13
-add-t13 c = omega (arith, own-small ((c .before)), (c .before .before .before .before .before .before .before) .pre .bounded .between)
+own-small c = omega (arith, c .indirect-block-size .ensures, indirect-small ((c .before .before .before .before .before .before .before) .args .offset-size) ((c .before .before .before .before .before) .root-rows .result) (omega arith) (omega (arith, rows-few _ _ ((c .before .before .before .before .before .before .before) .pre) _ ((c .before .before .before .before .before) .root-rows .ensures) ((c .before .before .before .before) .if1 .left))))
 
 add-t14 : tie.Need-add-t14
-add-t14 c = omega (arith, own-small ((c .before .before)), (c .before .before .before .before .before .before .before .before) .pre .bounded .between, (c .before .before .before .before .before .before .before .before) .pre .bounded .spent)
+add-t14 c = omega (arith, own-small ((c .before)), (c .before .before .before .before .before .before .before .before) .pre .bounded .between)
 
-row-offset-requires : tie.Need-row-offset-requires
-row-offset-requires c κs = omega (arith, rows-few _ _ ((c .before .before .before .before .before .before .before .before) .pre) _ ((c .before .before .before .before .before .before) .root-rows .ensures) ((c .before .before .before .before .before) .if1 .left))
+add-t15 : tie.Need-add-t15
+add-t15 c = omega (arith, own-small ((c .before .before)), (c .before .before .before .before .before .before .before .before .before) .pre .bounded .between, (c .before .before .before .before .before .before .before .before .before) .pre .bounded .spent)
 
 capacity : (c : tie.After-capacity-sum) → c .capacity-sum .result ≡ capacityOf fixed (directHeader fixed ((c .before .before .before .before .before) .args .offset-size)) ((c .before .before .before) .root-rows .result)
 capacity c = c .capacity-sum .ensures ∙ capacity-is _ _ _ (rows-few _ _ ((c .before .before .before .before .before) .pre) _ ((c .before .before .before) .root-rows .ensures) ((c .before .before) .if1 .left)) (c .before .rows-capacity .ensures)
@@ -58,7 +58,7 @@ sub-t16 : tie.Need-sub-t16
 sub-t16 c = omega (arith, used-fits _ _ ((c .before .before .before .before .before .before .before .before .before .before) .pre) _ ((c .before .before .before .before .before .before .before .before) .root-rows .ensures) ((c .before .before .before .before .before .before .before) .if1 .left), capacity ((c .before .before .before .before .before)))
 
 returns-2 : tie.Need-returns-2
-returns-2 c = rows-is _ _ ((c .before .before .before .before .before .before .before .before .before .before) .pre) _ ((c .before .before .before .before .before .before .before .before) .root-rows .ensures) ((c .before .before .before .before .before .before .before) .if1 .left) _ _ _ ((c .before .before .before .before) .indirect-block-size .ensures) (capacity ((c .before .before .before .before .before))) (c .before .row-offset .ensures)
+returns-2 c = rows-is _ _ ((c .before .before .before .before .before .before .before .before .before .before) .pre) _ ((c .before .before .before .before .before .before .before .before) .root-rows .ensures) ((c .before .before .before .before .before .before .before) .if1 .left) _ _ _ ((c .before .before .before) .indirect-block-size .ensures) (capacity ((c .before .before .before .before .before))) ((c .before .before .before .before) .row-offset .ensures)
 
 pub totals-spec : {M : Type 1} → statement M
 totals-spec =
@@ -67,14 +67,14 @@ totals-spec =
     add-end
     root-rows-requires
     direct-block-header-requires
-    sub-t8
     sub-t9
+    sub-t10
     returns
     rows-capacity-requires
     capacity-sum-requires
-    indirect-block-size-requires
-    add-t13
-    add-t14
     row-offset-requires
+    indirect-block-size-requires
+    add-t14
+    add-t15
     sub-t16
     returns-2)
