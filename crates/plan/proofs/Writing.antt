@@ -48,19 +48,19 @@ fronted-is {new} {old} {l} {n} F =
 
 -- ---- the offsets of the objects that fit into the current block
 
-pub record Noting (xs o₀ : List ℕ) (from : ℕ) (s₀ : State) (os : List ℕ) (s : State) (next : ℕ) : Type 0 where
+pub record Storing (xs o₀ : List ℕ) (from : ℕ) (s₀ : State) (os : List ℕ) (s : State) (next : ℕ) : Type 0 where
   pub filling : Filling xs from s₀ s next
   pub olen : length os ≡ length o₀
   pub front : take next os ++ fillOffsets s (drop next xs) ≡ take from o₀ ++ fillOffsets s₀ (drop from xs)
   pub tail : drop next os ≡ drop next o₀
 
-pub noting-start : (xs o₀ : List ℕ) (from : ℕ) (s : State) → from ≤ length xs → Bounded s → Noting xs o₀ from s o₀ s from
-noting-start xs o₀ from s l B = record { filling = filling-start xs from s l B; olen = refl; front = refl; tail = refl }
+pub storing-start : (xs o₀ : List ℕ) (from : ℕ) (s : State) → from ≤ length xs → Bounded s → Storing xs o₀ from s o₀ s from
+storing-start xs o₀ from s l B = record { filling = filling-start xs from s l B; olen = refl; front = refl; tail = refl }
 
-module _ (xs o₀ : List ℕ) (from : ℕ) (s₀ : State) (os : List ℕ) (s : State) (next : ℕ) (I : Noting xs o₀ from s₀ os s next) (lo : length xs ≤ length o₀) where
-  pub noting-more : next < length xs → s .fill + getD xs next 0 ≤ s .size → (s′ : State) → s′ ≡ filled s (getD xs next 0)
-      → Noting xs o₀ from s₀ (set os next (s .start + s .fill)) s′ (next + 1)
-  noting-more l f s′ e =
+module _ (xs o₀ : List ℕ) (from : ℕ) (s₀ : State) (os : List ℕ) (s : State) (next : ℕ) (I : Storing xs o₀ from s₀ os s next) (lo : length xs ≤ length o₀) where
+  pub storing-more : next < length xs → s .fill + getD xs next 0 ≤ s .size → (s′ : State) → s′ ≡ filled s (getD xs next 0)
+      → Storing xs o₀ from s₀ (set os next (s .start + s .fill)) s′ (next + 1)
+  storing-more l f s′ e =
       let a = I .olen in
       record {
         filling = filling-more xs from s₀ s next (I .filling) l f s′ e;
@@ -71,19 +71,19 @@ module _ (xs o₀ : List ℕ) (from : ℕ) (s₀ : State) (os : List ℕ) (s : S
         tail = drop-set-more os o₀ next (s .start + s .fill) (I .tail);
       }
 
-  noting-ends : fillState s (drop next xs) ≡ s → fillOffsets s (drop next xs) ≡ [] → os ≡ overwritten from (fillOffsets s₀ (drop from xs)) o₀
+  storing-ends : fillState s (drop next xs) ≡ s → fillOffsets s (drop next xs) ≡ [] → os ≡ overwritten from (fillOffsets s₀ (drop from xs)) o₀
   unfolding overwritten filledFrom
-  noting-ends st of =
+  storing-ends st of =
       let F = fillOffsets s₀ (drop from xs) in
       let n : from + length F ≡ next = ap (λ (y : Filled). y .next) (sym (filling-ends xs from s₀ s next (I .filling) st of)) in
       let fr : take next os ≡ take from o₀ ++ F = sym (append-nil (take next os)) ∙ ap (λ (y : List ℕ). take next os ++ y) (sym of) ∙ I .front in
       sym (take-append-drop next os) ∙ ap₂ _++_ fr (I .tail ∙ ap (λ (j : ℕ). drop j o₀) (sym n)) ∙ append-assoc (take from o₀) F (drop (from + length F) o₀)
 
-  pub noting-full : next < length xs → s .size < s .fill + getD xs next 0 → os ≡ overwritten from (fillOffsets s₀ (drop from xs)) o₀
-  noting-full l f = noting-ends (state-stop xs s next l f) (offsets-stop xs s next l f)
+  pub storing-full : next < length xs → s .size < s .fill + getD xs next 0 → os ≡ overwritten from (fillOffsets s₀ (drop from xs)) o₀
+  storing-full l f = storing-ends (state-stop xs s next l f) (offsets-stop xs s next l f)
 
-  pub noting-done : length xs ≤ next → os ≡ overwritten from (fillOffsets s₀ (drop from xs)) o₀
-  noting-done l = noting-ends (state-end xs s next l) (offsets-end xs s next l)
+  pub storing-done : length xs ≤ next → os ≡ overwritten from (fillOffsets s₀ (drop from xs)) o₀
+  storing-done l = storing-ends (state-end xs s next l) (offsets-end xs s next l)
 
 -- a list after numbers went into it from its i-th place on
 module _ (i : ℕ) (new old : List ℕ) (l : i + length new ≤ length old) where

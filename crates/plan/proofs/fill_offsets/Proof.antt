@@ -6,18 +6,18 @@ use native.Mathlib.Omega.{arith}
 use borrow.Author.Tests.{ltb-true, ltb-false}
 use lib.ListN.{length}
 use Rattle.plan.proofs.Filling.{filling-full, filling-done}
-use Rattle.plan.proofs.Writing.{Noting, noting-start, noting-more, noting-full, noting-done}
+use Rattle.plan.proofs.Writing.{Storing, storing-start, storing-more, storing-full, storing-done}
 use Rattle.plan.proofs.fill_offsets.Statement.{statement}
 use Rattle.plan.proofs.fill_offsets.Tie as tie
 
 abbrev Inv-loop : tie.InvT-loop
-Inv-loop sizes offsets₀ from state₀ next₀ offsets state next = Noting sizes offsets₀ from state₀ offsets state next
+Inv-loop sizes offsets₀ from state₀ next₀ offsets state next = Storing sizes offsets₀ from state₀ offsets state next
 
 abbrev μ-loop : tie.MeasureT-loop
 μ-loop sizes offsets₀ from state₀ next₀ offsets state next = length sizes - next
 
 loop-holds : tie.Need-loop-holds Inv-loop μ-loop
-loop-holds c = noting-start _ _ _ _ ((c .before .before) .pre .1 .0 .1) ((c .before .before) .pre .0)
+loop-holds c = storing-start _ _ _ _ ((c .before .before) .pre .1 .0 .1) ((c .before .before) .pre .0)
 
 mul-size : tie.Need-mul-size Inv-loop μ-loop
 mul-size c = search needs
@@ -32,7 +32,7 @@ same-length : tie.Need-same-length Inv-loop μ-loop
 same-length c = (c .before .before .before .before) .loop .inv .olen
 
 returns : tie.Need-returns Inv-loop μ-loop
-returns c = (filling-full _ _ _ _ _ ((c .before .before .before .before) .loop .inv .filling) ((c .before .before .before) .loop-test .taken) (ltb-true _ _ (sym ((c .before) .too-full .ensures) ∙ (c) .if1 .taken)), noting-full _ _ _ _ _ _ _ ((c .before .before .before .before) .loop .inv) ((c .before .before .before .before .before .before .before) .pre .1 .1) ((c .before .before .before) .loop-test .taken) (ltb-true _ _ (sym ((c .before) .too-full .ensures) ∙ (c) .if1 .taken)))
+returns c = (filling-full _ _ _ _ _ ((c .before .before .before .before) .loop .inv .filling) ((c .before .before .before) .loop-test .taken) (ltb-true _ _ (sym ((c .before) .too-full .ensures) ∙ (c) .if1 .taken)), storing-full _ _ _ _ _ _ _ ((c .before .before .before .before) .loop .inv) ((c .before .before .before .before .before .before .before) .pre .1 .1) ((c .before .before .before) .loop-test .taken) (ltb-true _ _ (sym ((c .before) .too-full .ensures) ∙ (c) .if1 .taken)))
 
 add-offsets : tie.Need-add-offsets Inv-loop μ-loop
 add-offsets c = omega (arith, (c .before .before .before .before .before) .loop .inv .filling .bounded .heap, (c .before .before .before .before .before) .loop .inv .filling .bounded .filling)
@@ -53,13 +53,13 @@ loop-less : tie.Need-loop-less Inv-loop μ-loop
 loop-less c = omega arith
 
 loop-again : tie.Need-loop-again Inv-loop μ-loop
-loop-again c = noting-more _ _ _ _ _ _ _ ((c .before .before .before .before .before .before) .loop .inv) ((c .before .before .before .before .before .before .before .before .before) .pre .1 .1) ((c .before .before .before .before .before) .loop-test .taken) (ltb-false _ _ (sym ((c .before .before .before) .too-full .ensures) ∙ (c .before .before) .if1 .left)) _ (c .in-current .ensures)
+loop-again c = storing-more _ _ _ _ _ _ _ ((c .before .before .before .before .before .before) .loop .inv) ((c .before .before .before .before .before .before .before .before .before) .pre .1 .1) ((c .before .before .before .before .before) .loop-test .taken) (ltb-false _ _ (sym ((c .before .before .before) .too-full .ensures) ∙ (c .before .before) .if1 .left)) _ (c .in-current .ensures)
 
 same-length-2 : tie.Need-same-length-2 Inv-loop μ-loop
 same-length-2 c = (c .before) .loop .inv .olen
 
 returns-2 : tie.Need-returns-2 Inv-loop μ-loop
-returns-2 c = (filling-done _ _ _ _ _ (c .before .loop .inv .filling) (c .loop-test .left), noting-done _ _ _ _ _ _ _ (c .before .loop .inv) ((c .before .before .before .before) .pre .1 .1) (c .loop-test .left))
+returns-2 c = (filling-done _ _ _ _ _ (c .before .loop .inv .filling) (c .loop-test .left), storing-done _ _ _ _ _ _ _ (c .before .loop .inv) ((c .before .before .before .before) .pre .1 .1) (c .loop-test .left))
 
 pub fill-offsets-spec : {M : Type 1} → statement M
 fill-offsets-spec =
