@@ -5,6 +5,7 @@ use mathlib.Core.List.{List, [], _∷_, _++_}
 use lib.ListN.{length, drop}
 use lib.Dec.{leb, eqb}
 use Rattle.fields.specs.Fields.{legal}
+use Rattle.fields.specs.Refusals.{refusal}
 use Rattle.fields.specs.declared.error.FormatError.the-variants.{InvalidOffsetSize, ObjectTooLarge, HeapSpaceExhausted, SliceTooShort}
 use Rattle.fields.specs.declared.bytes.Checked.{Checked}
 use Rattle.fields.specs.declared.bytes.Checked.the-variants.{Passed, Refused as NotPassed}
@@ -111,6 +112,22 @@ ifChecked (NotPassed e) p = Refused e
 -- the answer for the sizes xs, lists of o and b places and addresses of w bytes: 12 after the tests
 unfoldable pub answer : List ℕ → ℕ → ℕ → ℕ → Planned
 answer xs o b w = ifChecked (inputChecked xs o b w) (ranPlan w (run fixed w xs))
+
+-- a plan's eight numbers
+abbrev pub numbers : ManagedPlan → List ℕ
+numbers p =
+    p .«block_count» ∷ p .«region_size» ∷ p .«root_rows» ∷ p .«root_place» ∷ p .«managed_space» ∷ p .«allocated_space»
+    ∷ p .«free_space» ∷ p .«allocation_iterator» ∷ []
+
+-- the number of an answer: 0, or the refusal's
+abbrev pub plannedNumber : Planned → ℕ
+plannedNumber (Accepted p) = 0
+plannedNumber (Refused e) = refusal e .number
+
+-- its values: the plan's numbers, or the refusal's pair
+abbrev pub plannedValues : Planned → List ℕ
+plannedValues (Accepted p) = numbers p
+plannedValues (Refused e) = refusal e .first ∷ refusal e .second ∷ []
 
 -- a list with other numbers in its first places
 unfoldable pub fronted : List ℕ → List ℕ → List ℕ

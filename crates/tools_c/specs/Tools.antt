@@ -1,14 +1,11 @@
 -- What the C functions for tests and tools hand back beyond an answer in its slot.
 use Prim.Native.Nat.{ℕ}
 use mathlib.Core.Bool.{Bool, cond}
-use mathlib.Core.List.{List, [], _∷_}
+use mathlib.Core.List.{List}
 use lib.ListN.{length}
 use lib.Dec.{ltb}
-use Rattle.fields.specs.Refusals.{refusal}
-use Rattle.plan.specs.Answer.{fronted}
-use Rattle.plan.specs.declared.ManagedPlan.{ManagedPlan}
+use Rattle.plan.specs.Answer.{plannedNumber, plannedValues, fronted}
 use Rattle.plan.specs.declared.Planned.{Planned}
-use Rattle.plan.specs.declared.Planned.the-variants.{Accepted, Refused}
 
 -- a Bool as C has it
 unfoldable pub oneIf : Bool → ℕ
@@ -18,21 +15,9 @@ oneIf b = cond b 1 0
 unfoldable pub afterSlot : List ℕ → List ℕ → List ℕ → List ℕ
 afterSlot slot before after = cond (ltb (length slot) 16) before after
 
--- the eight numbers of a plan
-abbrev pub numbers : ManagedPlan → List ℕ
-numbers p =
-    p .«block_count» ∷ p .«region_size» ∷ p .«root_rows» ∷ p .«root_place» ∷ p .«managed_space» ∷ p .«allocated_space»
-    ∷ p .«free_space» ∷ p .«allocation_iterator» ∷ []
-
--- a plan's number: 0, or the refusal's
-abbrev pub plannedNumber : Planned → ℕ
-plannedNumber (Accepted p) = 0
-plannedNumber (Refused e) = refusal e .number
-
 -- the list of totals at the end: the plan's numbers in front, or the refusal's pair
 abbrev pub plannedTotals : List ℕ → Planned → List ℕ
-plannedTotals l (Accepted p) = fronted (numbers p) l
-plannedTotals l (Refused e) = fronted (refusal e .first ∷ refusal e .second ∷ []) l
+plannedTotals l p = fronted (plannedValues p) l
 
 -- a list of totals shorter than 8 places gives 13 before all else
 unfoldable pub planNumber : List ℕ → Planned → ℕ
