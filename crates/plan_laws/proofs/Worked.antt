@@ -8,9 +8,23 @@ use Rattle.table.specs.Sizes.{offsetBytes, directHeader, maxManaged, indirectSi
 use Rattle.table.specs.Capacity.{sum, blockCapacity, capacities, capacity}
 use Rattle.plan.specs.Steps.{openIn, openAt, stepOf, runFrom, offsetsFrom, startsFrom, run, planOffsets, planStarts}
 use Rattle.plan.specs.Answer.{closed, rootRows, totals, sizesChecked, placesChecked, widthChecked, inputChecked, answer}
-use Rattle.plan_laws.specs.Cases.{All, cases}
+use Rattle.plan_laws.specs.Cases.{Both, All, cases}
+
+both : {P Q : Type 0} → P → Q → Both P Q
+both p q = record { first = p; rest = q }
 
 pub worked : All cases
 unfolding legal rowBits rowOffset rowIn rowOf maxRows coveringIn covering slotStart slotIn slotBits slotAt enteredIn entered offsetBytes directHeader maxManaged indirectSize sum blockCapacity capacities capacity openIn openAt stepOf runFrom offsetsFrom startsFrom run planOffsets planStarts closed rootRows totals sizesChecked placesChecked widthChecked inputChecked answer
 worked =
-    record { first = (refl, refl, refl); rest = record { first = (refl, refl, refl); rest = record { first = (refl, refl, refl); rest = record { first = (refl, refl, refl); rest = record { first = (refl, refl, refl); rest = record { first = (refl, refl, refl); rest = record { first = refl; rest = record { first = (refl, refl, refl); rest = record { first = omega arith; rest = record { first = (omega arith, refl, refl); rest = record { first = (refl, refl, refl); rest = refl } } } } } } } } } } }
+    both (refl, refl, refl)
+    (both (refl, refl, refl)
+    (both (refl, refl, refl)
+    (both (refl, refl, refl)
+    (both (refl, refl, refl)
+    (both (refl, refl, refl)
+    (both refl
+    (both (refl, refl, refl)
+    (both (omega arith)
+    (both (omega arith, refl, refl)
+    (both (refl, refl, refl)
+    refl))))))))))
