@@ -20,7 +20,7 @@ use Rattle.table_laws.proofs.Counting.{count-add, count-all}
 use Rattle.table_laws.proofs.Format.{inBody, slot-body}
 use Rattle.table_laws.proofs.Bodies.{first-bodies, bodies}
 use Rattle.plan.specs.Steps.{blockEnd, initial, stepOf, runFrom, run}
-use Rattle.plan.specs.Answer.{oneBlock, closed, rootRows}
+use Rattle.plan.specs.Answer.{oneBlock, closed, rowsIn, rootRows}
 use Rattle.plan.specs.Requires.{Totalled}
 use Rattle.plan.specs.declared.State.{State}
 use Rattle.plan.specs.declared.Step.{Step}
@@ -100,20 +100,23 @@ pub record Reach (e : ℕ) : Type 0 where
   pub most : rootRows fixed e ≤ 29
   pub far : e ≤ rowOffset fixed (rootRows fixed e)
 
-pub reach : (e : ℕ) → 0 < e → e ≤ 2 ^ 40 → (e ≡ 1024 → ⊥) → Reach e
-reach e p l n =
-    let r : rootRows fixed e ≡ rowOf fixed (e - 1) + 1 = rows-are in
-    let up = row-up fixed (e - 1) (heap-rows fixed (e - 1) (omega arith)) in
-    let z = ap (rowOffset fixed) (r ∙ add-one (rowOf fixed (e - 1))) in
-    let b = row-29 (e - 1) (omega arith) in
-    record { some = omega arith; most = omega arith; far = omega arith }
-  where
-    rows-are : rootRows fixed e ≡ rowOf fixed (e - 1) + 1
-    rows-are = unfold rootRows in rw (ne-eqb e 1024 n, covers e p l)
-
+-- the one block of the starting size at 0
 pub no-rows : (e : ℕ) → e ≡ 1024 → rootRows fixed e ≡ 0
 unfolding rootRows
 no-rows e q = rw (eq-eqb e 1024 q)
+
+-- any other end: the row of its last byte is the last
+pub rows-of-end : (e : ℕ) → (e ≡ 1024 → ⊥) → 0 < e → e ≤ 2 ^ 40 → rootRows fixed e ≡ suc (rowOf fixed (e - 1))
+unfolding rootRows
+rows-of-end e n p l = rw (ne-eqb e 1024 n) (ap rowsIn (covers e p l) ∙ add-one (rowOf fixed (e - 1)))
+
+pub reach : (e : ℕ) → 0 < e → e ≤ 2 ^ 40 → (e ≡ 1024 → ⊥) → Reach e
+reach e p l n =
+    let r = rows-of-end e n p l in
+    let up = row-up fixed (e - 1) (heap-rows fixed (e - 1) (omega arith)) in
+    let z = ap (rowOffset fixed) r in
+    let b = row-29 (e - 1) (omega arith) in
+    record { some = omega arith; most = omega arith; far = omega arith }
 
 -- ---- what the totals ask
 

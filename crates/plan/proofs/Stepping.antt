@@ -6,13 +6,14 @@ use mathlib.Core.Bool.{Bool, true, false}
 use mathlib.Core.List.{List}
 use native.Mathlib.Omega.{arith}
 use lib.Dec.{leb}
-use lib.Pow.{pow-pos, pow-mono}
+use lib.Pow.{pow-pos}
 use borrow.Author.Tests.{le-leb, lt-leb, leb-true}
 use Rattle.table.specs.Table.{Table, fixed}
 use Rattle.table.specs.Slots.{slotAt, slotEnd, entered}
 use Rattle.table.specs.Sizes.{offsetBytes, directHeader, maxManaged}
 use Rattle.table.specs.declared.Slot.{Slot}
-use Rattle.table.proofs.Slots.{Start, top-start, slotted-lo, slot-bits-is, end-le, start-next}
+use Rattle.table.proofs.Slots.{Start, top-start, end-le, start-next}
+use Rattle.table_laws.proofs.Format.{slot-least}
 use Rattle.plan.specs.Steps.{openAt, blockEnd, initial, filled, inNew, opened, stepOf}
 use Rattle.plan.specs.Requires.{InHeap, Small}
 use Rattle.plan.specs.declared.Open.{Open}
@@ -61,10 +62,6 @@ pub record Placing (t : Table) (w : ℕ) (s : State) (x : ℕ) (s′ : State) (o
   pub way : Same s s′ o ⊎ New t w s s′ o
 
 module _ (t : Table) (g : t .startBits ≤ t .directBits) (k : t .startBits ≤ t .heapBits) where
-  slot-ge : (c : ℕ) → c < 2 ^ t .heapBits → 2 ^ t .startBits ≤ slotAt t c .size
-  unfolding slotAt
-  slot-ge c h = pow-mono (slotted-lo t (slot-bits-is t c g h))
-
   module _ (w : ℕ) (s : State) (x : ℕ) (I : Ok t w s) where
     placed-same : s .fill + x ≤ s .size → Placing t w s x (filled s x) (s .start + s .fill)
     placed-same l =
@@ -85,7 +82,7 @@ module _ (t : Table) (g : t .startBits ≤ t .directBits) (k : t .startBits ≤ 
         let bs : b .size ≡ slotAt t (b .start) .size = ap (λ (y : Slot). y .size) (F .is) in
         let en : b .start + b .size ≡ slotEnd (slotAt t (b .start)) = ap slotEnd (F .is) in
         let el : slotEnd (slotAt t (b .start)) ≤ 2 ^ t .heapBits = end-le t (b .start) g k f2 in
-        let sg = slot-ge (b .start) f2 in
+        let sg = slot-least t g (record { starts = F .starts; inside = f2; size-is = bs }) in
         record {
           ok = record {
             heap = omega arith;

@@ -34,11 +34,11 @@ module _ (w : ℕ) (s : State) (T : Totalled w s) (r : ℕ) (e : r ≡ rootRows 
       go (yes q) = q
       go (no q) = absurd (let R = reach (blockEnd s) (T .some) (T .bounded .heap) q .some in omega arith)
 
-  pub some-rows : (r ≡ 0 → ⊥) → Reach (blockEnd s)
-  some-rows n = reach (blockEnd s) (T .some) (T .bounded .heap) (λ q. n (e ∙ no-rows (blockEnd s) q))
+  reached : (r ≡ 0 → ⊥) → Reach (blockEnd s)
+  reached n = reach (blockEnd s) (T .some) (T .bounded .heap) (λ q. n (e ∙ no-rows (blockEnd s) q))
 
   pub rows-few : (r ≡ 0 → ⊥) → r ≤ 29
-  rows-few n = let z = some-rows n .most in omega arith
+  rows-few n = let z = reached n .most in omega arith
 
   pub used-fits : (r ≡ 0 → ⊥) → s .used ≤ capacity fixed (directHeader fixed w) r
   used-fits n =

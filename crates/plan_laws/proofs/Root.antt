@@ -14,15 +14,15 @@ use Rattle.table.specs.Slots.{Direct, slotIn, slotBits, slotAt}
 use Rattle.table.specs.Sizes.{directHeader}
 use Rattle.table.specs.Capacity.{capacity}
 use Rattle.table.proofs.Rows.{row-lo, row-up, row-mono, row-29, heap-rows}
-use Rattle.table.proofs.RootRows.{covers}
 use Rattle.table_laws.proofs.Format.{slot-least, fixed-slot, slot-fixed}
 use Rattle.plan.specs.declared.State.{State}
 use Rattle.plan.specs.declared.Run.the-variants.{Done}
 use Rattle.plan.specs.declared.ManagedPlan.{ManagedPlan}
 use Rattle.plan.specs.declared.Planned.the-variants.{Accepted}
 use Rattle.plan.specs.Steps.{initial, blockEnd, runFrom, run, planStarts}
-use Rattle.plan.specs.Answer.{oneBlock, closed, rowsIn, rootRows, bareTotals, rowTotals, totals, answer}
+use Rattle.plan.specs.Answer.{oneBlock, closed, rootRows, bareTotals, rowTotals, totals, answer}
 use Rattle.plan.proofs.Stepping.{start-zero}
+use Rattle.plan.proofs.Room.{no-rows, rows-of-end}
 use Rattle.plan_laws.specs.Plans.{FewestRows, OneBlock}
 use Rattle.plan.proofs.Answering.{Went, accepted}
 use Rattle.plan_laws.proofs.Laying.{filledTo, Blocks, blocks, still-ok, starts-some, ran-ok, ran-laid}
@@ -30,18 +30,10 @@ use Rattle.plan_laws.proofs.Objects.{header-is}
 
 -- ---- the totals of a state
 
-root-bare : (e : ℕ) → e ≡ 1024 → rootRows fixed e ≡ 0
-unfolding rootRows
-root-bare e h = rw (eq-eqb e 1024 h)
-
-root-rows : (e : ℕ) → (e ≡ 1024 → ⊥) → 0 < e → e ≤ 2 ^ 40 → rootRows fixed e ≡ suc (rowOf fixed (e - 1))
-unfolding rootRows
-root-rows e h p l = rw (ne-eqb e 1024 h) (ap rowsIn (covers e p l) ∙ add-one (rowOf fixed (e - 1)))
-
 module _ (w : ℕ) (s : State) where
   totals-bare : blockEnd s ≡ 1024 → totals fixed w s ≡ bareTotals fixed w s
   unfolding totals
-  totals-bare h = rw (eq-eqb (rootRows fixed (blockEnd s)) 0 (root-bare (blockEnd s) h))
+  totals-bare h = rw (eq-eqb (rootRows fixed (blockEnd s)) 0 (no-rows (blockEnd s) h))
 
   totals-rows : (n : ℕ) → rootRows fixed (blockEnd s) ≡ suc n → totals fixed w s ≡ rowTotals fixed w s (suc n)
   unfolding totals
@@ -138,7 +130,7 @@ module _ (w x : ℕ) (xs : List ℕ) (p : ManagedPlan) (s : State) (ran : run fi
       let n29 = row-29 m (omega arith) in
       let lo = row-lo fixed m in
       let up = row-up fixed m (heap-rows fixed m (omega arith)) in
-      let e = totals-some ∙ totals-rows w s n (root-rows (blockEnd s) h (omega arith) u) in
+      let e = totals-some ∙ totals-rows w s n (rows-of-end (blockEnd s) h (omega arith) u) in
       let r : p .«root_rows» ≡ suc n = ap (λ (y : ManagedPlan). y .«root_rows») e in
       let it : p .«allocation_iterator» ≡ blockEnd s = ap (λ (y : ManagedPlan). y .«allocation_iterator») e in
       let la = placed .last in
