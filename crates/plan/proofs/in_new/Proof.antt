@@ -1,7 +1,10 @@
 -- `in_new` meets its contract. Assumes nothing.
 use borrow.Author.Needs.{needs}
-use Prim.Native.Nat.{_+_}
+use Prim.Native.Nat.{ℕ, _+_, _^_, _≤_}
+use mathlib.Core.Path.{_≡_}
 use native.Mathlib.Omega.{arith}
+use Rattle.table.specs.Table.{fixed}
+use Rattle.table.specs.Slots.{entered}
 use Rattle.table.proofs.Capacity.{header-small}
 use Rattle.table.proofs.Locating.{entered-small}
 use Rattle.plan.proofs.in_new.Statement.{statement}
@@ -28,8 +31,11 @@ add-t10 c = omega (arith, (c .before .before .before .before .before .before) .p
 entered-blocks-requires : tie.Need-entered-blocks-requires
 entered-blocks-requires c κs = omega (arith, (c .before .before .before .before .before .before) .pre .1 .1 .some, (c .before .before .before .before .before .before) .pre .1 .1 .ends)
 
+little : (w e s r : ℕ) → w ≤ 255 → r ≡ entered fixed w e s → r ≤ 2 ^ 24
+little w e s r l q = let z = entered-small w e s l in omega arith
+
 add-t12 : tie.Need-add-t12
-add-t12 c = omega (arith, (c .before .before .before .before .before .before .before .before) .pre .0 .between, c .before .entered-blocks .ensures, entered-small ((c .before .before .before .before .before .before .before .before) .args .offset-size) ((c .before .before .before .before .before .before .before .before) .args .s .start + (c .before .before .before .before .before .before .before .before) .args .s .size) ((c .before .before .before .before .before .before .before .before) .args .b .start) (omega arith))
+add-t12 c = omega (arith, (c .before .before .before .before .before .before .before .before) .pre .0 .between, little ((c .before .before .before .before .before .before .before .before) .args .offset-size) _ _ _ (omega arith) (c .before .entered-blocks .ensures))
 
 returns : tie.Need-returns
 returns c = λ i. record { start = (c .before .before .before .before .before .before .before .before) .args .b .start; size = (c .before .before .before .before .before .before .before .before) .args .b .size; fill = (c .before .before .before .before .before .before) .direct-block-header .ensures i + (c .before .before .before .before .before .before .before .before) .args .size; count = (c .before .before .before .before .before .before .before .before) .args .s .count + 1; allocated = (c .before .before .before .before .before .before .before .before) .args .s .allocated + (c .before .before .before .before .before .before .before .before) .args .b .size; used = (c .before .before .before .before .before .before .before .before) .args .s .used + (c .before .before .before .before .before .before .before .before) .args .size; indirect = (c .before .before .before .before .before .before .before .before) .args .s .indirect + c .before .entered-blocks .ensures i }

@@ -15,7 +15,7 @@ add-open-from-2 : tie.Need-add-open-from-2
 add-open-from-2 c = omega (arith, c .before .direct-block-header .ensures, size-fits ((c .before .before) .args .offset-size) ((c .before .before) .args .size) (omega arith) ((c .before .before) .pre .1))
 
 open-from-requires : tie.Need-open-from-requires
-open-from-requires c κs = ((c .before .before) .pre .0 .heap, omega (arith, c .before .direct-block-header .ensures, size-fits ((c .before .before) .args .offset-size) ((c .before .before) .args .size) (omega arith) ((c .before .before) .pre .1)))
+open-from-requires c κs = (omega (arith, (c .before .before) .pre .0 .heap), omega (arith, c .before .direct-block-header .ensures, size-fits ((c .before .before) .args .offset-size) ((c .before .before) .args .size) (omega arith) ((c .before .before) .pre .1)))
 
 enum-known-b : tie.Need-enum-known-b
 enum-known-b c = search needs

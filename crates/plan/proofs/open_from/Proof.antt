@@ -25,14 +25,14 @@ loop-holds : tie.Need-loop-holds Inv-loop μ-loop
 loop-holds c = (c .before .pre .0, c .span-of .ensures, refl)
 
 locate-requires : tie.Need-locate-requires Inv-loop μ-loop
-locate-requires c κs = c .loop-test .taken
+locate-requires c κs = omega (arith, c .loop-test .taken)
 
 returns : tie.Need-returns Inv-loop μ-loop
-returns c = sym ((c .before .before .before .before) .loop .inv .2 ∙ open-here fixed _ _ ((c .before .before .before) .loop-test .taken) (subst (λ (s : Slot). (c .before .before .before .before .before .before) .args .need ≤ s .size) ((c .before .before) .locate .ensures) (c .if1 .taken)) ∙ ap At (sym ((c .before .before) .locate .ensures)))
+returns c = sym ((c .before .before .before .before) .loop .inv .2 ∙ open-here fixed _ _ (omega (arith, (c .before .before .before) .loop-test .taken)) (subst (λ (s : Slot). (c .before .before .before .before .before .before) .args .need ≤ s .size) ((c .before .before) .locate .ensures) (c .if1 .taken)) ∙ ap At (sym ((c .before .before) .locate .ensures)))
 
 jump : (c : tie.After-struct-known2 Inv-loop μ-loop)
     → Jumped ((c .before .before .before .before .before .before .before) .args .need) ((c .before .before .before .before .before) .loop .from) ((c .before .before .before .before .before .before) .span-of .result) ((c .before .before .before) .locate .result .start + (c .before .before .before) .locate .result .size)
-jump c = jumped _ _ _ ((c .before .before .before) .locate .result) ((c .before .before .before .before .before .before) .span-of .ensures) ((c .before .before .before .before .before .before .before) .pre .1) ((c .before .before .before) .locate .ensures) ((c .before .before .before .before) .loop-test .taken) (c .before .if1 .left)
+jump c = jumped _ _ _ ((c .before .before .before) .locate .result) ((c .before .before .before .before .before .before) .span-of .ensures) ((c .before .before .before .before .before .before .before) .pre .1) ((c .before .before .before) .locate .ensures) (omega (arith, (c .before .before .before .before) .loop-test .taken)) (c .before .if1 .left)
 
 add-from : tie.Need-add-from Inv-loop μ-loop
 add-from c = omega (arith, jump c .sum)

@@ -54,10 +54,10 @@ enum-known-next : tie.Need-enum-known-next Inv-loop μ-loop
 enum-known-next c = search needs
 
 mul-offsets : tie.Need-mul-offsets Inv-loop μ-loop
-mul-offsets c = omega (arith, (c .before .before .before .before .before) .if1 .left, (c .before .before .before .before .before .before .before .before .before .before .before .before .before .before .before .before) .good .0 .1)
+mul-offsets c = omega (arith, next-later ((c .before .before .before .before .before .before .before .before .before .before .before .before .before .before .before .before) .args .offset-size) ((c .before .before .before .before .before .before .before .before .before .before .before .before .before .before .before .before) .args .sizes .now) ((c .before .before .before .before .before .before .before .before .before .before .before) .loop .s) ((c .before .before .before .before .before .before .before .before .before .before .before) .loop .i) ((c .before .before .before .before .before .before .before .before .before) .fill-offsets .result) ((c .before .before .before .before .before .before .before .before .before) .fill-offsets .ensures .0), (c .before .before .before .before .before) .if1 .left, (c .before .before .before .before .before .before .before .before .before .before .before .before .before .before .before .before) .good .0 .1)
 
 slice-write-offsets : tie.Need-slice-write-offsets Inv-loop μ-loop
-slice-write-offsets c = omega (arith, (c .before .before .before .before .before) .if1 .left, after ((c .before .before .before .before .before .before .before .before .before)) .olen, (c .before .before .before .before .before .before .before .before .before .before .before .before .before .before .before .before) .pre .1 .0 .0)
+slice-write-offsets c = omega (arith, next-later ((c .before .before .before .before .before .before .before .before .before .before .before .before .before .before .before .before) .args .offset-size) ((c .before .before .before .before .before .before .before .before .before .before .before .before .before .before .before .before) .args .sizes .now) ((c .before .before .before .before .before .before .before .before .before .before .before) .loop .s) ((c .before .before .before .before .before .before .before .before .before .before .before) .loop .i) ((c .before .before .before .before .before .before .before .before .before) .fill-offsets .result) ((c .before .before .before .before .before .before .before .before .before) .fill-offsets .ensures .0), (c .before .before .before .before .before) .if1 .left, after ((c .before .before .before .before .before .before .before .before .before)) .olen, (c .before .before .before .before .before .before .before .before .before .before .before .before .before .before .before .before) .pre .1 .0 .0)
 
 mul-blocks : tie.Need-mul-blocks Inv-loop μ-loop
 mul-blocks c = omega (arith, after ((c .before .before .before .before .before .before .before .before .before)) .few, (c .before .before .before .before .before) .if1 .left, (c .before .before .before .before .before .before .before .before .before .before .before .before .before .before .before .before) .good .0 .1)
