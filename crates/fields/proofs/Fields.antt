@@ -8,8 +8,8 @@ use native.Mathlib.Omega.{arith}
 use lib.ListN.{length, replicate}
 use lib.Dec.{leb, eqb}
 use borrow.Author.Tests.{le-leb, lt-leb, leb-true, leb-false, eqb-true, eqb-false, ne-eqb}
-use Rattle.fields.specs.LittleEndian.{le, put}
-use Rattle.fields.specs.Fields.{legal, lenChecked, fieldAt, offsetAt, storeChecked, putIf, offsetStored, undefStored}
+use Rattle.fields.specs.LittleEndian.{le, leAt, put}
+use Rattle.fields.specs.Fields.{legal, lenChecked, ifPassed, fieldAt, offsetAt, storeChecked, putIf, offsetStored, undefStored}
 use Rattle.fields.specs.declared.bytes.Checked.{Checked}
 use Rattle.fields.specs.declared.bytes.Checked.the-variants.{Passed, Refused as NotPassed}
 use Rattle.fields.specs.declared.bytes.Field.the-variants.{Value}
@@ -63,6 +63,31 @@ passed false e h = let z : _≡_ {A = ℕ} 0 1 = cc in absurd (omega arith)
 pub len-within : (s : List ℕ) (p n : ℕ) → lenChecked s p n ≡ Passed → p + n ≤ length s
 unfolding lenChecked
 len-within s p n h = leb-true (p + n) (length s) (passed (leb (p + n) (length s)) _ h)
+
+-- what is known where a number is read
+pub record Readable (s : List ℕ) (p w v : ℕ) : Type 0 where
+  pub width : legal w ≡ true
+  pub room : p + w ≤ length s
+  pub here : v ≡ leAt s p w
+
+if-value : (t : Checked) (v x : ℕ) → ifPassed t v ≡ Value x → (t ≡ Passed) × (x ≡ v)
+if-value Passed v x h = (refl, cc)
+if-value (NotPassed e) v x h = let z : _≡_ {A = ℕ} 0 1 = cc in absurd (omega arith)
+
+pub offset-readable : (s : List ℕ) (p w v : ℕ) → offsetAt s p w ≡ Value v → Readable s p w v
+unfolding offsetAt fieldAt
+offset-readable s p w v h = by (legal w) refl
+  where
+    by : (t : Bool) → legal w ≡ t → Readable s p w v
+    by true e =
+        let k = if-value (lenChecked s p w) (leAt s p w) v (rw e at h) in
+        record { width = e; room = len-within s p w (k .0); here = k .1 }
+    by false e = let z : _≡_ {A = ℕ} 0 1 = cc (rw e at h) in absurd (omega arith)
+
+-- a number of a right width with room is read
+pub offset-read : (s : List ℕ) (p w : ℕ) → legal w ≡ true → p + w ≤ length s → offsetAt s p w ≡ Value (leAt s p w)
+unfolding offsetAt fieldAt lenChecked
+offset-read s p w h l = rw (h, le-leb (p + w) (length s) l)
 
 -- what is known where a store is not refused
 pub record Storable (n p w : ℕ) : Type 0 where

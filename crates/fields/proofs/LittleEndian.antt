@@ -22,6 +22,11 @@ unfolding value
 value-append [] cs = omega arith
 value-append (b ∷ bs) cs = rw (value-append bs cs, pow-byte (length bs)) (omega arith)
 
+pub value-lt : (bs : List ℕ) → ((j : ℕ) → getD bs j 0 < 256) → value bs < 2 ^ (8 * length bs)
+unfolding value
+value-lt [] h = omega arith
+value-lt (b ∷ bs) h = omega (arith, h 0, value-lt bs (λ j. h (suc j)), pow-byte (length bs))
+
 -- i bytes, then j bytes
 pub leAt-add : (i j : ℕ) (s : List ℕ) (p : ℕ) → p + i ≤ length s → leAt s p (i + j) ≡ leAt s p i + leAt s (p + i) j * 2 ^ (8 * i)
 unfolding leAt

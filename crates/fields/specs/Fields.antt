@@ -35,6 +35,17 @@ abbrev pub ifPassed : Checked → ℕ → Field
 ifPassed Passed v = Value v
 ifPassed (NotPassed e) v = Refused e
 
+module _ {A : Type 0} where
+  -- what follows a test, and what its refusal gives
+  abbrev pub afterCheck : Checked → (FormatError → A) → A → A
+  afterCheck Passed stop next = next
+  afterCheck (NotPassed e) stop next = stop e
+
+  -- what follows a number that was read, and what its refusal gives
+  abbrev pub afterField : Field → (FormatError → A) → (ℕ → A) → A
+  afterField (Value v) stop next = next v
+  afterField (Refused e) stop next = stop e
+
 -- the number of w bytes at p; e where w is no width; 1 where the bytes end too early
 unfoldable pub fieldAt : List ℕ → ℕ → ℕ → FormatError → Field
 fieldAt s p w e = cond (legal w) (ifPassed (lenChecked s p w) (leAt s p w)) (Refused e)

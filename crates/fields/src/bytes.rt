@@ -56,7 +56,7 @@ impl Field {
 }
 
 // Whether `needed` bytes stand at `pos` of `lent` bytes. No sum is formed that could wrap.
-fn has_room(lent: usize, pos: usize, needed: usize) -> bool
+pub fn has_room(lent: usize, pos: usize, needed: usize) -> bool
     ensures { λ r. ⌜ r ≡ leb (pos + needed) lent ⌝ }
 {
     if pos <= lent {
@@ -67,7 +67,7 @@ fn has_room(lent: usize, pos: usize, needed: usize) -> bool
 }
 
 // The sum, or 2^64 - 1 where it is above.
-fn saturating_add(a: u64, b: u64) -> u64
+pub fn saturating_add(a: u64, b: u64) -> u64
     ensures { λ r. ⌜ r ≡ saturated (a + b) ⌝ }
 {
     if a <= u64::MAX - b { a + b } else { u64::MAX }

@@ -1,0 +1,33 @@
+-- Reading a managed object in the original's order: filter, ID, undefined root, then the blocks.
+use Prim.Native.Nat.{ℕ}
+use mathlib.Core.List.{List}
+use mathlib.Core.Bool.{cond}
+use lib.Dec.{ltb, eqb}
+use Rattle.fields.specs.Fields.{undefinedAddr}
+use Rattle.fields.specs.declared.error.FormatError.the-variants.{UnexpectedEof, UnsupportedFilteredHeapObject}
+use Rattle.heap_blocks.specs.Blocks.{directAt, walkFrom}
+use Rattle.heap_blocks.specs.declared.Found.{Found}
+use Rattle.heap_blocks.specs.declared.Found.the-variants.{Refused}
+use Rattle.fractal_heap.specs.declared.header.FractalHeapHeader.{FractalHeapHeader}
+use Rattle.fractal_heap.specs.declared.id.ManagedId.{ManagedId}
+use Rattle.fractal_heap.specs.declared.id.ManagedId.the-variants.{Decoded, Refused as NoId}
+use Rattle.fractal_heap.specs.Header.{tableOf}
+use Rattle.fractal_heap.specs.Id.{decodedId}
+
+-- len bytes at heap offset t: no rows mean that the root is a direct block, at heap offset 0
+unfoldable pub rootAt : FractalHeapHeader → List ℕ → ℕ → ℕ → ℕ → Found
+rootAt h s t len w =
+    cond (undefinedAddr (h .«root_block_address») w) (Refused (UnexpectedEof 1 0))
+    (cond (eqb (h .«current_rows_in_root_indirect_block») 0)
+    (directAt s (h .«root_block_address») 0 t len)
+    (walkFrom (tableOf h) s w t len 64 (h .«root_block_address») (h .«current_rows_in_root_indirect_block») 0))
+
+abbrev pub afterId : ManagedId → (ℕ → ℕ → Found) → Found
+afterId (Decoded offset len) next = next offset len
+afterId (NoId e) next = Refused e
+
+-- the object of a managed ID in the file s
+unfoldable pub managedAt : FractalHeapHeader → List ℕ → List ℕ → ℕ → Found
+managedAt h s id w =
+    cond (ltb 0 (h .«io_filter_encoded_length»)) (Refused UnsupportedFilteredHeapObject)
+    (afterId (decodedId (h .«max_heap_size») id) (λ t len. rootAt h s t len w))

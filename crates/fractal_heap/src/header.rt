@@ -1,0 +1,105 @@
+// The header's fields, and parsing them from a file.
+ghost use mathlib.Core.Path.{_≡_};
+ghost use mathlib.Core.Bool.{true};
+ghost use Prim.Native.Nat.{_+_, _*_, _≤_};
+ghost use lib.ListN.{length};
+ghost use Rattle.fields.specs.Fields.{legal};
+ghost use Rattle.header_layout.specs.Layout.{headerEnd};
+ghost use Rattle.fractal_heap.specs.Header.{headerFields, headerAt, parsedAnswer, tableOf};
+use fields::bytes::Checked;
+use fields::bytes::read_le;
+use fields::bytes::read_u16_le;
+use fields::bytes::read_u32_le;
+use fields::error::Answer;
+use fields::error::FormatError;
+use fields::error::refused;
+use header_layout::check_header;
+use heap_rows::DoublingTable;
+
+pub struct FractalHeapHeader {
+    pub heap_id_length: u16,
+    pub io_filter_encoded_length: u16,
+    pub max_managed_object_size: u32,
+    pub btree_huge_objects_address: u64,
+    pub table_width: u16,
+    pub starting_block_size: u64,
+    pub max_direct_block_size: u64,
+    pub max_heap_size: u16,
+    pub start_root_rows: u16,
+    pub root_block_address: u64,
+    pub current_rows_in_root_indirect_block: u16,
+    pub managed_objects_count: u64,
+}
+
+pub enum Parsed {
+    Header(FractalHeapHeader),
+    Refused(FormatError),
+}
+
+impl Parsed {
+    // The answer in numbers: a header has no two values of its own.
+    pub fn answer(self) -> Answer
+        ensures { λ r. ⌜ r ≡ parsedAnswer self ⌝ }
+    {
+        match self {
+            Parsed::Header(_) => Answer {
+                number: 0,
+                first: 0,
+                second: 0,
+            },
+            Parsed::Refused(e) => refused(e),
+        }
+    }
+}
+
+// The fields of a header that has passed its tests.
+fn read_fields(file: &[u8], at: usize, offset_size: u8, length_size: u8) -> FractalHeapHeader
+    requires { ⌜ legal «offset_size» ≡ true ⌝ }
+    requires { ⌜ legal «length_size» ≡ true ⌝ }
+    requires { ⌜ at + headerEnd «offset_size» «length_size» ≤ length (now file) ⌝ }
+    ensures { λ r. ⌜ r ≡ headerFields (now (file .entry)) at «offset_size» «length_size» ⌝ }
+{
+    let o = offset_size as usize;
+    let l = length_size as usize;
+    let table = at + (14 + 10 * l + 2 * o);
+    FractalHeapHeader {
+        heap_id_length: read_u16_le(file, at + 5),
+        io_filter_encoded_length: read_u16_le(file, at + 7),
+        max_managed_object_size: read_u32_le(file, at + 10),
+        btree_huge_objects_address: read_le(file, at + (14 + l), offset_size),
+        table_width: read_u16_le(file, table),
+        starting_block_size: read_le(file, table + 2, length_size),
+        max_direct_block_size: read_le(file, table + (2 + l), length_size),
+        max_heap_size: read_u16_le(file, table + (2 + 2 * l)),
+        start_root_rows: read_u16_le(file, table + (4 + 2 * l)),
+        root_block_address: read_le(file, table + (6 + 2 * l), offset_size),
+        current_rows_in_root_indirect_block: read_u16_le(file, table + (6 + 2 * l + o)),
+        managed_objects_count: read_le(file, at + (14 + 5 * l + 2 * o), length_size),
+    }
+}
+
+impl FractalHeapHeader {
+    // The header at `offset` of the file.
+    pub fn parse(file: &[u8], offset: usize, offset_size: u8, length_size: u8) -> Parsed
+        ensures { λ r. ⌜ r ≡ headerAt (now (file .entry)) offset «offset_size» «length_size» ⌝ }
+    {
+        match check_header(file, offset, offset_size, length_size) {
+            Checked::Refused(e) => Parsed::Refused(e),
+            Checked::Passed => {
+                Parsed::Header(read_fields(file, offset, offset_size, length_size))
+            }
+        }
+    }
+
+    // The fields that shape the heap.
+    pub fn table(self) -> DoublingTable
+        ensures { λ r. ⌜ r ≡ tableOf self ⌝ }
+    {
+        DoublingTable {
+            table_width: self.table_width,
+            starting_block_size: self.starting_block_size,
+            max_direct_block_size: self.max_direct_block_size,
+            max_heap_size: self.max_heap_size,
+        }
+    }
+}

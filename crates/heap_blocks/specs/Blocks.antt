@@ -1,0 +1,93 @@
+-- Where an object of a heap lies, from the root block down, as the original walks. HDF5 File Format
+-- Specification, Fractal Heap: the entries of an indirect block stand row by row; an undefined address
+-- is a block that is not there. w is the size of offsets, t the wanted heap offset.
+use Prim.Native.Nat.{ℕ, zero, suc, _+_, _-_, _*_, _^_, _/_}
+use mathlib.Core.List.{List}
+use mathlib.Core.Bool.{Bool, cond, not, _&&_}
+use lib.ListN.{length, drop}
+use lib.Dec.{leb, ltb, eqb}
+use Rattle.fields.specs.LittleEndian.{leAt}
+use Rattle.fields.specs.Fields.{saturated, lenChecked, offsetAt, undefinedAddr, afterCheck, afterField}
+use Rattle.fields.specs.Refusals.{answer, refusal}
+use Rattle.fields.specs.declared.error.Answer.{Answer}
+use Rattle.fields.specs.declared.error.FormatError.the-variants.{UnexpectedEof, InvalidFractalHeapSignature, OffsetOverflow, DepthExceeded}
+use Rattle.heap_rows.specs.declared.DoublingTable.{DoublingTable}
+use Rattle.heap_rows.specs.Rows.{blockSize, directRows, sizeToRows, slotSize}
+use Rattle.heap_blocks.specs.declared.RowScan.{RowScan}
+use Rattle.heap_blocks.specs.declared.RowScan.the-variants.{Hit, Past, Refused as NoRow}
+use Rattle.heap_blocks.specs.declared.HeapChild.{HeapChild}
+use Rattle.heap_blocks.specs.declared.HeapChild.the-variants.{Direct, Indirect, Missing, Refused as NoChild}
+use Rattle.heap_blocks.specs.declared.Found.{Found}
+use Rattle.heap_blocks.specs.declared.Found.the-variants.{At, Refused}
+
+-- a block at address a that spans the offsets from start to end is there and holds the target
+unfoldable pub holdsOffset : ℕ → ℕ → ℕ → ℕ → ℕ → Bool
+holdsOffset a w start end t = leb start t && (ltb t end && not (undefinedAddr a w))
+
+-- n slots of a row, each of this size; their entries begin at p, their offsets at start
+unfoldable pub rowScan : List ℕ → ℕ → ℕ → ℕ → ℕ → ℕ → ℕ → RowScan
+rowScan s w size t zero p start = Past p start
+rowScan s w size t (suc n) p start =
+    afterField (offsetAt s p w) NoRow (λ a.
+    cond (holdsOffset a w start (saturated (start + size)) t) (Hit a start)
+    (rowScan s w size t n (p + w) (saturated (start + size))))
+
+-- the child at address a in a row, whose offsets begin at start
+unfoldable pub childOf : DoublingTable → ℕ → ℕ → ℕ → HeapChild
+childOf table row a start =
+    cond (ltb row (directRows table)) (Direct a (blockSize table row) start)
+    (Indirect a (sizeToRows table (blockSize table row)) start)
+
+abbrev pub afterRow : RowScan → (ℕ → ℕ → HeapChild) → (ℕ → ℕ → HeapChild) → HeapChild
+afterRow (Hit a start) found next = found a start
+afterRow (Past p start) found next = next p start
+afterRow (NoRow e) found next = NoChild e
+
+-- n rows from this row on, whose entries begin at p and whose offsets begin at start
+unfoldable pub childScan : DoublingTable → List ℕ → ℕ → ℕ → ℕ → ℕ → ℕ → ℕ → HeapChild
+childScan table s w t zero row p start = Missing
+childScan table s w t (suc n) row p start =
+    afterRow (rowScan s w (slotSize table row) t (table .«table_width») p start) (childOf table row)
+    (λ q end. childScan table s w t n (row + 1) q end)
+
+-- where the entries of an indirect block begin: after signature, version, header address, block offset
+unfoldable pub entriesPlace : DoublingTable → ℕ → ℕ
+entriesPlace table w = 5 + w + (table .«max_heap_size» + 7) / 8
+
+-- the child in an indirect block of n rows, whose bytes s begins with: FHIB, then the entries
+unfoldable pub childIn : DoublingTable → List ℕ → ℕ → ℕ → ℕ → ℕ → HeapChild
+childIn table s n start t w =
+    afterCheck (lenChecked s 0 4) NoChild
+    (cond (eqb (leAt s 0 4) 0x42494846) (childScan table s w t n 0 (entriesPlace table w) start)
+    (NoChild InvalidFractalHeapSignature))
+
+-- the same at address a of the file
+unfoldable pub childAt : DoublingTable → List ℕ → ℕ → ℕ → ℕ → ℕ → ℕ → HeapChild
+childAt table s a n start t w =
+    afterCheck (lenChecked s a 4) NoChild (childIn table (drop a s) n start t w)
+
+-- len bytes at t in the direct block at a that begins at heap offset start
+unfoldable pub directAt : List ℕ → ℕ → ℕ → ℕ → ℕ → Found
+directAt s a start t len =
+    cond (leb (t - start) (2 ^ 64 - 1 - a))
+    (afterCheck (lenChecked s (a + (t - start)) len) Refused (At (a + (t - start)) len))
+    (Refused (OffsetOverflow a (t - start)))
+
+abbrev pub afterChild : HeapChild → (ℕ → ℕ → Found) → (ℕ → ℕ → ℕ → Found) → Found → Found
+afterChild (Direct a size start) direct deeper none = direct a start
+afterChild (Indirect a n start) direct deeper none = deeper a n start
+afterChild Missing direct deeper none = none
+afterChild (NoChild e) direct deeper none = Refused e
+
+-- the same below an indirect block of n rows at a that begins at heap offset start, with d blocks to go
+unfoldable pub walkFrom : DoublingTable → List ℕ → ℕ → ℕ → ℕ → ℕ → ℕ → ℕ → ℕ → Found
+walkFrom table s w t len zero a n start = Refused DepthExceeded
+walkFrom table s w t len (suc d) a n start =
+    afterChild (childAt table s a n start t w) (λ b o. directAt s b o t len)
+    (λ b m o. walkFrom table s w t len d b m o)
+    (Refused (UnexpectedEof (saturated (t + len)) (length s)))
+
+-- an object: 0, position and length, or the refusal
+abbrev pub foundAnswer : Found → Answer
+foundAnswer (At p len) = answer 0 p len
+foundAnswer (Refused e) = refusal e

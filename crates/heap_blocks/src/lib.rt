@@ -1,0 +1,298 @@
+// Finding an object's bytes in the blocks of a heap: the child of an indirect block that holds a heap
+// offset, the walk from the root down, and the place in a direct block. Block checksums are not tested.
+ghost use mathlib.Core.Path.{_≡_};
+ghost use mathlib.Core.Bool.{_&&_};
+ghost use Prim.Native.Nat.{_+_, _*_, _≤_};
+ghost use lib.Dec.{leb};
+ghost use lib.ListN.{length, drop};
+ghost use Rattle.fields.specs.Fields.{legal};
+ghost use Rattle.heap_blocks.specs.Blocks.{holdsOffset, rowScan, childOf, childScan, childIn, childAt, directAt, walkFrom, foundAnswer};
+use fields::bytes::Checked;
+use fields::bytes::Field;
+use fields::bytes::ensure_len;
+use fields::bytes::has_room;
+use fields::bytes::is_width;
+use fields::bytes::read_offset;
+use fields::bytes::read_u32_le;
+use fields::bytes::saturating_add;
+use fields::convert::is_undefined_addr;
+use fields::convert::to_usize;
+use fields::error::Answer;
+use fields::error::FormatError;
+use fields::error::refused;
+use heap_rows::DoublingTable;
+use heap_rows::saturating_mul;
+use heap_rows::saturating_sub;
+
+// What a row says of the wanted offset: the address of the slot that holds it and where the slot
+// begins, or where the next row's entries and offsets begin.
+pub enum RowScan {
+    Hit(u64, u64),
+    Past(usize, u64),
+    Refused(FormatError),
+}
+
+// The child of an indirect block that holds the wanted offset; the last number is where it begins.
+pub enum HeapChild {
+    Direct(u64, u64, u64), // address, block size, heap offset
+    Indirect(u64, u64, u64), // address, rows, heap offset
+    Missing,
+    Refused(FormatError),
+}
+
+// Where an object's bytes are: position and length.
+pub enum Found {
+    At(u64, u64),
+    Refused(FormatError),
+}
+
+impl Found {
+    // The answer in numbers: position and length.
+    pub fn answer(self) -> Answer
+        ensures { λ r. ⌜ r ≡ foundAnswer self ⌝ }
+    {
+        match self {
+            Found::At(position, length) => Answer {
+                number: 0,
+                first: position,
+                second: length,
+            },
+            Found::Refused(e) => refused(e),
+        }
+    }
+}
+
+// Whether a block at `addr` that spans the offsets from `start` to `end` is there and holds the target.
+fn holds(addr: u64, offset_size: u8, start: u64, end: u64, target: u64) -> bool
+    ensures { λ r. ⌜ r ≡ holdsOffset addr «offset_size» start end target ⌝ }
+{
+    if target < start {
+        return false;
+    }
+    if target < end {
+        !is_undefined_addr(addr, offset_size)
+    } else {
+        false
+    }
+}
+
+// The slots of a row one by one.
+fn scan_slots(
+    block: &[u8],
+    at: usize,
+    offset_size: u8,
+    size: u64,
+    start: u64,
+    target: u64,
+    width: u16,
+) -> RowScan
+    ensures { λ r. ⌜ r ≡ rowScan (now (block .entry)) «offset_size» size target width at start ⌝ }
+{
+    let mut pos = at;
+    let mut offset = start;
+    let mut column: u16 = 0;
+    while column < width {
+        match read_offset(block, pos, offset_size) {
+            Field::Refused(e) => {
+                return RowScan::Refused(e);
+            }
+            Field::Value(addr) => {
+                let end = saturating_add(offset, size);
+                if holds(addr, offset_size, offset, end, target) {
+                    return RowScan::Hit(addr, offset);
+                }
+                pos = pos + offset_size as usize;
+                offset = end;
+                column = column + 1;
+            }
+        }
+    }
+    RowScan::Past(pos, offset)
+}
+
+fn entries_size(offset_size: u8, width: u16) -> usize
+    ensures { λ r. ⌜ r ≡ width * «offset_size» ⌝ }
+{
+    (width as usize) * (offset_size as usize)
+}
+
+// Whether a row ends at or before the target, and all its entries are there to be passed over.
+fn is_before(lent: usize, at: usize, offset_size: u8, end: u64, target: u64, width: u16) -> bool
+    ensures { λ r. ⌜ r ≡ (leb end target && (legal «offset_size» && leb (at + width * «offset_size») lent)) ⌝ }
+{
+    if end > target {
+        return false;
+    }
+    if is_width(offset_size) {
+        has_room(lent, at, entries_size(offset_size, width))
+    } else {
+        false
+    }
+}
+
+// A row: passed at once where it ends at or before the target.
+fn scan_row(
+    block: &[u8],
+    at: usize,
+    offset_size: u8,
+    size: u64,
+    start: u64,
+    target: u64,
+    width: u16,
+) -> RowScan
+    ensures { λ r. ⌜ r ≡ rowScan (now (block .entry)) «offset_size» size target width at start ⌝ }
+{
+    let end = saturating_add(start, saturating_mul(size, width));
+    if is_before(block.len(), at, offset_size, end, target, width) {
+        RowScan::Past(at + entries_size(offset_size, width), end)
+    } else {
+        scan_slots(block, at, offset_size, size, start, target, width)
+    }
+}
+
+fn child_at_row(table: DoublingTable, row: u64, addr: u64, offset: u64) -> HeapChild
+    ensures { λ r. ⌜ r ≡ childOf table row addr offset ⌝ }
+{
+    let size = table.block_size_for_row(row);
+    if row < table.max_direct_rows() {
+        HeapChild::Direct(addr, size, offset)
+    } else {
+        HeapChild::Indirect(addr, table.size_to_rows(size), offset)
+    }
+}
+
+fn scan_rows(
+    table: DoublingTable,
+    block: &[u8],
+    at: usize,
+    nrows: u64,
+    start: u64,
+    target: u64,
+    offset_size: u8,
+) -> HeapChild
+    ensures { λ r. ⌜ r ≡ childScan table (now (block .entry)) «offset_size» target nrows 0 at start ⌝ }
+{
+    let width = table.table_width;
+    let mut pos = at;
+    let mut offset = start;
+    let mut row: u64 = 0;
+    while row < nrows {
+        let size = table.slot_size(row);
+        match scan_row(block, pos, offset_size, size, offset, target, width) {
+            RowScan::Hit(addr, begin) => {
+                return child_at_row(table, row, addr, begin);
+            }
+            RowScan::Past(next, end) => {
+                pos = next;
+                offset = end;
+                row = row + 1;
+            }
+            RowScan::Refused(e) => {
+                return HeapChild::Refused(e);
+            }
+        }
+    }
+    HeapChild::Missing
+}
+
+// The child that holds the target, of the block whose bytes these begin with. Filtered heaps have been
+// refused before: their entries are longer.
+fn find_child_for_offset(
+    table: DoublingTable,
+    block: &[u8],
+    nrows: u64,
+    start: u64,
+    target: u64,
+    offset_size: u8,
+) -> HeapChild
+    ensures { λ r. ⌜ r ≡ childIn table (now (block .entry)) nrows start target «offset_size» ⌝ }
+{
+    match ensure_len(block, 0, 4) {
+        Checked::Refused(e) => HeapChild::Refused(e),
+        Checked::Passed => {
+            if read_u32_le(block, 0) != 0x4249_4846 {
+                return HeapChild::Refused(FormatError::InvalidFractalHeapSignature);
+            }
+            let offset_bytes = (table.max_heap_size as usize + 7) / 8;
+            let at = 5 + offset_size as usize + offset_bytes;
+            scan_rows(table, block, at, nrows, start, target, offset_size)
+        }
+    }
+}
+
+// The child of the indirect block at `addr`, which is given the file from there on.
+fn child_of_block(
+    table: DoublingTable,
+    file: &[u8],
+    addr: u64,
+    nrows: u64,
+    start: u64,
+    target: u64,
+    offset_size: u8,
+) -> HeapChild
+    ensures { λ r. ⌜ r ≡ childAt table (now (file .entry)) addr nrows start target «offset_size» ⌝ }
+{
+    let a = to_usize(addr);
+    match ensure_len(file, a, 4) {
+        Checked::Refused(e) => HeapChild::Refused(e),
+        Checked::Passed => {
+            find_child_for_offset(table, &file[a..], nrows, start, target, offset_size)
+        }
+    }
+}
+
+// An object of `length` bytes at heap offset `target`, in the direct block at `addr` that begins at heap
+// offset `start`. The offset size is of no account here.
+pub fn read_from_direct_block(file: &[u8], addr: u64, start: u64, target: u64, length: u64) -> Found
+    ensures { λ r. ⌜ r ≡ directAt (now (file .entry)) addr start target length ⌝ }
+{
+    let distance = saturating_sub(target, start);
+    if distance <= u64::MAX - addr {
+        let pos = addr + distance;
+        match ensure_len(file, to_usize(pos), to_usize(length)) {
+            Checked::Passed => Found::At(pos, length),
+            Checked::Refused(e) => Found::Refused(e),
+        }
+    } else {
+        Found::Refused(FormatError::OffsetOverflow(addr, distance))
+    }
+}
+
+// The same, below the indirect root block at `addr`: child by child, through at most 64 blocks.
+pub fn read_from_indirect_block(
+    table: DoublingTable,
+    file: &[u8],
+    addr: u64,
+    nrows: u64,
+    target: u64,
+    length: u64,
+    offset_size: u8,
+) -> Found
+    ensures { λ r. ⌜ r ≡ walkFrom table (now (file .entry)) «offset_size» target length 64 addr nrows 0 ⌝ }
+{
+    let mut block = addr;
+    let mut rows = nrows;
+    let mut start: u64 = 0;
+    let mut depth: u64 = 64;
+    while depth > 0 {
+        match child_of_block(table, file, block, rows, start, target, offset_size) {
+            HeapChild::Direct(child, _, offset) => {
+                return read_from_direct_block(file, child, offset, target, length);
+            }
+            HeapChild::Indirect(child, n, offset) => {
+                block = child;
+                rows = n;
+                start = offset;
+                depth = depth - 1;
+            }
+            HeapChild::Missing => {
+                let end = saturating_add(target, length);
+                return Found::Refused(FormatError::UnexpectedEof(end, file.len() as u64));
+            }
+            HeapChild::Refused(e) => {
+                return Found::Refused(e);
+            }
+        }
+    }
+    Found::Refused(FormatError::DepthExceeded)
+}

@@ -1,0 +1,37 @@
+-- The rows of an indirect block under the numbers of any header, as the original computes them.
+-- HDF5 File Format Specification, Fractal Heap: the doubling table. Every sum and product is cut to the
+-- largest 64-bit number.
+use Prim.Native.Nat.{ℕ, zero, suc, _+_, _-_, _*_, _^_}
+use mathlib.Core.Bool.{cond}
+use lib.Count.{leadingZeros}
+use lib.Dec.{ltb}
+use Rattle.fields.specs.Fields.{saturated}
+use Rattle.heap_rows.specs.declared.DoublingTable.{DoublingTable}
+
+-- the exponent of the largest power of two that is at most v, for v below 2 ^ 64; 0 of 0
+unfoldable pub log2 : ℕ → ℕ
+log2 v = 63 - leadingZeros 64 v
+
+-- the size of a block in a row: rows 0 and 1 have the starting size, each later row twice the one before
+unfoldable pub blockSize : DoublingTable → ℕ → ℕ
+blockSize t row =
+    cond (ltb (row - 1) 64) (saturated (t .«starting_block_size» * 2 ^ (row - 1))) (2 ^ 64 - 1)
+
+-- how many rows hold direct blocks
+unfoldable pub directRows : DoublingTable → ℕ
+directRows t = log2 (t .«max_direct_block_size») - log2 (t .«starting_block_size») + 2
+
+-- how many rows a block has that spans this many bytes
+unfoldable pub sizeToRows : DoublingTable → ℕ → ℕ
+sizeToRows t size =
+    log2 size - (log2 (t .«starting_block_size») + log2 (t .«table_width»)) + 1
+
+-- how many bytes the first rows span
+unfoldable pub heapSize : DoublingTable → ℕ → ℕ
+heapSize t zero = 0
+heapSize t (suc r) = saturated (heapSize t r + saturated (blockSize t r * t .«table_width»))
+
+-- how many bytes a slot of a row spans: a direct block's, or those of the nested block's rows
+unfoldable pub slotSize : DoublingTable → ℕ → ℕ
+slotSize t row =
+    cond (ltb row (directRows t)) (blockSize t row) (heapSize t (sizeToRows t (blockSize t row)))
