@@ -19,7 +19,7 @@ same-length : tie.Need-same-length
 same-length c = search needs
 
 returns : tie.Need-returns
-returns c = 
+returns c =
     let e = c .before .before .before .answer .ensures ∙ ap foundAnswer (c .before .before .before .before .object-in .ensures) in
     let s = c .before .before .before .before .before .before .before .before .before .args .slot .now in
     (c .before .before .put-answer .ensures .0 ∙ ap (slotNumber s) e, c .before .before .put-answer .ensures .1 ∙ ap (slotBytes s) e)

@@ -16,7 +16,7 @@ saturating-sub-requires : tie.Need-saturating-sub-requires
 saturating-sub-requires c κs = search needs
 
 add-result : tie.Need-add-result
-add-result c = omega (arith, c .saturating-sub .ensures, c .before .log2-floor2 .ensures, log2-le (c .before .before .before .args .self .«max_direct_block_size»))
+add-result c = omega (arith, c .saturating-sub .ensures, c .before .log2-floor2 .ensures, log2-le (c .before .before .before .args .self .«max_direct_block_size»), c .before .before .log2-floor .ensures, log2-le (c .before .before .before .args .self .«starting_block_size»))
 
 returns : tie.Need-returns
 unfolding directRows

@@ -1,30 +1,50 @@
--- The worked heaps: sizes and what is planned for them, at addresses of w bytes in lists of just enough places.
+-- The worked cases: sizes and what is planned for them, at addresses of w bytes in lists of just enough
+-- places; IDs and what they say; the rows of the fixed table, as planning and as the reader has them.
 use Prim.Native.Nat.{ℕ, _-_, _^_, _≤_, _<_, max}
 use mathlib.Core.Path.{_≡_}
 use mathlib.Core.List.{List, [], _∷_}
 use lib.ListN.{length}
 use Rattle.fields.specs.declared.error.FormatError.{FormatError}
-use Rattle.fields.specs.declared.error.FormatError.the-variants.{ObjectTooLarge}
+use Rattle.fields.specs.declared.error.FormatError.the-variants.{UnexpectedEof, ObjectTooLarge}
 use Rattle.table.specs.Table.{fixed, rowBits, rowOffset}
 use Rattle.plan.specs.declared.ManagedPlan.{ManagedPlan}
 use Rattle.plan.specs.declared.Planned.the-variants.{Accepted, Refused}
 use Rattle.plan.specs.Steps.{planOffsets, planStarts}
 use Rattle.plan.specs.Answer.{answer}
+use Rattle.heap_rows.specs.declared.DoublingTable.{DoublingTable}
+use Rattle.heap_rows.specs.Rows.{blockSize, directRows, sizeToRows, slotSize}
+use Rattle.heap_blocks.specs.declared.Found.{Found}
+use Rattle.heap_blocks.specs.declared.Found.the-variants.{At, Refused as NotFound}
+use Rattle.fractal_heap.specs.declared.id.ManagedId.the-variants.{Decoded}
+use Rattle.fractal_heap.specs.Id.{decodedId, tinyAt}
+
+-- the fixed geometry as a header has it
+abbrev pub fixedTable : DoublingTable
+fixedTable =
+    record { «table_width» = 4; «starting_block_size» = 1024; «max_direct_block_size» = 65536; «max_heap_size» = 40 }
 
 -- sizes with their offsets, block starts and plan; sizes that are refused; a direct row; the rows of an indirect
--- row's slots
+-- row's slots; a managed ID at some heap bits, with offset and length; a tiny ID of a heap with IDs of that
+-- length, and where its object is
 pub data Case : Type 0 where
   plans : ℕ → List ℕ → List ℕ → List ℕ → ManagedPlan → Case
   refuses : ℕ → List ℕ → FormatError → Case
   direct : ℕ → Case
   indirect : ℕ → ℕ → Case
+  decodes : ℕ → List ℕ → ℕ → ℕ → Case
+  tiny : ℕ → List ℕ → Found → Case
 
 abbrev pub Holds : Case → Type 0
 Holds (plans w xs os bs p) =
     (answer xs (length xs) (max 1 (length xs)) w ≡ Accepted p) × (planOffsets fixed w xs ≡ os) × (planStarts fixed w xs ≡ bs)
 Holds (refuses w xs e) = answer xs (length xs) (max 1 (length xs)) w ≡ Refused e
-Holds (direct r) = rowBits fixed r ≤ fixed .directBits
-Holds (indirect r n) = (fixed .directBits < rowBits fixed r) × (r - fixed .widthBits ≡ n) × (rowOffset fixed n ≡ 2 ^ rowBits fixed r)
+Holds (direct r) =
+    (rowBits fixed r ≤ fixed .directBits) × (r < directRows fixedTable) × (slotSize fixedTable r ≡ 2 ^ rowBits fixed r)
+Holds (indirect r n) =
+    (fixed .directBits < rowBits fixed r) × (r - fixed .widthBits ≡ n) × (rowOffset fixed n ≡ 2 ^ rowBits fixed r)
+    × (directRows fixedTable ≤ r) × (sizeToRows fixedTable (blockSize fixedTable r) ≡ n) × (slotSize fixedTable r ≡ 2 ^ rowBits fixed r)
+Holds (decodes bits id offset len) = decodedId bits id ≡ Decoded offset len
+Holds (tiny n id found) = tinyAt n id ≡ found
 
 -- the first case holds, and the rest
 pub record Both (P Q : Type 0) : Type 0 where
@@ -48,7 +68,8 @@ of count region rows place managed allocated free iterator = record {
   «allocation_iterator» = iterator;
 }
 
--- document 01's worked heaps 1 to 7 and 9, and the wrong turn: 1,003 then 1
+-- document 01's worked cases 1 to 9 (10 is `no-bytes` in the checksum's proofs), and the wrong turn, 1,003
+-- then 1; IDs at 64 and more heap bits; the empty tiny ID, and one of 18 bytes
 abbrev pub cases : List Case
 cases =
     plans 8 [] [] (0 ∷ []) (of 1 1024 0 0 1024 1024 1002 0)
@@ -60,7 +81,13 @@ cases =
     ∷ refuses 8 (65515 ∷ []) (ObjectTooLarge 0 65515)
     ∷ plans 8 (65514 ∷ 65514 ∷ 65514 ∷ 65514 ∷ 65514 ∷ []) (262166 ∷ 327702 ∷ 393238 ∷ 458774 ∷ 2359318 ∷ [])
     (262144 ∷ 327680 ∷ 393216 ∷ 458752 ∷ 2359296 ∷ []) (of 5 328332 11 278 4194304 327680 3858638 2424832)
+    ∷ decodes 40 (0x00 ∷ 0x16 ∷ 0x20 ∷ 0x00 ∷ 0x00 ∷ 0x00 ∷ 0xEB ∷ 0x03 ∷ []) 8214 1003
     ∷ direct 7
     ∷ indirect 8 6
     ∷ plans 8 (1003 ∷ 1 ∷ []) (8214 ∷ 9217 ∷ []) (8192 ∷ []) (of 1 2166 3 0 16384 2048 15116 10240)
+    ∷ decodes 64 (0 ∷ 1 ∷ 2 ∷ 0 ∷ 0 ∷ 0 ∷ 0 ∷ 0 ∷ 0 ∷ 9 ∷ []) 513 0
+    ∷ decodes 65535 (0 ∷ 1 ∷ 2 ∷ []) 513 0
+    ∷ tiny 8 [] (NotFound (UnexpectedEof 1 0))
+    ∷ tiny 18 (0x29 ∷ 0x57 ∷ 0xBF ∷ 0x2A ∷ 0xBE ∷ 0x47 ∷ 0xD2 ∷ 0x9D ∷ 0x81 ∷ 0xAB ∷ 0xFA ∷ 0 ∷ 0 ∷ 0 ∷ 0 ∷ 0 ∷ 0 ∷ 0 ∷ []) (NotFound (UnexpectedEof 2394 18))
+    ∷ tiny 8 (0x22 ∷ 7 ∷ 8 ∷ 9 ∷ []) (At 1 3)
     ∷ []

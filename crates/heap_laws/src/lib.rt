@@ -1,0 +1,1 @@
+// Theorems about reading; nothing runs here.

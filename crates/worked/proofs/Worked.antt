@@ -1,0 +1,40 @@
+-- The worked cases hold of the definitions.
+use mathlib.Core.Path.{refl}
+use native.Mathlib.Omega.{arith}
+use Rattle.fields.specs.Fields.{legal, saturated}
+use Rattle.table.specs.Table.{rowBits, rowOffset, rowIn, rowOf, maxRows, coveringIn, covering}
+use Rattle.table.specs.Slots.{slotStart, slotIn, slotBits, slotAt, enteredIn, entered}
+use Rattle.table.specs.Sizes.{offsetBytes, directHeader, maxManaged, indirectSize}
+use Rattle.table.specs.Capacity.{sum, blockCapacity, capacities, capacity}
+use Rattle.plan.specs.Steps.{openIn, openAt, stepOf, runFrom, offsetsFrom, startsFrom, run, planOffsets, planStarts}
+use Rattle.plan.specs.Answer.{closed, rootRows, totals, sizesChecked, placesChecked, widthChecked, inputChecked, answer}
+use Rattle.fields.specs.LittleEndian.{value, leAt}
+use lib.Count.{leadingZeros}
+use Rattle.heap_rows.specs.Rows.{log2, blockSize, directRows, sizeToRows, heapSize, slotSize}
+use Rattle.fractal_heap.specs.Id.{typeOf, splitId, decodedId, tinyIn, tinyAt}
+use Rattle.worked.specs.Cases.{Both, All, cases}
+
+both : {P Q : Type 0} → P → Q → Both P Q
+both p q = record { first = p; rest = q }
+
+pub worked : All cases
+unfolding legal saturated value leAt leadingZeros log2 blockSize directRows sizeToRows heapSize slotSize typeOf splitId decodedId tinyIn tinyAt rowBits rowOffset rowIn rowOf maxRows coveringIn covering slotStart slotIn slotBits slotAt enteredIn entered offsetBytes directHeader maxManaged indirectSize sum blockCapacity capacities capacity openIn openAt stepOf runFrom offsetsFrom startsFrom run planOffsets planStarts closed rootRows totals sizesChecked placesChecked widthChecked inputChecked answer
+worked =
+    both (refl, refl, refl)
+    (both (refl, refl, refl)
+    (both (refl, refl, refl)
+    (both (refl, refl, refl)
+    (both (refl, refl, refl)
+    (both (refl, refl, refl)
+    (both refl
+    (both (refl, refl, refl)
+    (both refl
+    (both (omega arith, omega arith, refl)
+    (both (omega arith, refl, refl, omega arith, refl, refl)
+    (both (refl, refl, refl)
+    (both refl
+    (both refl
+    (both refl
+    (both refl
+    (both refl
+    refl))))))))))))))))
