@@ -1,4 +1,5 @@
 //! Times, ours against the original: one process, the same input, the best of many rounds.
+use crate::made::{self, Heap};
 use crate::{ours, random::Random};
 use std::hint::black_box;
 use std::time::Instant;
@@ -139,5 +140,86 @@ pub fn plan() {
             );
             line("  with lists allocated", calls, times);
         }
+    }
+}
+
+/// Parsing of one header, again and again.
+fn parse() {
+    let mut random = Random::new(8);
+    let heap = Heap {
+        file: made::header(&mut random, &made::fixed(22, 0), 8, 8),
+        at: 0,
+        offset_size: 8,
+        length_size: 8,
+    };
+    let calls = 1 << 16;
+    let times = best(
+        25,
+        || {
+            for _ in 0..calls {
+                let mut fields = [0; 12];
+                let number = ours::parse(black_box(&heap), &mut fields);
+                black_box((number, fields));
+            }
+        },
+        || {
+            for _ in 0..calls {
+                let heap = black_box(&heap);
+                let parsed = original::parse(&heap.file, heap.at, 8, 8);
+                black_box(parsed.map(|header| header.fields())).expect("a right header");
+            }
+        },
+    );
+    line("parse of a header", calls, times);
+}
+
+/// Every object once, after one parse: the original copies each object, ours answers places.
+fn read_each(heap: &Heap, ids: &[u8]) {
+    let heap = black_box(heap);
+    let header = original::parse(&heap.file, heap.at, 8, 8).expect("a right header");
+    for id in ids.chunks_exact(8) {
+        black_box(header.read(&heap.file, black_box(id), 8)).expect("an object");
+    }
+}
+
+/// Reading the objects of a heap, of 20 to 60 bytes: the time of one object. Places alone, and with a copy of
+/// the bytes as in the original.
+pub fn heap() {
+    parse();
+    let mut random = Random::new(9);
+    for (n, calls) in [(10, 10_000), (100_000, 1)] {
+        let sizes: Vec<u64> = (0..n).map(|_| 20 + random.below(41)).collect();
+        let written = made::written(&mut random, &sizes, [8, 8], 50);
+        let ids: Vec<u8> = written.objects.iter().flat_map(|o| o.id.clone()).collect();
+        let (heap, mut found) = (&written.heap, vec![0; 3 * n]);
+        for copied in [false, true] {
+            let ours = || {
+                for _ in 0..calls {
+                    assert_eq!(
+                        ours::read_each(black_box(heap), black_box(&ids), &mut found),
+                        0
+                    );
+                    for answer in black_box(&found).chunks_exact(3).filter(|_| copied) {
+                        let (place, length) = (answer[1] as usize, answer[2] as usize);
+                        black_box(heap.file[place..place + length].to_vec());
+                    }
+                }
+            };
+            let original = || (0..calls).for_each(|_| read_each(heap, &ids));
+            let name = if copied {
+                "  with the bytes copied".to_string()
+            } else {
+                format!("read of each of {n}")
+            };
+            line(&name, calls * n, best(25, ours, original));
+        }
+        let due = |(answer, o): (&[u64], &made::Object)| {
+            let (place, length) = (answer[1] as usize, answer[2] as usize);
+            answer[0] == 0 && heap.file[place..place + length] == o.bytes
+        };
+        assert!(
+            found.chunks_exact(3).zip(&written.objects).all(due),
+            "{n} objects"
+        );
     }
 }

@@ -1,4 +1,4 @@
-//! The checksum, ours against the original.
+//! The checksum, ours against the original: the tests' function and the loader's.
 use crate::{ours, random::Random};
 
 /// Every length to 600 at each of 16 alignments, some long ones, then `n` random lengths below 300.
@@ -8,12 +8,9 @@ pub fn compare(n: u64) {
     random.fill(&mut bytes);
     let mut count = 0u64;
     let mut same = |part: &[u8]| {
-        assert_eq!(
-            ours::jenkins_lookup3(part),
-            original::jenkins_lookup3(part),
-            "{} bytes",
-            part.len()
-        );
+        let due = original::jenkins_lookup3(part);
+        let got = [ours::jenkins_lookup3(part), ours::loader_checksum(part)];
+        assert_eq!(got, [due; 2], "{} bytes", part.len());
         count += 1;
     };
     for at in 0..16 {
@@ -38,5 +35,5 @@ pub fn compare(n: u64) {
         let at = random.below((bytes.len() - len) as u64) as usize;
         same(&bytes[at..at + len]);
     }
-    println!("compare: jenkins_lookup3 {count}: equal");
+    println!("compare: jenkins_lookup3 and fractal_heap_checksum {count}: equal");
 }

@@ -1,11 +1,17 @@
-//! Holds our static library against the original Rust: `compare`, `record` or `bench` (see `run`).
+//! Holds our static libraries against the original Rust: `compare`, `record` or `bench` (see `run`).
 mod bench;
 mod checksum;
 mod fields;
+mod heap;
+mod made;
 mod ours;
+mod panics;
 mod plan;
 mod random;
+mod reads;
 mod record;
+
+use std::io::Write;
 
 fn main() {
     let words: Vec<String> = std::env::args().skip(1).collect();
@@ -14,13 +20,22 @@ fn main() {
             fields::compare(1_000_000);
             checksum::compare(1_000_000);
             plan::compare(100_000);
+            heap::compare(1_000_000);
         }
         ["record", "vectors"] => print!("{}", record::vectors()),
         ["record", "heaps"] => print!("{}", record::heaps()),
+        ["record", "reads"] => print!("{}", record::reads_summary()),
+        ["record", "reads", "stdin"] => {
+            let list = record::reads();
+            std::io::stdout()
+                .write_all(&list)
+                .expect("a place to write");
+        }
         ["bench"] => {
             bench::checksum();
             bench::plan();
+            bench::heap();
         }
-        _ => panic!("compare, record vectors, record heaps or bench"),
+        _ => panic!("compare, record vectors, record heaps, record reads [stdin] or bench"),
     }
 }

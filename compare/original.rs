@@ -1,9 +1,12 @@
 // The original, taken in unchanged: `src` is a link to the folder that holds it, made by `run`. Its
 // functions are private to their crate, so this root hands them on. Features: `checksum`, not `std`.
-// The planner alone is taken from a copy that `run` makes, its text followed by one line,
-// `block_starts!();`: the heap offsets of the placed blocks have no accessor.
+// Planner and reader are taken from copies that `run` makes, each text followed by one line:
+// `block_starts!();`, since the heap offsets of the placed blocks have no accessor, and
+// `private_reads!();`, since tiny objects and ID types are private to their file.
 #![allow(dead_code, unused_imports)]
 extern crate alloc;
+// The reader asks for the crate `byteorder`: this root stands in for it.
+extern crate self as byteorder;
 
 macro_rules! block_starts {
     () => {
@@ -11,6 +14,22 @@ macro_rules! block_starts {
             pub(crate) fn block_starts(&self) -> Vec<u64> {
                 self.directs.iter().map(|b| b.heap_offset).collect()
             }
+        }
+    };
+}
+
+macro_rules! private_reads {
+    () => {
+        pub(crate) fn tiny(heap_id_length: u16, id: &[u8]) -> Result<Vec<u8>, FormatError> {
+            read_tiny_object(heap_id_length, id)
+        }
+
+        pub(crate) fn id_type(id: &[u8]) -> Result<u64, FormatError> {
+            FractalHeapHeader::heap_id_type(id).map(|kind| match kind {
+                HeapIdType::Managed => 0,
+                HeapIdType::Huge => 1,
+                HeapIdType::Tiny => 2,
+            })
         }
     };
 }
@@ -23,10 +42,78 @@ mod checksum;
 mod convert;
 #[path = "src/error.rs"]
 mod error;
+#[path = "fractal_heap.rs"]
+mod fractal_heap;
 #[path = "planner.rs"]
 mod fractal_heap_write;
 
-/// Ours, by the scope's two facts: the original's file is not at hand. Planning calls neither.
+/// What the reader takes of the crate `byteorder`.
+pub trait ByteOrder {
+    fn read_u32(bytes: &[u8]) -> u32;
+}
+
+pub struct LittleEndian;
+
+impl ByteOrder for LittleEndian {
+    fn read_u32(bytes: &[u8]) -> u32 {
+        u32::from_le_bytes(bytes[..4].try_into().unwrap())
+    }
+}
+
+/// Ours: only huge objects need it, and they are never read.
+mod btree_v2 {
+    use crate::{error::FormatError, source::Source};
+
+    pub(crate) struct BTreeV2Header {
+        pub tree_type: u8,
+        pub record_size: u16,
+    }
+
+    pub(crate) struct BTreeV2Record {
+        pub data: Vec<u8>,
+    }
+
+    type Records = Result<Vec<BTreeV2Record>, FormatError>;
+
+    impl BTreeV2Header {
+        pub fn parse(_: &[u8], _: usize, _: u8, _: u8) -> Result<Self, FormatError> {
+            unreachable!("huge objects are not read")
+        }
+
+        pub fn parse_from_source<S>(_: &S, _: u64, _: u8, _: u8) -> Result<Self, FormatError>
+        where
+            S: Source + ?Sized,
+        {
+            unreachable!("huge objects are not read")
+        }
+    }
+
+    pub(crate) fn collect_btree_v2_records(_: &[u8], _: &BTreeV2Header, _: u8, _: u8) -> Records {
+        unreachable!("huge objects are not read")
+    }
+
+    pub(crate) fn collect_btree_v2_records_from_source<S>(
+        _: &S,
+        _: &BTreeV2Header,
+        _: u8,
+        _: u8,
+    ) -> Records
+    where
+        S: Source + ?Sized,
+    {
+        unreachable!("huge objects are not read")
+    }
+}
+
+/// Ours: nothing is read through a source.
+mod source {
+    pub(crate) trait Source {
+        fn len(&self) -> u64;
+        fn read_metadata_at(&self, at: u64, n: usize) -> Result<Vec<u8>, crate::FormatError>;
+    }
+}
+
+/// Ours, by the scope's two facts: the original's file is not at hand.
 mod file_writer {
     pub(crate) fn write_offset(buf: &mut Vec<u8>, value: u64, size: u8) {
         assert!(matches!(size, 2 | 4 | 8), "width {size}");
@@ -40,6 +127,7 @@ mod file_writer {
 
 pub use checksum::jenkins_lookup3;
 pub use error::FormatError;
+use fractal_heap::FractalHeapHeader;
 use fractal_heap_write::{ManagedPlan, PlanRefusal};
 
 /// An answer in numbers: the refusal's number, 0 where there is none, and two values.
@@ -53,6 +141,15 @@ fn refused(e: FormatError) -> Answer {
         } => (1, expected as u64, available as u64),
         FormatError::InvalidOffsetSize(size) => (2, size.into(), 0),
         FormatError::InvalidLengthSize(size) => (3, size.into(), 0),
+        FormatError::InvalidFractalHeapSignature => (4, 0, 0),
+        FormatError::InvalidFractalHeapVersion(version) => (5, version.into(), 0),
+        FormatError::InvalidHeapIdType(kind) => (6, kind.into(), 0),
+        FormatError::ChecksumMismatch { expected, computed } => {
+            (7, expected.into(), computed.into())
+        }
+        FormatError::UnsupportedFilteredHeapObject => (8, 0, 0),
+        FormatError::OffsetOverflow { offset, length } => (9, offset, length),
+        FormatError::ChunkedReadError(why) if why.contains("recursion depth") => (10, 64, 0),
         other => panic!("no number for {other:?}"),
     }
 }
@@ -122,4 +219,63 @@ pub fn plan(sizes: &[u64], offset_size: u8) -> Option<Plan> {
 /// Plans, and hands back the region's size alone: for times, and for lists that are only accepted or not.
 pub fn plans(sizes: &[u64], offset_size: u8) -> Option<u64> {
     planned(sizes, offset_size).map(|p| p.region_size())
+}
+
+/// The region that the original writes for these objects at a region and a header address.
+pub fn region(objects: &[&[u8]], offset_size: u8, region_at: u64, header_at: u64) -> Vec<u8> {
+    let sizes: Vec<u64> = objects.iter().map(|o| o.len() as u64).collect();
+    let plan = planned(&sizes, offset_size).expect("within the heap space");
+    plan.serialize(objects, region_at, header_at)
+}
+
+/// A header that was parsed.
+pub struct Header(FractalHeapHeader);
+
+pub fn parse(file: &[u8], at: u64, offset_size: u8, length_size: u8) -> Result<Header, Answer> {
+    FractalHeapHeader::parse(file, to_usize(at), offset_size, length_size)
+        .map(Header)
+        .map_err(refused)
+}
+
+impl Header {
+    /// The twelve fields in the struct's order.
+    pub fn fields(&self) -> [u64; 12] {
+        let h = &self.0;
+        [
+            h.heap_id_length.into(),
+            h.io_filter_encoded_length.into(),
+            h.max_managed_object_size.into(),
+            h.btree_huge_objects_address,
+            h.table_width.into(),
+            h.starting_block_size,
+            h.max_direct_block_size,
+            h.max_heap_size.into(),
+            h.start_root_rows.into(),
+            h.root_block_address,
+            h.current_rows_in_root_indirect_block.into(),
+            h.managed_objects_count,
+        ]
+    }
+
+    /// Accepted: the offset in the heap and the length.
+    pub fn decode(&self, id: &[u8]) -> Answer {
+        let decoded = self.0.decode_managed_id(id);
+        decoded.map_or_else(refused, |(offset, length)| (0, offset, length))
+    }
+
+    /// The object's bytes: the original does not say where they lie.
+    pub fn read(&self, file: &[u8], id: &[u8], offset_size: u8) -> Result<Vec<u8>, Answer> {
+        let read = self.0.read_managed_object(file, id, offset_size);
+        read.map_err(refused)
+    }
+}
+
+/// The object's bytes out of its ID.
+pub fn tiny(heap_id_length: u16, id: &[u8]) -> Result<Vec<u8>, Answer> {
+    fractal_heap::tiny(heap_id_length, id).map_err(refused)
+}
+
+/// Accepted: 0 managed, 1 huge, 2 tiny.
+pub fn id_type(id: &[u8]) -> Answer {
+    value(fractal_heap::id_type(id))
 }

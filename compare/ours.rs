@@ -1,4 +1,6 @@
-//! Our static library: the C functions of the crate `tools_c`, each behind a safe function.
+//! Our static libraries, each C function behind a safe one: `fractal_heap_c`, which the loader calls, and the
+//! tests' own `tools_c` and `heap_tools_c`.
+use crate::made::Heap;
 use original::Answer;
 
 #[link(name = "tools_c", kind = "static")]
@@ -57,6 +59,77 @@ unsafe extern "C" {
         offset_size: u8,
         totals: *mut u64,
         totals_len: usize,
+    ) -> u32;
+}
+
+#[link(name = "fractal_heap_c", kind = "static")]
+unsafe extern "C" {
+    fn fractal_heap_checksum(bytes: *const u8, len: usize) -> u32;
+    fn fractal_heap_decode_managed_id(
+        file: *const u8,
+        file_len: usize,
+        at: u64,
+        offset_size: u8,
+        length_size: u8,
+        id: *const u8,
+        id_len: usize,
+        slot: *mut u8,
+        slot_len: usize,
+    ) -> u32;
+    fn fractal_heap_read_managed_object(
+        file: *const u8,
+        file_len: usize,
+        at: u64,
+        offset_size: u8,
+        length_size: u8,
+        id: *const u8,
+        id_len: usize,
+        slot: *mut u8,
+        slot_len: usize,
+    ) -> u32;
+}
+
+#[link(name = "heap_tools_c", kind = "static")]
+unsafe extern "C" {
+    fn tools_parse_header(
+        file: *const u8,
+        file_len: usize,
+        at: u64,
+        offset_size: u8,
+        length_size: u8,
+        fields: *mut u64,
+        fields_len: usize,
+    ) -> u32;
+    fn tools_read_managed_object(
+        file: *const u8,
+        file_len: usize,
+        at: u64,
+        offset_size: u8,
+        length_size: u8,
+        read_size: u8,
+        id: *const u8,
+        id_len: usize,
+        slot: *mut u8,
+        slot_len: usize,
+    ) -> u32;
+    fn tools_read_tiny_object(
+        heap_id_length: u16,
+        id: *const u8,
+        id_len: usize,
+        slot: *mut u8,
+        slot_len: usize,
+    ) -> u32;
+    fn tools_heap_id_type(id: *const u8, id_len: usize, slot: *mut u8, slot_len: usize) -> u32;
+    fn tools_read_each(
+        file: *const u8,
+        file_len: usize,
+        at: u64,
+        offset_size: u8,
+        length_size: u8,
+        ids: *const u8,
+        ids_len: usize,
+        found: *mut u64,
+        found_len: usize,
     ) -> u32;
 }
 
@@ -152,4 +225,100 @@ pub fn short_slot(len: usize, bytes: &mut [u8]) {
         tools_write_undef_offset(p, n, 0, 2, s, k)
     });
     assert_eq!(bytes, before, "bytes lent beside a short slot");
+}
+
+pub fn loader_checksum(bytes: &[u8]) -> u32 {
+    unsafe { fractal_heap_checksum(bytes.as_ptr(), bytes.len()) }
+}
+
+/// The refusal's number, or 0; its pair, or the twelve fields, are put into `fields`.
+pub fn parse(heap: &Heap, fields: &mut [u64]) -> u32 {
+    let (file, w, l) = (&heap.file, heap.offset_size, heap.length_size);
+    unsafe {
+        tools_parse_header(
+            file.as_ptr(),
+            file.len(),
+            heap.at,
+            w,
+            l,
+            fields.as_mut_ptr(),
+            fields.len(),
+        )
+    }
+}
+
+fn decode_into(heap: &Heap, id: &[u8], slot: *mut u8, len: usize) -> u32 {
+    let (file, w, l) = (&heap.file, heap.offset_size, heap.length_size);
+    let (f, n, i, k) = (file.as_ptr(), file.len(), id.as_ptr(), id.len());
+    unsafe { fractal_heap_decode_managed_id(f, n, heap.at, w, l, i, k, slot, len) }
+}
+
+fn read_into(heap: &Heap, id: &[u8], slot: *mut u8, len: usize) -> u32 {
+    let (file, w, l) = (&heap.file, heap.offset_size, heap.length_size);
+    let (f, n, i, k) = (file.as_ptr(), file.len(), id.as_ptr(), id.len());
+    unsafe { fractal_heap_read_managed_object(f, n, heap.at, w, l, i, k, slot, len) }
+}
+
+fn sized_into(heap: &Heap, read_size: u8, id: &[u8], slot: *mut u8, len: usize) -> u32 {
+    let (file, w, l) = (&heap.file, heap.offset_size, heap.length_size);
+    let (f, n, i, k) = (file.as_ptr(), file.len(), id.as_ptr(), id.len());
+    unsafe { tools_read_managed_object(f, n, heap.at, w, l, read_size, i, k, slot, len) }
+}
+
+fn tiny_into(heap_id_length: u16, id: &[u8], slot: *mut u8, len: usize) -> u32 {
+    unsafe { tools_read_tiny_object(heap_id_length, id.as_ptr(), id.len(), slot, len) }
+}
+
+fn type_into(id: &[u8], slot: *mut u8, len: usize) -> u32 {
+    unsafe { tools_heap_id_type(id.as_ptr(), id.len(), slot, len) }
+}
+
+/// The loader's: parses, then decodes.
+pub fn decode(heap: &Heap, id: &[u8]) -> Answer {
+    with_slot(|s, n| decode_into(heap, id, s, n))
+}
+
+/// The loader's: parses, then reads at the offset size of the parse.
+pub fn read(heap: &Heap, id: &[u8]) -> Answer {
+    with_slot(|s, n| read_into(heap, id, s, n))
+}
+
+/// Parses, then reads at any offset size.
+pub fn read_sized(heap: &Heap, read_size: u8, id: &[u8]) -> Answer {
+    with_slot(|s, n| sized_into(heap, read_size, id, s, n))
+}
+
+pub fn tiny(heap_id_length: u16, id: &[u8]) -> Answer {
+    with_slot(|s, n| tiny_into(heap_id_length, id, s, n))
+}
+
+pub fn id_type(id: &[u8]) -> Answer {
+    with_slot(|s, n| type_into(id, s, n))
+}
+
+/// Every eight-byte ID of `ids`: number and pair of each answer, three numbers in `found`.
+pub fn read_each(heap: &Heap, ids: &[u8], found: &mut [u64]) -> u32 {
+    let (file, w, l) = (&heap.file, heap.offset_size, heap.length_size);
+    unsafe {
+        tools_read_each(
+            file.as_ptr(),
+            file.len(),
+            heap.at,
+            w,
+            l,
+            ids.as_ptr(),
+            ids.len(),
+            found.as_mut_ptr(),
+            found.len(),
+        )
+    }
+}
+
+/// The functions over a heap with a slot, lent one of fewer than 16 bytes.
+pub fn short_heap_slot(len: usize, heap: &Heap, id: &[u8]) {
+    with_short_slot(len, |s, k| decode_into(heap, id, s, k));
+    with_short_slot(len, |s, k| read_into(heap, id, s, k));
+    with_short_slot(len, |s, k| sized_into(heap, 8, id, s, k));
+    with_short_slot(len, |s, k| tiny_into(8, id, s, k));
+    with_short_slot(len, |s, k| type_into(id, s, k));
 }

@@ -18,9 +18,23 @@ impl Random {
         self.next() % n
     }
 
+    pub fn byte(&mut self) -> u8 {
+        (self.next() >> 56) as u8
+    }
+
+    /// A number of 1 to 64 bits, each bit length as likely.
+    pub fn number(&mut self) -> u64 {
+        self.next() >> self.below(64)
+    }
+
+    /// One of the values.
+    pub fn one<T: Copy>(&mut self, values: &[T]) -> T {
+        values[self.below(values.len() as u64) as usize]
+    }
+
     pub fn fill(&mut self, bytes: &mut [u8]) {
         for b in bytes {
-            *b = (self.next() >> 56) as u8;
+            *b = self.byte();
         }
     }
 

@@ -1,7 +1,9 @@
 //! What the programs `vectors` and `heaps` must print, from the original alone (stores: by the facts of
-//! docs/DECISIONS.md; the refusals of planning that the original does not have: by the scope's table).
+//! docs/DECISIONS.md; the refusals of planning that the original does not have: by the scope's table). What
+//! the program `reads` replays and prints is in reads.rs.
 use crate::fields::stored;
 use crate::plan::{by_table, header, limit};
+pub use crate::reads::{reads, reads_summary};
 use original::{Answer, is_undefined_addr, jenkins_lookup3, plan, read_length, read_offset};
 use std::fmt::Write;
 
