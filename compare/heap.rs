@@ -627,6 +627,19 @@ impl Comparison {
         self.done("of up to 64 blocks one in the other");
     }
 
+    /// Roots of tens of thousands of rows, walked to their end where nothing is found before.
+    fn tall(&mut self, random: &mut Random) {
+        for _ in 0..20 {
+            let (mut heap, head) = made::tall(random);
+            let mut ids = [0; 4].map(|_| {
+                let offset = made::offset(random, &head);
+                made::packed(0, head.bits, offset, random.below(9))
+            });
+            self.heap(&mut heap, 2, &mut ids);
+        }
+        self.done("of tens of thousands of rows");
+    }
+
     /// What the original gave, summed up: every number but 10 often.
     fn sum(&self, n: u64) {
         for (kind, panics) in &self.panics {
@@ -680,6 +693,7 @@ pub fn compare(n: u64) {
     all.shapes(&mut random);
     all.ids(&mut random);
     all.deep(&mut random, n / 100);
+    all.tall(&mut random);
     all.sum(n);
     long_ids(&mut random);
 }

@@ -379,6 +379,31 @@ pub fn ring(random: &mut Random, w: u8) -> (Heap, Head) {
     (heap, head)
 }
 
+/// A root with as many rows as the field holds, or nearly, and all its entries in the file.
+pub fn tall(random: &mut Random) -> (Heap, Head) {
+    let starting = random.one(&[0, 0, 1, 3, 1 << 20, u64::MAX]);
+    let mut head = table(random);
+    (head.width, head.starting) = (1 + random.below(2) as u16, starting);
+    head.largest = random.one(&[0, starting, u64::MAX]);
+    (head.filter, head.rows) = (0, 65_535 - random.below(40_000) as u16);
+    head.root = 130 + random.below(60);
+    let mut file = header(random, &head, 2, 8);
+    file.resize_with(head.root as usize, || random.byte());
+    file.extend(b"FHIB\0");
+    file.extend((0..2 + head.bits.div_ceil(8)).map(|_| random.byte()));
+    for _ in 0..u32::from(head.rows) * u32::from(head.width) {
+        let to = random.one(&[u64::MAX, head.root, 9, 60_000]);
+        put(&mut file, random, to, 2);
+    }
+    let heap = Heap {
+        file,
+        at: 0,
+        offset_size: 2,
+        length_size: 8,
+    };
+    (heap, head)
+}
+
 /// A table of powers of two with few small blocks, and rows of every kind. The first indirect slot is no
 /// smaller than a row of starting blocks, so that it is filled by whole rows.
 pub fn small_table(random: &mut Random) -> Head {

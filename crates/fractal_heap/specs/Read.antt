@@ -8,11 +8,13 @@ use Rattle.fields.specs.declared.error.FormatError.the-variants.{UnexpectedEof,
 use Rattle.heap_blocks.specs.Blocks.{directAt, walkFrom}
 use Rattle.heap_blocks.specs.declared.Found.{Found}
 use Rattle.heap_blocks.specs.declared.Found.the-variants.{Refused}
+use Rattle.heap_ids.specs.Id.{decodedId}
 use Rattle.fractal_heap.specs.declared.header.FractalHeapHeader.{FractalHeapHeader}
-use Rattle.fractal_heap.specs.declared.id.ManagedId.{ManagedId}
-use Rattle.fractal_heap.specs.declared.id.ManagedId.the-variants.{Decoded, Refused as NoId}
+use Rattle.fractal_heap.specs.declared.header.Parsed.{Parsed}
+use Rattle.fractal_heap.specs.declared.header.Parsed.the-variants.{Header, Refused as NoHeader}
+use Rattle.heap_ids.specs.declared.ManagedId.{ManagedId}
+use Rattle.heap_ids.specs.declared.ManagedId.the-variants.{Decoded, Refused as NoId}
 use Rattle.fractal_heap.specs.Header.{tableOf}
-use Rattle.fractal_heap.specs.Id.{decodedId}
 
 -- len bytes at heap offset t: no rows mean that the root is a direct block, at heap offset 0
 unfoldable pub rootAt : FractalHeapHeader → List ℕ → ℕ → ℕ → ℕ → Found
@@ -31,3 +33,12 @@ unfoldable pub managedAt : FractalHeapHeader → List ℕ → List ℕ → ℕ �
 managedAt h s id w =
     cond (ltb 0 (h .«io_filter_encoded_length»)) (Refused UnsupportedFilteredHeapObject)
     (afterId (decodedId (h .«max_heap_size») id) (λ t len. rootAt h s t len w))
+
+-- by a header that was parsed: a refusal of the header is the answer
+abbrev pub idBy : Parsed → List ℕ → ManagedId
+idBy (Header h) id = decodedId (h .«max_heap_size») id
+idBy (NoHeader e) id = NoId e
+
+abbrev pub objectBy : Parsed → List ℕ → List ℕ → ℕ → Found
+objectBy (Header h) s id w = managedAt h s id w
+objectBy (NoHeader e) s id w = Refused e

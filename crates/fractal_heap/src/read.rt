@@ -1,15 +1,32 @@
-// Reading a managed object: where its bytes are in the file.
+// IDs and objects by a header: where the bytes of a managed object are in the file.
 ghost use mathlib.Core.Path.{_≡_};
-ghost use Rattle.fractal_heap.specs.Read.{rootAt, managedAt};
+ghost use Rattle.heap_ids.specs.Id.{idTypeOf, decodedId};
+ghost use Rattle.fractal_heap.specs.Read.{rootAt, managedAt, idBy, objectBy};
 use crate::header::FractalHeapHeader;
-use crate::id::ManagedId;
+use crate::header::Parsed;
 use fields::convert::is_undefined_addr;
 use fields::error::FormatError;
 use heap_blocks::Found;
 use heap_blocks::read_from_direct_block;
 use heap_blocks::read_from_indirect_block;
+use heap_ids::IdType;
+use heap_ids::ManagedId;
 
 impl FractalHeapHeader {
+    // The type of an ID.
+    pub fn heap_id_type(id: &[u8]) -> IdType
+        ensures { λ r. ⌜ r ≡ idTypeOf (now (id .entry)) ⌝ }
+    {
+        heap_ids::heap_id_type(id)
+    }
+
+    // The heap offset and the length in a managed ID.
+    pub fn decode_managed_id(self, id: &[u8]) -> ManagedId
+        ensures { λ r. ⌜ r ≡ decodedId (self .«max_heap_size») (now (id .entry)) ⌝ }
+    {
+        heap_ids::decode_managed_id(self.max_heap_size, id)
+    }
+
     // From the root block on. A direct root is read without a look at the offset size.
     fn read_from_root(self, file: &[u8], target: u64, length: u64, offset_size: u8) -> Found
         ensures { λ r. ⌜ r ≡ rootAt self (now (file .entry)) target length «offset_size» ⌝ }
@@ -46,6 +63,27 @@ impl FractalHeapHeader {
             ManagedId::Decoded(offset, length) => {
                 self.read_from_root(file, offset, length, offset_size)
             }
+        }
+    }
+}
+
+// What a header that was parsed says of an ID; a refusal of the header is the answer.
+impl Parsed {
+    pub fn decode_managed_id(self, id: &[u8]) -> ManagedId
+        ensures { λ r. ⌜ r ≡ idBy self (now (id .entry)) ⌝ }
+    {
+        match self {
+            Parsed::Refused(e) => ManagedId::Refused(e),
+            Parsed::Header(header) => header.decode_managed_id(id),
+        }
+    }
+
+    pub fn read_managed_object(self, file: &[u8], id: &[u8], offset_size: u8) -> Found
+        ensures { λ r. ⌜ r ≡ objectBy self (now (file .entry)) (now (id .entry)) «offset_size» ⌝ }
+    {
+        match self {
+            Parsed::Refused(e) => Found::Refused(e),
+            Parsed::Header(header) => header.read_managed_object(file, id, offset_size),
         }
     }
 }

@@ -12,10 +12,10 @@ use Rattle.heap_blocks.specs.declared.Found.{Found}
 use Rattle.heap_blocks.specs.declared.Found.the-variants.{At, Refused}
 use Rattle.heap_blocks.proofs.Walking.{Inside, direct-inside, walk-inside}
 use Rattle.fractal_heap.specs.declared.header.FractalHeapHeader.{FractalHeapHeader}
-use Rattle.fractal_heap.specs.declared.id.ManagedId.{ManagedId}
-use Rattle.fractal_heap.specs.declared.id.ManagedId.the-variants.{Decoded, Refused as NoId}
+use Rattle.heap_ids.specs.declared.ManagedId.{ManagedId}
+use Rattle.heap_ids.specs.declared.ManagedId.the-variants.{Decoded, Refused as NoId}
 use Rattle.fractal_heap.specs.Header.{tableOf}
-use Rattle.fractal_heap.specs.Id.{decodedId, tinyIn, tinyAt}
+use Rattle.heap_ids.specs.Id.{decodedId, tinyIn, tinyAt}
 use Rattle.fractal_heap.specs.Read.{rootAt, afterId, managedAt}
 
 -- what holds of both ways of a test holds of the test

@@ -8,8 +8,6 @@ use Rattle.fields.specs.LittleEndian.{put}
 use Rattle.fields.specs.Refusals.{refusal}
 use Rattle.fields.specs.declared.error.Answer.{Answer}
 use Rattle.heap_blocks.specs.Blocks.{foundAnswer}
-use Rattle.heap_blocks.specs.declared.Found.{Found}
-use Rattle.heap_blocks.specs.declared.Found.the-variants.{Refused as NotFound}
 use Rattle.fractal_heap.specs.declared.header.FractalHeapHeader.{FractalHeapHeader}
 use Rattle.fractal_heap.specs.declared.header.Parsed.{Parsed}
 use Rattle.fractal_heap.specs.declared.header.Parsed.the-variants.{Header, Refused}
@@ -47,11 +45,6 @@ fieldsNumber l p = cond (ltb (length l) 12) 13 (parsedAnswer p .number)
 
 unfoldable pub fieldsList : List ℕ → Parsed → List ℕ
 fieldsList l p = cond (ltb (length l) 12) l (put l 0 (parsedValues p))
-
--- the object by a parsed header
-abbrev pub objectBy : Parsed → List ℕ → List ℕ → ℕ → Found
-objectBy (Header h) s id w = managedAt h s id w
-objectBy (Refused e) s id w = NotFound e
 
 unfoldable pub threeOf : Answer → List ℕ
 threeOf a = a .number ∷ a .first ∷ a .second ∷ []

@@ -7,16 +7,16 @@ ghost use Rattle.fields.specs.LittleEndian.{put};
 ghost use Rattle.fields.specs.Refusals.{slotNumber, slotBytes};
 ghost use Rattle.heap_blocks.specs.Blocks.{foundAnswer};
 ghost use Rattle.fractal_heap.specs.Header.{headerAt};
-ghost use Rattle.fractal_heap.specs.Id.{idTypeOf, idTypeAnswer, tinyAt};
-ghost use Rattle.heap_tools_c.specs.HeapTools.{fieldNumbers, pairOf, fieldsNumber, fieldsList, objectBy, answersFrom, eachNumber, eachList};
+ghost use Rattle.fractal_heap.specs.Read.{objectBy};
+ghost use Rattle.heap_ids.specs.Id.{idTypeOf, idTypeAnswer, tinyAt};
+ghost use Rattle.heap_tools_c.specs.HeapTools.{fieldNumbers, pairOf, fieldsNumber, fieldsList, answersFrom, eachNumber, eachList};
 use fields::convert::to_usize;
 use fields::error::Answer;
 use fields::error::refused;
 use fields::slot::put_answer;
 use fractal_heap::header::FractalHeapHeader;
 use fractal_heap::header::Parsed;
-use fractal_heap::id::read_tiny_object;
-use heap_blocks::Found;
+use heap_ids::read_tiny_object;
 
 // The twelve fields in the original's order.
 fn put_fields(fields: &mut [u64], h: FractalHeapHeader)
@@ -74,15 +74,6 @@ pub extern "C" fn tools_parse_header(
     }
 }
 
-fn object_by(parsed: Parsed, file: &[u8], id: &[u8], offset_size: u8) -> Found
-    ensures { λ r. ⌜ r ≡ objectBy parsed (now (file .entry)) (now (id .entry)) «offset_size» ⌝ }
-{
-    match parsed {
-        Parsed::Refused(e) => Found::Refused(e),
-        Parsed::Header(h) => h.read_managed_object(file, id, offset_size),
-    }
-}
-
 // Reading with an offset size of its own, which may be any byte.
 #[no_mangle]
 pub extern "C" fn tools_read_managed_object(
@@ -98,7 +89,10 @@ pub extern "C" fn tools_read_managed_object(
     ensures { λ _. ⌜ now (slot .exit) ≡ slotBytes (now (slot .entry)) (foundAnswer (objectBy (headerAt (now (file .entry)) at «offset_size» «length_size») (now (file .entry)) (now (id .entry)) «read_size»)) ⌝ }
 {
     let parsed = FractalHeapHeader::parse(file, to_usize(at), offset_size, length_size);
-    put_answer(slot, object_by(parsed, file, id, read_size).answer())
+    put_answer(
+        slot,
+        parsed.read_managed_object(file, id, read_size).answer(),
+    )
 }
 
 #[no_mangle]

@@ -18,7 +18,7 @@ use fields::error::Answer;
 use fields::error::refused;
 use fractal_heap::header::FractalHeapHeader;
 use fractal_heap::header::Parsed;
-use fractal_heap::id::read_tiny_object;
+use heap_ids::read_tiny_object;
 use libc::STDIN_FILENO;
 use libc::STDOUT_FILENO;
 

@@ -11,7 +11,7 @@ use Rattle.plan.specs.Answer.{closed, rootRows, totals, sizesChecked, placesChe
 use Rattle.fields.specs.LittleEndian.{value, leAt}
 use lib.Count.{leadingZeros}
 use Rattle.heap_rows.specs.Rows.{log2, blockSize, directRows, sizeToRows, heapSize, slotSize}
-use Rattle.fractal_heap.specs.Id.{typeOf, splitId, decodedId, tinyIn, tinyAt}
+use Rattle.heap_ids.specs.Id.{typeOf, splitId, decodedId, tinyIn, tinyAt}
 use Rattle.worked.specs.Cases.{Both, All, cases}
 
 both : {P Q : Type 0} → P → Q → Both P Q

@@ -15,8 +15,8 @@ use Rattle.heap_rows.specs.declared.DoublingTable.{DoublingTable}
 use Rattle.heap_rows.specs.Rows.{blockSize, directRows, sizeToRows, slotSize}
 use Rattle.heap_blocks.specs.declared.Found.{Found}
 use Rattle.heap_blocks.specs.declared.Found.the-variants.{At, Refused as NotFound}
-use Rattle.fractal_heap.specs.declared.id.ManagedId.the-variants.{Decoded}
-use Rattle.fractal_heap.specs.Id.{decodedId, tinyAt}
+use Rattle.heap_ids.specs.declared.ManagedId.the-variants.{Decoded}
+use Rattle.heap_ids.specs.Id.{decodedId, tinyAt}
 
 -- the fixed geometry as a header has it
 abbrev pub fixedTable : DoublingTable

@@ -4,10 +4,20 @@ use Rattle.fractal_heap_c.proofs.fractal_heap_decode_managed_id.Stateme
 use Rattle.fractal_heap_c.proofs.fractal_heap_decode_managed_id.Tie as tie
 use mathlib.Core.Path.{ap, _∙_}
 use Rattle.fields.specs.Refusals.{slotNumber, slotBytes}
-use Rattle.fractal_heap.specs.Id.{decodedAnswer}
+use Prim.Native.Nat.{ℕ}
+use Rattle.fractal_heap.specs.declared.header.Parsed.{Parsed}
+use Rattle.fractal_heap.specs.Header.{headerAt}
+use Rattle.heap_ids.specs.Id.{decodedAnswer}
+use Rattle.fractal_heap.specs.Read.{idBy}
 
-id-in-requires : tie.Need-id-in-requires
-id-in-requires c κs = search needs
+to-usize-requires : tie.Need-to-usize-requires
+to-usize-requires c κs = search needs
+
+parse-requires : tie.Need-parse-requires
+parse-requires c κs = search needs
+
+decode-managed-id-requires : tie.Need-decode-managed-id-requires
+decode-managed-id-requires c κs = search needs
 
 answer-requires : tie.Need-answer-requires
 answer-requires c κs = search needs
@@ -19,11 +29,20 @@ same-length : tie.Need-same-length
 same-length c = search needs
 
 returns : tie.Need-returns
-returns c =
-    let e = c .before .before .before .answer .ensures ∙ ap decodedAnswer (c .before .before .before .before .id-in .ensures) in
-    let s = c .before .before .before .before .before .before .before .before .before .args .slot .now in
+returns c = 
+    let args = c .before .before .before .before .before .before .before .before .before .before .before .args in
+    let e = c .before .before .before .answer .ensures ∙ ap decodedAnswer (c .before .before .before .before .decode-managed-id .ensures ∙ ap (λ (p : Parsed). idBy p (args .id .now)) (c .before .before .before .before .before .before .parse .ensures ∙ ap (λ (p : ℕ). headerAt (args .file .now) p (args .offset-size) (args .length-size)) (c .before .before .before .before .before .before .before .to-usize .ensures))) in
+    let s = args .slot .now in
     (c .before .before .put-answer .ensures .0 ∙ ap (slotNumber s) e, c .before .before .put-answer .ensures .1 ∙ ap (slotBytes s) e)
 
 pub fractal-heap-decode-managed-id-spec : {M : Type 1} → statement M
 fractal-heap-decode-managed-id-spec =
-    tie.close (tie.spec id-in-requires answer-requires put-answer-requires same-length returns)
+    tie.close
+    (tie.spec
+    to-usize-requires
+    parse-requires
+    decode-managed-id-requires
+    answer-requires
+    put-answer-requires
+    same-length
+    returns)

@@ -4,7 +4,7 @@ use Rattle.heap_tools_c.proofs.tools_heap_id_type.Statement.{statement}
 use Rattle.heap_tools_c.proofs.tools_heap_id_type.Tie as tie
 use mathlib.Core.Path.{ap, _∙_}
 use Rattle.fields.specs.Refusals.{slotNumber, slotBytes}
-use Rattle.fractal_heap.specs.Id.{idTypeAnswer}
+use Rattle.heap_ids.specs.Id.{idTypeAnswer}
 
 heap-id-type-requires : tie.Need-heap-id-type-requires
 heap-id-type-requires c κs = search needs

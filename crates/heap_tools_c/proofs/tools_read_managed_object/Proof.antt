@@ -1,14 +1,14 @@
--- `tools_read_managed_object` meets its contract: what its callees ensure, joined. Assumes nothing.
+-- `tools_read_managed_object` meets its contract. What its callees ensure, joined. Assumes nothing.
 use borrow.Author.Needs.{needs}
 use Rattle.heap_tools_c.proofs.tools_read_managed_object.Statement.{statement}
 use Rattle.heap_tools_c.proofs.tools_read_managed_object.Tie as tie
 use mathlib.Core.Path.{ap, _∙_}
 use Rattle.fields.specs.Refusals.{slotNumber, slotBytes}
-use Rattle.heap_blocks.specs.Blocks.{foundAnswer}
 use Prim.Native.Nat.{ℕ}
 use Rattle.fractal_heap.specs.declared.header.Parsed.{Parsed}
 use Rattle.fractal_heap.specs.Header.{headerAt}
-use Rattle.heap_tools_c.specs.HeapTools.{objectBy}
+use Rattle.heap_blocks.specs.Blocks.{foundAnswer}
+use Rattle.fractal_heap.specs.Read.{objectBy}
 
 to-usize-requires : tie.Need-to-usize-requires
 to-usize-requires c κs = search needs
@@ -16,8 +16,8 @@ to-usize-requires c κs = search needs
 parse-requires : tie.Need-parse-requires
 parse-requires c κs = search needs
 
-object-by-requires : tie.Need-object-by-requires
-object-by-requires c κs = search needs
+read-managed-object-requires : tie.Need-read-managed-object-requires
+read-managed-object-requires c κs = search needs
 
 answer-requires : tie.Need-answer-requires
 answer-requires c κs = search needs
@@ -29,9 +29,9 @@ same-length : tie.Need-same-length
 same-length c = search needs
 
 returns : tie.Need-returns
-returns c =
+returns c = 
     let args = c .before .before .before .before .before .before .before .before .before .before .before .args in
-    let e = c .before .before .before .answer .ensures ∙ ap foundAnswer (c .before .before .before .before .object-by .ensures ∙ ap (λ (p : Parsed). objectBy p (args .file .now) (args .id .now) (args .read-size)) (c .before .before .before .before .before .before .parse .ensures ∙ ap (λ (p : ℕ). headerAt (args .file .now) p (args .offset-size) (args .length-size)) (c .before .before .before .before .before .before .before .to-usize .ensures))) in
+    let e = c .before .before .before .answer .ensures ∙ ap foundAnswer (c .before .before .before .before .read-managed-object .ensures ∙ ap (λ (p : Parsed). objectBy p (args .file .now) (args .id .now) (args .read-size)) (c .before .before .before .before .before .before .parse .ensures ∙ ap (λ (p : ℕ). headerAt (args .file .now) p (args .offset-size) (args .length-size)) (c .before .before .before .before .before .before .before .to-usize .ensures))) in
     let s = args .slot .now in
     (c .before .before .put-answer .ensures .0 ∙ ap (slotNumber s) e, c .before .before .put-answer .ensures .1 ∙ ap (slotBytes s) e)
 
@@ -41,7 +41,7 @@ tools-read-managed-object-spec =
     (tie.spec
     to-usize-requires
     parse-requires
-    object-by-requires
+    read-managed-object-requires
     answer-requires
     put-answer-requires
     same-length
