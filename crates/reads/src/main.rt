@@ -128,20 +128,6 @@ fn parse(head: &[u8], file: &[u8]) -> Parsed
     FractalHeapHeader::parse(file, to_usize(read_u64_le(head, 14)), head[1], head[2])
 }
 
-fn decode(parsed: Parsed, id: &[u8]) -> Answer {
-    match parsed {
-        Parsed::Header(h) => h.decode_managed_id(id).answer(),
-        Parsed::Refused(e) => refused(e),
-    }
-}
-
-fn read(parsed: Parsed, file: &[u8], id: &[u8], offset_size: u8) -> Answer {
-    match parsed {
-        Parsed::Header(h) => h.read_managed_object(file, id, offset_size).answer(),
-        Parsed::Refused(e) => refused(e),
-    }
-}
-
 fn is_parsed(head: &[u8], parsed: Parsed) -> bool {
     match parsed {
         Parsed::Header(h) => is_header(head, h),
@@ -155,8 +141,11 @@ fn is_same(head: &[u8], file: &[u8], id: &[u8]) -> bool
 {
     match head[0] {
         0 => is_parsed(head, parse(head, file)),
-        1 => is_answer(head, decode(parse(head, file), id)),
-        2 => is_answer(head, read(parse(head, file), file, id, head[3])),
+        1 => is_answer(head, parse(head, file).decode_managed_id(id).answer()),
+        2 => {
+            let found = parse(head, file).read_managed_object(file, id, head[3]);
+            is_answer(head, found.answer())
+        },
         3 => is_answer(head, read_tiny_object(read_u16_le(head, 4), id).answer()),
         _ => is_answer(head, FractalHeapHeader::heap_id_type(id).answer()),
     }
