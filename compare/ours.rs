@@ -1,5 +1,5 @@
 //! Our static libraries, each C function behind a safe one: `fractal_heap_c`, which the loader calls, and the
-//! tests' own `tools_c` and `heap_tools_c`.
+//! tests' own `tools_c`, `plan_tools_c` and `heap_tools_c`.
 use crate::made::Heap;
 use original::Answer;
 
@@ -49,6 +49,10 @@ unsafe extern "C" {
         slot: *mut u8,
         slot_len: usize,
     ) -> u32;
+}
+
+#[link(name = "plan_tools_c", kind = "static")]
+unsafe extern "C" {
     fn tools_plan(
         sizes: *const u64,
         sizes_len: usize,

@@ -38,13 +38,13 @@ split-least B n x h l =
 
 -- ---- the number of a short ID, from its last byte down
 
-no-bytes : (s : List ℕ) (p : ℕ) → leAt s p 0 ≡ 0
+none-at : (s : List ℕ) (p : ℕ) → leAt s p 0 ≡ 0
 unfolding leAt value
-no-bytes s p = refl
+none-at s p = refl
 
 module _ (s : List ℕ) (short : length s < 8) where
   pub number-none : (i : ℕ) → i ≡ length s → 0 ≡ leAt s i 8
-  number-none i e = sym (leAt-end s i 8 0 (omega arith) (omega arith) ∙ no-bytes s i)
+  number-none i e = sym (leAt-end s i 8 0 (omega arith) (omega arith) ∙ none-at s i)
 
   -- after its first byte it has at most six bytes
   pub number-small : ((j : ℕ) → getD s j 0 < 256) → (i : ℕ) → 0 < i → leAt s i 8 < 2 ^ 48

@@ -7,7 +7,7 @@ use lib.ListN.{length, set}
 use borrow.Author.Tests.{lt-ltb, le-ltb}
 use Rattle.plan.specs.Answer.{plannedNumber, fronted}
 use Rattle.plan.specs.declared.Planned.{Planned}
-use Rattle.tools_c.specs.Tools.{plannedTotals, planNumber, planTotals, afterTotals}
+use Rattle.plan_tools_c.specs.PlanTools.{plannedTotals, planNumber, planTotals, afterTotals}
 
 pub two-set : (l : List ℕ) (a b : ℕ) → 8 ≤ length l → set (set l 0 a) 1 b ≡ fronted (a ∷ b ∷ []) l
 unfolding fronted

@@ -7,9 +7,9 @@ use Rattle.table.specs.Table.{fixed}
 use Rattle.plan.specs.Steps.{planOffsets, planStarts}
 use Rattle.plan.specs.Answer.{fronted, written}
 use Rattle.plan.specs.declared.Planned.{Planned}
-use Rattle.tools_c.proofs.Numbers.{number-short, totals-short, after-short, number-long, totals-long, after-long}
-use Rattle.tools_c.proofs.tools_plan.Statement.{statement}
-use Rattle.tools_c.proofs.tools_plan.Tie as tie
+use Rattle.plan_tools_c.proofs.Numbers.{number-short, totals-short, after-short, number-long, totals-long, after-long}
+use Rattle.plan_tools_c.proofs.tools_plan.Statement.{statement}
+use Rattle.plan_tools_c.proofs.tools_plan.Tie as tie
 
 returns : tie.Need-returns
 returns c = (number-short ((c .before .before .before .before .before) .args .totals .now) (c .if1 .taken) _, (totals-short ((c .before .before .before .before .before) .args .totals .now) (c .if1 .taken) _, (after-short ((c .before .before .before .before .before) .args .totals .now) (c .if1 .taken) _ _, after-short ((c .before .before .before .before .before) .args .totals .now) (c .if1 .taken) _ _)))
