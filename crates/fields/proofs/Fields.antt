@@ -13,7 +13,7 @@ use Rattle.fields.specs.Fields.{legal, lenChecked, ifPassed, fieldAt, of
 use Rattle.fields.specs.declared.bytes.Checked.{Checked}
 use Rattle.fields.specs.declared.bytes.Checked.the-variants.{Passed, Refused as NotPassed}
 use Rattle.fields.specs.declared.bytes.Field.the-variants.{Value}
-use Rattle.fields.specs.declared.error.FormatError.{FormatError}
+use Rattle.refusals.specs.declared.FormatError.{FormatError}
 use Rattle.fields.proofs.LittleEndian.{le-undefined, Stored, round-trip}
 
 -- ---- widths

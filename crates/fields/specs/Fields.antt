@@ -6,8 +6,8 @@ use mathlib.Core.Bool.{Bool, cond, _||_, _&&_}
 use lib.ListN.{length, replicate}
 use lib.Dec.{leb, eqb}
 use Rattle.fields.specs.LittleEndian.{le, leAt, put}
-use Rattle.fields.specs.declared.error.FormatError.{FormatError}
-use Rattle.fields.specs.declared.error.FormatError.the-variants.{UnexpectedEof, InvalidOffsetSize, InvalidLengthSize, SliceTooShort}
+use Rattle.refusals.specs.declared.FormatError.{FormatError}
+use Rattle.refusals.specs.declared.FormatError.the-variants.{UnexpectedEof, InvalidOffsetSize, InvalidLengthSize, SliceTooShort}
 use Rattle.fields.specs.declared.bytes.Checked.{Checked}
 use Rattle.fields.specs.declared.bytes.Checked.the-variants.{Passed, Refused as NotPassed}
 use Rattle.fields.specs.declared.bytes.Field.{Field}

@@ -1,3 +1,3 @@
 pub mod LittleEndian
 pub mod Fields
-pub mod Refusals
+pub mod Answers

@@ -5,11 +5,11 @@ ghost use lib.ListN.{length};
 ghost use lib.Dec.{leb};
 ghost use Rattle.fields.specs.LittleEndian.{le, leAt, put};
 ghost use mathlib.Core.Bool.{true};
-ghost use Rattle.fields.specs.Refusals.{checkedAnswer, fieldAnswer};
+ghost use Rattle.fields.specs.Answers.{checkedAnswer, fieldAnswer};
 ghost use Rattle.fields.specs.Fields.{legal, saturated, lenChecked, fieldAt, offsetAt, lengthAt, storeChecked, offsetStored, undefStored};
-use crate::error::Answer;
-use crate::error::FormatError;
-use crate::error::refused;
+use refusals::Answer;
+use refusals::FormatError;
+use refusals::refused;
 
 // A test that has no value to give.
 pub enum Checked {

@@ -5,8 +5,8 @@ use Prim.Native.Nat.{ℕ, _+_, _*_}
 use mathlib.Core.List.{List}
 use Rattle.fields.specs.LittleEndian.{leAt}
 use Rattle.fields.specs.Fields.{afterCheck}
-use Rattle.fields.specs.Refusals.{answer, refusal}
-use Rattle.fields.specs.declared.error.Answer.{Answer}
+use Rattle.refusals.specs.Refusals.{answer, refusal}
+use Rattle.refusals.specs.declared.Answer.{Answer}
 use Rattle.header_layout.specs.Layout.{btreePlace, countPlace, tablePlace, headerChecked}
 use Rattle.heap_rows.specs.declared.DoublingTable.{DoublingTable}
 use Rattle.fractal_heap.specs.declared.header.FractalHeapHeader.{FractalHeapHeader}

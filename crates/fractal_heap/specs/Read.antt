@@ -4,7 +4,7 @@ use mathlib.Core.List.{List}
 use mathlib.Core.Bool.{cond}
 use lib.Dec.{ltb, eqb}
 use Rattle.fields.specs.Fields.{undefinedAddr}
-use Rattle.fields.specs.declared.error.FormatError.the-variants.{UnexpectedEof, UnsupportedFilteredHeapObject}
+use Rattle.refusals.specs.declared.FormatError.the-variants.{UnexpectedEof, UnsupportedFilteredHeapObject}
 use Rattle.heap_blocks.specs.Blocks.{directAt, walkFrom}
 use Rattle.heap_blocks.specs.declared.Found.{Found}
 use Rattle.heap_blocks.specs.declared.Found.the-variants.{Refused}

@@ -10,11 +10,11 @@ use fields::bytes::Checked;
 use fields::bytes::read_le;
 use fields::bytes::read_u16_le;
 use fields::bytes::read_u32_le;
-use fields::error::Answer;
-use fields::error::FormatError;
-use fields::error::refused;
 use header_layout::check_header;
 use heap_rows::DoublingTable;
+use refusals::Answer;
+use refusals::FormatError;
+use refusals::refused;
 
 pub struct FractalHeapHeader {
     pub heap_id_length: u16,

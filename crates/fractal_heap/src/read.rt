@@ -5,12 +5,12 @@ ghost use Rattle.fractal_heap.specs.Read.{rootAt, managedAt, idBy, objec
 use crate::header::FractalHeapHeader;
 use crate::header::Parsed;
 use fields::convert::is_undefined_addr;
-use fields::error::FormatError;
 use heap_blocks::Found;
 use heap_blocks::read_from_direct_block;
 use heap_blocks::read_from_indirect_block;
 use heap_ids::IdType;
 use heap_ids::ManagedId;
+use refusals::FormatError;
 
 impl FractalHeapHeader {
     // The type of an ID.

@@ -12,7 +12,7 @@ use Rattle.fields.specs.Fields.{legal, lenChecked, afterCheck}
 use Rattle.fields.proofs.Fields.{len-within}
 use Rattle.fields.specs.declared.bytes.Checked.{Checked}
 use Rattle.fields.specs.declared.bytes.Checked.the-variants.{Passed, Refused}
-use Rattle.fields.specs.declared.error.FormatError.{FormatError}
+use Rattle.refusals.specs.declared.FormatError.{FormatError}
 use Rattle.header_layout.specs.Layout.{headerEnd, sumPlace, tooShort, endsChecked, frontEnds, addressEnds, startChecked, layoutChecked, sumChecked, headerChecked}
 
 -- ---- ends

@@ -11,7 +11,7 @@ use Rattle.fields.specs.LittleEndian.{leAt}
 use Rattle.fields.specs.Fields.{legal, lenChecked, afterCheck}
 use Rattle.fields.specs.declared.bytes.Checked.{Checked}
 use Rattle.fields.specs.declared.bytes.Checked.the-variants.{Passed, Refused}
-use Rattle.fields.specs.declared.error.FormatError.the-variants.{UnexpectedEof, InvalidOffsetSize, InvalidLengthSize, InvalidFractalHeapSignature, InvalidFractalHeapVersion, ChecksumMismatch}
+use Rattle.refusals.specs.declared.FormatError.the-variants.{UnexpectedEof, InvalidOffsetSize, InvalidLengthSize, InvalidFractalHeapSignature, InvalidFractalHeapVersion, ChecksumMismatch}
 use Rattle.checksum.specs.Lookup3.{hashlittle}
 
 -- where fields stand in the header: the B-tree of huge objects, after the next huge object's ID

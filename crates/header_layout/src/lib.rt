@@ -10,7 +10,7 @@ use fields::bytes::ensure_len;
 use fields::bytes::is_width;
 use fields::bytes::read_u16_le;
 use fields::bytes::read_u32_le;
-use fields::error::FormatError;
+use refusals::FormatError;
 
 // A field that ends past the file.
 fn short(end: usize, lent: usize) -> Checked

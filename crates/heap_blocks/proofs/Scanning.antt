@@ -12,7 +12,7 @@ use borrow.Author.Tests.{le-leb, lt-leb, le-ltb, lt-ltb, leb-true}
 use Rattle.fields.specs.LittleEndian.{leAt}
 use Rattle.fields.specs.Fields.{saturated, legal, offsetAt, undefinedAddr}
 use Rattle.fields.specs.declared.bytes.Field.the-variants.{Value, Refused as NoValue}
-use Rattle.fields.specs.declared.error.FormatError.{FormatError}
+use Rattle.refusals.specs.declared.FormatError.{FormatError}
 use Rattle.fields.proofs.Fields.{offset-read}
 use Rattle.heap_rows.specs.declared.DoublingTable.{DoublingTable}
 use Rattle.heap_rows.specs.Rows.{slotSize}

@@ -11,8 +11,8 @@ use lib.Dec.{leb}
 use Rattle.fields.specs.Fields.{saturated, lenChecked, afterCheck}
 use Rattle.fields.specs.declared.bytes.Checked.{Checked}
 use Rattle.fields.specs.declared.bytes.Checked.the-variants.{Passed, Refused as NotPassed}
-use Rattle.fields.specs.declared.error.FormatError.{FormatError}
-use Rattle.fields.specs.declared.error.FormatError.the-variants.{UnexpectedEof, DepthExceeded, OffsetOverflow}
+use Rattle.refusals.specs.declared.FormatError.{FormatError}
+use Rattle.refusals.specs.declared.FormatError.the-variants.{UnexpectedEof, DepthExceeded, OffsetOverflow}
 use Rattle.fields.proofs.Fields.{len-within}
 use Rattle.heap_rows.specs.declared.DoublingTable.{DoublingTable}
 use Rattle.heap_blocks.specs.declared.HeapChild.{HeapChild}

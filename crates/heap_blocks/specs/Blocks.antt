@@ -8,9 +8,9 @@ use lib.ListN.{length, drop}
 use lib.Dec.{leb, ltb, eqb}
 use Rattle.fields.specs.LittleEndian.{leAt}
 use Rattle.fields.specs.Fields.{saturated, lenChecked, offsetAt, undefinedAddr, afterCheck, afterField}
-use Rattle.fields.specs.Refusals.{answer, refusal}
-use Rattle.fields.specs.declared.error.Answer.{Answer}
-use Rattle.fields.specs.declared.error.FormatError.the-variants.{UnexpectedEof, InvalidFractalHeapSignature, OffsetOverflow, DepthExceeded}
+use Rattle.refusals.specs.Refusals.{answer, refusal}
+use Rattle.refusals.specs.declared.Answer.{Answer}
+use Rattle.refusals.specs.declared.FormatError.the-variants.{UnexpectedEof, InvalidFractalHeapSignature, OffsetOverflow, DepthExceeded}
 use Rattle.heap_rows.specs.declared.DoublingTable.{DoublingTable}
 use Rattle.heap_rows.specs.Rows.{blockSize, directRows, sizeToRows, slotSize}
 use Rattle.heap_blocks.specs.declared.RowScan.{RowScan}

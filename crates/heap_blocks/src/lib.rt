@@ -17,12 +17,12 @@ use fields::bytes::read_u32_le;
 use fields::bytes::saturating_add;
 use fields::convert::is_undefined_addr;
 use fields::convert::to_usize;
-use fields::error::Answer;
-use fields::error::FormatError;
-use fields::error::refused;
 use heap_rows::DoublingTable;
 use heap_rows::saturating_mul;
 use heap_rows::saturating_sub;
+use refusals::Answer;
+use refusals::FormatError;
+use refusals::refused;
 
 // What a row says of the wanted offset: the address of the slot that holds it and where the slot
 // begins, or where the next row's entries and offsets begin.

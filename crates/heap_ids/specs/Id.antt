@@ -6,9 +6,9 @@ use mathlib.Core.Bool.{cond}
 use lib.ListN.{length, getD}
 use lib.Dec.{leb, ltb, eqb}
 use Rattle.fields.specs.LittleEndian.{leAt}
-use Rattle.fields.specs.Refusals.{answer, refusal}
-use Rattle.fields.specs.declared.error.Answer.{Answer}
-use Rattle.fields.specs.declared.error.FormatError.the-variants.{UnexpectedEof, InvalidHeapIdType}
+use Rattle.refusals.specs.Refusals.{answer, refusal}
+use Rattle.refusals.specs.declared.Answer.{Answer}
+use Rattle.refusals.specs.declared.FormatError.the-variants.{UnexpectedEof, InvalidHeapIdType}
 use Rattle.heap_blocks.specs.declared.Found.{Found}
 use Rattle.heap_blocks.specs.declared.Found.the-variants.{At, Refused as NotFound}
 use Rattle.heap_ids.specs.declared.HeapIdType.{HeapIdType}

@@ -6,11 +6,11 @@ ghost use lib.ListN.{length};
 ghost use Rattle.fields.specs.LittleEndian.{leAt};
 ghost use Rattle.heap_ids.specs.Id.{typeOf, typeNamed, idTypeOf, typeNumber, idTypeAnswer, decodedId, decodedAnswer, tinyIn, tinyAt};
 use fields::bytes::read_u64_le;
-use fields::error::Answer;
-use fields::error::FormatError;
-use fields::error::refused;
 use heap_blocks::Found;
 use heap_rows::saturating_sub;
+use refusals::Answer;
+use refusals::FormatError;
+use refusals::refused;
 
 pub enum HeapIdType {
     Managed,

@@ -7,7 +7,7 @@ use lib.ListN.{length, getD}
 use lib.Dec.{leb, ltb, eqb}
 use borrow.Author.Tests.{leb-true}
 use Rattle.fields.specs.Fields.{undefinedAddr}
-use Rattle.fields.specs.declared.error.FormatError.the-variants.{UnexpectedEof}
+use Rattle.refusals.specs.declared.FormatError.the-variants.{UnexpectedEof}
 use Rattle.heap_blocks.specs.declared.Found.{Found}
 use Rattle.heap_blocks.specs.declared.Found.the-variants.{At, Refused}
 use Rattle.heap_blocks.proofs.Walking.{Inside, direct-inside, walk-inside}

@@ -7,7 +7,7 @@ use lib.ListN.{length, take, drop, set}
 use lib.Seq.{drop-drop, sets}
 use Rattle.fields.specs.LittleEndian.{put}
 use Rattle.fields.proofs.LittleEndian.{put-sets}
-use Rattle.fields.specs.declared.error.Answer.{Answer}
+use Rattle.refusals.specs.declared.Answer.{Answer}
 use Rattle.heap_blocks.specs.Blocks.{foundAnswer}
 use Rattle.fractal_heap.specs.declared.header.FractalHeapHeader.{FractalHeapHeader}
 use Rattle.fractal_heap.specs.Read.{managedAt}

@@ -5,8 +5,8 @@ use mathlib.Core.List.{List, [], _∷_, _++_}
 use lib.ListN.{length, take, drop}
 use lib.Dec.{ltb}
 use Rattle.fields.specs.LittleEndian.{put}
-use Rattle.fields.specs.Refusals.{refusal}
-use Rattle.fields.specs.declared.error.Answer.{Answer}
+use Rattle.refusals.specs.Refusals.{refusal}
+use Rattle.refusals.specs.declared.Answer.{Answer}
 use Rattle.heap_blocks.specs.Blocks.{foundAnswer}
 use Rattle.fractal_heap.specs.declared.header.FractalHeapHeader.{FractalHeapHeader}
 use Rattle.fractal_heap.specs.declared.header.Parsed.{Parsed}

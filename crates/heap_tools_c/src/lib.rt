@@ -4,19 +4,19 @@ ghost use mathlib.Core.Path.{_≡_};
 ghost use Prim.Native.Nat.{_*_, _/_, _≤_};
 ghost use lib.ListN.{length};
 ghost use Rattle.fields.specs.LittleEndian.{put};
-ghost use Rattle.fields.specs.Refusals.{slotNumber, slotBytes};
+ghost use Rattle.fields.specs.Answers.{slotNumber, slotBytes};
 ghost use Rattle.heap_blocks.specs.Blocks.{foundAnswer};
 ghost use Rattle.fractal_heap.specs.Header.{headerAt};
 ghost use Rattle.fractal_heap.specs.Read.{objectBy};
 ghost use Rattle.heap_ids.specs.Id.{idTypeOf, idTypeAnswer, tinyAt};
 ghost use Rattle.heap_tools_c.specs.HeapTools.{fieldNumbers, pairOf, fieldsNumber, fieldsList, answersFrom, eachNumber, eachList};
 use fields::convert::to_usize;
-use fields::error::Answer;
-use fields::error::refused;
 use fields::slot::put_answer;
 use fractal_heap::header::FractalHeapHeader;
 use fractal_heap::header::Parsed;
 use heap_ids::read_tiny_object;
+use refusals::Answer;
+use refusals::refused;
 
 // The twelve fields in the original's order.
 fn put_fields(fields: &mut [u64], h: FractalHeapHeader)

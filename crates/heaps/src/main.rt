@@ -2,11 +2,11 @@
 // and prints a line for each: its width and sizes, then the eight totals or the refusal, then what the
 // two lists hold. The file stdout beside src/ holds what the original answers.
 ghost use Prim.Native.Nat.{_<_, _≤_};
-use fields::error::Answer;
-use fields::error::refused;
 use libc::STDOUT_FILENO;
 use plan::ManagedPlan;
 use plan::Planned;
+use refusals::Answer;
+use refusals::refused;
 
 // What a lent place holds before a call.
 const MARK: u64 = 42_405;

@@ -10,7 +10,7 @@ use lib.Dec.{leb}
 use lib.ListN.{length, drop, getD, drop-of-length-le}
 use lib.Seq.{drop-cons}
 use borrow.Author.Tests.{le-leb, lt-leb, leb-true, le-ltb, lt-ltb}
-use Rattle.fields.specs.declared.error.FormatError.the-variants.{ObjectTooLarge}
+use Rattle.refusals.specs.declared.FormatError.the-variants.{ObjectTooLarge}
 use Rattle.fields.specs.declared.bytes.Checked.{Checked}
 use Rattle.fields.specs.declared.bytes.Checked.the-variants.{Passed, Refused as NotPassed}
 use Rattle.table.specs.Table.{Table, fixed}

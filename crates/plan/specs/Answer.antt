@@ -5,8 +5,8 @@ use mathlib.Core.List.{List, [], _∷_, _++_}
 use lib.ListN.{length, drop}
 use lib.Dec.{leb, eqb}
 use Rattle.fields.specs.Fields.{legal}
-use Rattle.fields.specs.Refusals.{refusal}
-use Rattle.fields.specs.declared.error.FormatError.the-variants.{InvalidOffsetSize, ObjectTooLarge, HeapSpaceExhausted, SliceTooShort}
+use Rattle.refusals.specs.Refusals.{refusal}
+use Rattle.refusals.specs.declared.FormatError.the-variants.{InvalidOffsetSize, ObjectTooLarge, HeapSpaceExhausted, SliceTooShort}
 use Rattle.fields.specs.declared.bytes.Checked.{Checked}
 use Rattle.fields.specs.declared.bytes.Checked.the-variants.{Passed, Refused as NotPassed}
 use Rattle.table.specs.Table.{Table, fixed, rowOffset, covering}

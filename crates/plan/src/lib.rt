@@ -14,7 +14,7 @@ ghost use Rattle.plan.specs.Filling.{fillOffsets, filledFrom, overwritte
 ghost use Rattle.plan.specs.Requires.{Bounded, InHeap, Small, Totalled, Runs};
 use fields::bytes::Checked;
 use fields::bytes::is_width;
-use fields::error::FormatError;
+use refusals::FormatError;
 use table::Covering;
 use table::Slot;
 use table::capacity_sum;

@@ -9,7 +9,7 @@ use lib.Dec.{leb}
 use lib.ListN.{length, take, length-take}
 use Rattle.fields.specs.declared.bytes.Checked.{Checked}
 use Rattle.fields.specs.declared.bytes.Checked.the-variants.{Passed, Refused as NotPassed}
-use Rattle.fields.specs.declared.error.FormatError.the-variants.{ObjectTooLarge}
+use Rattle.refusals.specs.declared.FormatError.the-variants.{ObjectTooLarge}
 use Rattle.table.specs.Table.{Table, fixed}
 use Rattle.plan.specs.declared.State.{State}
 use Rattle.plan.specs.declared.Step.{Step}

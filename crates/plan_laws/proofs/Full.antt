@@ -9,7 +9,7 @@ use native.Mathlib.Nat.{zero-add}
 use lib.Dec.{leb}
 use lib.ListN.{length, take, getD}
 use borrow.Author.Tests.{leb-false}
-use Rattle.fields.specs.declared.error.FormatError.the-variants.{HeapSpaceExhausted}
+use Rattle.refusals.specs.declared.FormatError.the-variants.{HeapSpaceExhausted}
 use Rattle.fields.specs.declared.bytes.Checked.the-variants.{Passed}
 use Rattle.table.specs.Table.{Table, fixed}
 use Rattle.table.specs.Sizes.{directHeader}

@@ -7,10 +7,10 @@ ghost use Rattle.table.specs.Table.{fixed};
 ghost use Rattle.plan.specs.Steps.{planOffsets, planStarts};
 ghost use Rattle.plan.specs.Answer.{answer, numbers, fronted, written};
 ghost use Rattle.plan_tools_c.specs.PlanTools.{planNumber, planTotals, afterTotals};
-use fields::error::Answer;
-use fields::error::refused;
 use plan::ManagedPlan;
 use plan::Planned;
+use refusals::Answer;
+use refusals::refused;
 
 fn put_numbers(totals: &mut [u64], p: ManagedPlan)
     requires { ⌜ 8 ≤ length (now totals) ⌝ }

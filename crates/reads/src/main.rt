@@ -14,13 +14,13 @@ use fields::bytes::read_u16_le;
 use fields::bytes::read_u32_le;
 use fields::bytes::read_u64_le;
 use fields::convert::to_usize;
-use fields::error::Answer;
-use fields::error::refused;
 use fractal_heap::header::FractalHeapHeader;
 use fractal_heap::header::Parsed;
 use heap_ids::read_tiny_object;
 use libc::STDIN_FILENO;
 use libc::STDOUT_FILENO;
+use refusals::Answer;
+use refusals::refused;
 
 // A case in the list: where its file and its ID begin, and where the next case does.
 enum Case {

@@ -5,7 +5,7 @@ ghost use mathlib.Core.Path.{_≡_};
 ghost use lib.ListN.{length};
 ghost use Rattle.checksum.specs.Lookup3.{hashlittle};
 ghost use Rattle.fields.specs.Fields.{undefinedAddr, lenChecked, offsetAt, lengthAt, storeChecked, offsetStored, undefStored};
-ghost use Rattle.fields.specs.Refusals.{checkedAnswer, fieldAnswer, slotNumber, slotBytes};
+ghost use Rattle.fields.specs.Answers.{checkedAnswer, fieldAnswer, slotNumber, slotBytes};
 ghost use Rattle.tools_c.specs.Tools.{oneIf, afterSlot};
 use checksum::jenkins_lookup3;
 use fields::bytes::ensure_len;

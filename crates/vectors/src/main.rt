@@ -9,8 +9,8 @@ use fields::bytes::read_offset;
 use fields::bytes::write_offset;
 use fields::bytes::write_undef_offset;
 use fields::convert::is_undefined_addr;
-use fields::error::Answer;
 use libc::STDOUT_FILENO;
+use refusals::Answer;
 
 fn text(bytes: &[u8]) {
     io::write_all(STDOUT_FILENO, bytes);

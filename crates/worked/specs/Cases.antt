@@ -4,8 +4,8 @@ use Prim.Native.Nat.{ℕ, _-_, _^_, _≤_, _<_, max}
 use mathlib.Core.Path.{_≡_}
 use mathlib.Core.List.{List, [], _∷_}
 use lib.ListN.{length}
-use Rattle.fields.specs.declared.error.FormatError.{FormatError}
-use Rattle.fields.specs.declared.error.FormatError.the-variants.{UnexpectedEof, ObjectTooLarge}
+use Rattle.refusals.specs.declared.FormatError.{FormatError}
+use Rattle.refusals.specs.declared.FormatError.the-variants.{UnexpectedEof, ObjectTooLarge}
 use Rattle.table.specs.Table.{fixed, rowBits, rowOffset}
 use Rattle.plan.specs.declared.ManagedPlan.{ManagedPlan}
 use Rattle.plan.specs.declared.Planned.the-variants.{Accepted, Refused}

@@ -6,7 +6,7 @@ use mathlib.Core.Path.{refl, sym, ap, _∙_}
 use native.Mathlib.Omega.{arith}
 use lib.ListN.{length}
 use borrow.Author.Tests.{lt-ltb, le-ltb}
-use Rattle.fields.specs.declared.error.Answer.{Answer}
+use Rattle.refusals.specs.declared.Answer.{Answer}
 use Rattle.fields.specs.LittleEndian.{put}
 use Rattle.heap_tools_c.specs.HeapTools.{pairOf, fieldsNumber, fieldsList}
 

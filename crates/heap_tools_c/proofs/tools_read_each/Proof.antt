@@ -4,7 +4,7 @@ use Rattle.heap_tools_c.proofs.tools_read_each.Statement.{statement}
 use Rattle.heap_tools_c.proofs.tools_read_each.Tie as tie
 use mathlib.Core.Path.{refl, sym, ap, _∙_}
 use borrow.Author.Tests.{lt-ltb, le-ltb}
-use Rattle.fields.specs.declared.error.Answer.{Answer}
+use Rattle.refusals.specs.declared.Answer.{Answer}
 use Rattle.heap_tools_c.specs.HeapTools.{tooFew, eachNumber, eachList}
 
 returns : tie.Need-returns

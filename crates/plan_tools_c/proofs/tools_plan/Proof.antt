@@ -2,7 +2,7 @@
 use borrow.Author.Needs.{needs}
 use mathlib.Core.Path.{sym, ap, _∙_}
 use mathlib.Core.List.{[], _∷_}
-use Rattle.fields.specs.declared.error.Answer.{Answer as Pair}
+use Rattle.refusals.specs.declared.Answer.{Answer as Pair}
 use Rattle.table.specs.Table.{fixed}
 use Rattle.plan.specs.Steps.{planOffsets, planStarts}
 use Rattle.plan.specs.Answer.{fronted, written}

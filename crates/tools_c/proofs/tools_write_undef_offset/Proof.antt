@@ -5,7 +5,7 @@ use mathlib.Core.Path.{refl, ap, _∙_}
 use Prim.Native.Nat.{ℕ}
 use lib.ListN.{length}
 use Rattle.fields.specs.Fields.{storeChecked, undefStored}
-use Rattle.fields.specs.Refusals.{checkedAnswer, slotNumber, slotBytes}
+use Rattle.fields.specs.Answers.{checkedAnswer, slotNumber, slotBytes}
 use Rattle.tools_c.specs.Tools.{afterSlot}
 use Rattle.tools_c.proofs.tools_write_undef_offset.Statement.{statement}
 use Rattle.tools_c.proofs.tools_write_undef_offset.Tie as tie

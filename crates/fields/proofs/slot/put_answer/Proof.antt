@@ -3,7 +3,7 @@ use borrow.Author.Tests.{lt-ltb, le-ltb}
 use mathlib.Core.Path.{refl, ap, _∙_}
 use borrow.Author.Needs.{needs}
 use Rattle.fields.specs.LittleEndian.{le, put}
-use Rattle.fields.specs.Refusals.{slotNumber, slotBytes}
+use Rattle.fields.specs.Answers.{slotNumber, slotBytes}
 use Rattle.fields.proofs.slot.put_answer.Statement.{statement}
 use Rattle.fields.proofs.slot.put_answer.Tie as tie
 

@@ -1,6 +1,6 @@
 // Why a call is refused: the causes, and the number and two values that each is reported by.
 ghost use mathlib.Core.Path.{_≡_};
-ghost use Rattle.fields.specs.Refusals.{refusal};
+ghost use Rattle.refusals.specs.Refusals.{refusal};
 
 // The causes, named as in the Rust where it has them, with the values that are reported.
 pub enum FormatError {

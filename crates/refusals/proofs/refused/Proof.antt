@@ -1,7 +1,7 @@
 -- `refused` meets its contract: each field is that of the definition. Assumes nothing.
 use borrow.Author.Needs.{needs}
-use Rattle.fields.proofs.error.refused.Statement.{statement}
-use Rattle.fields.proofs.error.refused.Tie as tie
+use Rattle.refusals.proofs.refused.Statement.{statement}
+use Rattle.refusals.proofs.refused.Tie as tie
 
 number-requires : tie.Need-number-requires
 number-requires c κs = search needs
