@@ -17,10 +17,12 @@ fn main() {
     let words: Vec<String> = std::env::args().skip(1).collect();
     match words.iter().map(String::as_str).collect::<Vec<_>>()[..] {
         ["compare"] => {
-            fields::compare(1_000_000);
-            checksum::compare(1_000_000);
-            plan::compare(100_000);
-            heap::compare(1_000_000);
+            std::thread::scope(|both| {
+                both.spawn(|| plan::compare(100_000)); // the longest, beside all others
+                fields::compare(1_000_000);
+                checksum::compare(1_000_000);
+                heap::compare(1_000_000);
+            });
         }
         ["record", "vectors"] => print!("{}", record::vectors()),
         ["record", "heaps"] => print!("{}", record::heaps()),
