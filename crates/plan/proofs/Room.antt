@@ -19,16 +19,16 @@ use Rattle.table_laws.specs.Count.{count}
 use Rattle.table_laws.proofs.Counting.{count-add, count-all}
 use Rattle.table_laws.proofs.Format.{inBody, slot-body}
 use Rattle.table_laws.proofs.Bodies.{first-bodies, bodies}
-use Rattle.plan.specs.Steps.{blockEnd, initial, stepOf, runFrom, run}
+use Rattle.plan_steps.specs.Steps.{blockEnd, initial, stepOf, runFrom, run}
 use Rattle.plan.specs.Answer.{oneBlock, closed, rowsIn, rootRows}
 use Rattle.plan.specs.Requires.{Totalled}
-use Rattle.plan.specs.declared.State.{State}
-use Rattle.plan.specs.declared.Step.{Step}
-use Rattle.plan.specs.declared.Step.the-variants.{Placed, Ends}
-use Rattle.plan.specs.declared.Run.{Run}
-use Rattle.plan.specs.declared.Run.the-variants.{Done, Short}
-use Rattle.plan.proofs.Stepping.{Same, New, Placing}
-use Rattle.plan.proofs.Running.{Sound, sound-initial, sound-bounded, sound-step, placing}
+use Rattle.plan_steps.specs.declared.State.{State}
+use Rattle.plan_steps.specs.declared.Step.{Step}
+use Rattle.plan_steps.specs.declared.Step.the-variants.{Placed, Ends}
+use Rattle.plan_steps.specs.declared.Run.{Run}
+use Rattle.plan_steps.specs.declared.Run.the-variants.{Done, Short}
+use Rattle.plan_steps.proofs.Stepping.{Same, New, Placing}
+use Rattle.plan_steps.proofs.Running.{Sound, sound-initial, sound-bounded, sound-step, placing}
 
 abbrev bodiesBelow : ℕ → ℕ → ℕ
 bodiesBelow w n = count (inBody fixed (directHeader fixed w)) n

@@ -10,10 +10,10 @@ use Rattle.table.specs.Table.{fixed, rowOffset}
 use Rattle.table.specs.Sizes.{directHeader, indirectSize}
 use Rattle.table.specs.Capacity.{sum, capacities, capacity}
 use Rattle.table.proofs.Capacity.{take-capacities, capacity-small}
-use Rattle.plan.specs.Steps.{blockEnd}
+use Rattle.plan_steps.specs.Steps.{blockEnd}
 use Rattle.plan.specs.Answer.{rootRows, rowTotals, totals}
 use Rattle.plan.specs.Requires.{Totalled}
-use Rattle.plan.specs.declared.State.{State}
+use Rattle.plan_steps.specs.declared.State.{State}
 use Rattle.plan.specs.declared.ManagedPlan.{ManagedPlan}
 use Rattle.plan.proofs.Room.{Reach, reach, no-rows}
 

@@ -1,26 +1,26 @@
--- The planner's answer: totals, refusals in their order, and what the lent lists hold at the end.
-use Prim.Native.Nat.{ℕ, suc, _+_, _-_, _^_, max}
-use mathlib.Core.Bool.{true, false, cond}
-use mathlib.Core.List.{List, [], _∷_, _++_}
-use lib.ListN.{length, drop}
-use lib.Dec.{leb, eqb}
-use Rattle.fields.specs.Fields.{legal}
+-- The planner's answer: totals, the tests and the run in their order, and what the lent lists hold at the end.
+use Prim.Native.Nat.{ℕ, _+_, _-_, _^_}
+use mathlib.Core.Bool.{cond}
+use mathlib.Core.List.{List, [], _∷_}
+use lib.Dec.{eqb}
 use Rattle.refusals.specs.Refusals.{refusal}
-use Rattle.refusals.specs.declared.FormatError.the-variants.{InvalidOffsetSize, ObjectTooLarge, HeapSpaceExhausted, SliceTooShort}
+use Rattle.refusals.specs.declared.FormatError.the-variants.{HeapSpaceExhausted}
 use Rattle.fields.specs.declared.bytes.Checked.{Checked}
 use Rattle.fields.specs.declared.bytes.Checked.the-variants.{Passed, Refused as NotPassed}
 use Rattle.table.specs.Table.{Table, fixed, rowOffset, covering}
 use Rattle.table.specs.declared.Covering.{Covering}
 use Rattle.table.specs.declared.Covering.the-variants.{Rows, Beyond}
-use Rattle.table.specs.Sizes.{directHeader, maxManaged, indirectSize}
+use Rattle.table.specs.Sizes.{directHeader, indirectSize}
 use Rattle.table.specs.Capacity.{capacity}
-use Rattle.plan.specs.declared.State.{State}
-use Rattle.plan.specs.declared.Run.{Run}
-use Rattle.plan.specs.declared.Run.the-variants.{Done, Short}
+use Rattle.plan_steps.specs.declared.State.{State}
+use Rattle.plan_steps.specs.declared.Run.{Run}
+use Rattle.plan_steps.specs.declared.Run.the-variants.{Done, Short}
+use Rattle.plan_steps.specs.Steps.{blockEnd, run}
+use Rattle.plan_checks.specs.Checks.{inputChecked}
+use Rattle.plan_lists.specs.Lists.{fronted}
 use Rattle.plan.specs.declared.ManagedPlan.{ManagedPlan}
 use Rattle.plan.specs.declared.Planned.{Planned}
 use Rattle.plan.specs.declared.Planned.the-variants.{Accepted, Refused}
-use Rattle.plan.specs.Steps.{blockEnd, run}
 
 -- without objects there is one block of the starting size, at 0
 abbrev pub oneBlock : Table → ℕ → State
@@ -76,31 +76,6 @@ unfoldable pub totals : Table → ℕ → State → ManagedPlan
 totals t w s =
     cond (eqb (rootRows t (blockEnd s)) 0) (bareTotals t w s) (rowTotals t w s (rootRows t (blockEnd s)))
 
--- the first size above the limit, counted from i on: 11
-unfoldable pub sizesChecked : ℕ → ℕ → List ℕ → Checked
-sizesChecked limit i [] = Passed
-sizesChecked limit i (x ∷ xs) =
-    elim (leb x limit) [ true ↦ sizesChecked limit (suc i) xs | false ↦ NotPassed (ObjectTooLarge i x) ]
-
--- a list of m places for n numbers: 13
-unfoldable pub placesChecked : ℕ → ℕ → Checked
-placesChecked n m = cond (leb n m) Passed (NotPassed (SliceTooShort n m))
-
--- the width of addresses: 2
-unfoldable pub widthChecked : ℕ → Checked
-widthChecked w = cond (legal w) Passed (NotPassed (InvalidOffsetSize w))
-
-abbrev pub thenChecked : Checked → Checked → Checked
-thenChecked Passed d = d
-thenChecked (NotPassed e) d = NotPassed e
-
--- the tests before any planning, for lists of o and b places: 2, 13 offsets, 13 blocks, 11
-unfoldable pub inputChecked : List ℕ → ℕ → ℕ → ℕ → Checked
-inputChecked xs o b w =
-    thenChecked (widthChecked w)
-    (thenChecked (placesChecked (length xs) o)
-    (thenChecked (placesChecked (max 1 (length xs)) b) (sizesChecked (maxManaged fixed w) 0 xs)))
-
 abbrev pub ranPlan : ℕ → Run → Planned
 ranPlan w (Done s) = Accepted (totals fixed w (closed fixed w s))
 ranPlan w (Short i) = Refused (HeapSpaceExhausted i)
@@ -128,10 +103,6 @@ plannedNumber (Refused e) = refusal e .number
 abbrev pub plannedValues : Planned → List ℕ
 plannedValues (Accepted p) = numbers p
 plannedValues (Refused e) = refusal e .first ∷ refusal e .second ∷ []
-
--- a list with other numbers in its first places
-unfoldable pub fronted : List ℕ → List ℕ → List ℕ
-fronted new old = new ++ drop (length new) old
 
 -- a lent list at the end: new numbers in front where the plan is accepted, else as it was
 abbrev pub written : Planned → List ℕ → List ℕ → List ℕ

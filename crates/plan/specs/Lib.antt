@@ -1,5 +1,2 @@
-pub mod Steps
-pub mod Spans
-pub mod Filling
 pub mod Answer
 pub mod Requires

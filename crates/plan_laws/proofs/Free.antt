@@ -15,12 +15,12 @@ use Rattle.table_laws.specs.Count.{count, InBody}
 use Rattle.table_laws.proofs.Counting.{count-ext, count-none, count-or, count-less, count-interval}
 use Rattle.table_laws.proofs.Format.{inBody, slot-body, body-in, body-out}
 use Rattle.table_laws.proofs.Bodies.{first-body, first-bodies, bodies}
-use Rattle.plan.specs.declared.State.{State}
+use Rattle.plan_steps.specs.declared.State.{State}
 use Rattle.plan.specs.declared.ManagedPlan.{ManagedPlan}
 use Rattle.plan.specs.declared.Planned.the-variants.{Accepted}
-use Rattle.plan.specs.Steps.{initial, planOffsets, startsFrom}
+use Rattle.plan_steps.specs.Steps.{initial, planOffsets, startsFrom}
 use Rattle.plan.specs.Answer.{answer}
-use Rattle.plan.proofs.Stepping.{Ok}
+use Rattle.plan_steps.proofs.Stepping.{Ok}
 use Rattle.plan_laws.specs.Plans.{InObject, FreeByte, Free, FreeCounted}
 use Rattle.plan.proofs.Answering.{Went, accepted}
 use Rattle.plan_laws.proofs.Laying.{Laid, filledTo, Spaced, none, more, spaced, used-sum, held, ran-ok, ran-laid}

@@ -11,17 +11,19 @@ use Rattle.fields.specs.declared.bytes.Checked.{Checked}
 use Rattle.fields.specs.declared.bytes.Checked.the-variants.{Passed, Refused as NotPassed}
 use Rattle.refusals.specs.declared.FormatError.the-variants.{ObjectTooLarge}
 use Rattle.table.specs.Table.{Table, fixed}
-use Rattle.plan.specs.declared.State.{State}
-use Rattle.plan.specs.declared.Step.{Step}
-use Rattle.plan.specs.declared.Step.the-variants.{Placed, Ends}
-use Rattle.plan.specs.declared.Run.the-variants.{Done}
+use Rattle.plan_steps.specs.declared.State.{State}
+use Rattle.plan_steps.specs.declared.Step.{Step}
+use Rattle.plan_steps.specs.declared.Step.the-variants.{Placed, Ends}
+use Rattle.plan_steps.specs.declared.Run.the-variants.{Done}
 use Rattle.plan.specs.declared.ManagedPlan.{ManagedPlan}
 use Rattle.plan.specs.declared.Planned.the-variants.{Accepted}
-use Rattle.plan.specs.Steps.{initial, stepOf, runFrom, offsetsFrom, startsFrom, run, planOffsets, planStarts}
-use Rattle.plan.specs.Answer.{closed, totals, sizesChecked, answer}
-use Rattle.plan.proofs.Running.{run-stops, run-goes, offsets-go, starts-go-same, starts-go-new}
+use Rattle.plan_steps.specs.Steps.{initial, stepOf, runFrom, offsetsFrom, startsFrom, run, planOffsets, planStarts}
+use Rattle.plan.specs.Answer.{closed, totals, answer}
+use Rattle.plan_checks.specs.Checks.{sizesChecked}
+use Rattle.plan_steps.proofs.Running.{run-stops, run-goes, offsets-go, starts-go-same, starts-go-new}
 use Rattle.plan_laws.specs.Plans.{FrontPart}
-use Rattle.plan.proofs.Answering.{passed, accepted, answers}
+use Rattle.plan_checks.proofs.Checking.{passed}
+use Rattle.plan.proofs.Answering.{accepted, answers}
 
 -- the first k sizes from the state s on
 pub record Fronted (t : Table) (w : ℕ) (s : State) (xs : List ℕ) (k i : ℕ) : Type 0 where

@@ -14,18 +14,19 @@ use Rattle.fields.specs.declared.bytes.Checked.the-variants.{Passed}
 use Rattle.table.specs.Table.{Table, fixed}
 use Rattle.table.specs.Sizes.{directHeader}
 use Rattle.table.specs.declared.Slot.{Slot}
-use Rattle.plan.specs.declared.State.{State}
-use Rattle.plan.specs.declared.Open.{Open}
-use Rattle.plan.specs.declared.Open.the-variants.{At, Full}
-use Rattle.plan.specs.declared.Step.{Step}
-use Rattle.plan.specs.declared.Step.the-variants.{Placed, Ends}
-use Rattle.plan.specs.declared.Run.the-variants.{Done, Short}
+use Rattle.plan_steps.specs.declared.State.{State}
+use Rattle.plan_steps.specs.declared.Open.{Open}
+use Rattle.plan_steps.specs.declared.Open.the-variants.{At, Full}
+use Rattle.plan_steps.specs.declared.Step.{Step}
+use Rattle.plan_steps.specs.declared.Step.the-variants.{Placed, Ends}
+use Rattle.plan_steps.specs.declared.Run.the-variants.{Done, Short}
 use Rattle.plan.specs.declared.Planned.the-variants.{Refused}
-use Rattle.plan.specs.Steps.{openAt, initial, blockEnd, filled, opened, stepOf, runFrom, run}
-use Rattle.plan.specs.Answer.{inputChecked, answer}
-use Rattle.plan.proofs.Opening.{open-found, full-none}
-use Rattle.plan.proofs.Stepping.{Ok, step-open}
-use Rattle.plan.proofs.Running.{run-stops, run-goes}
+use Rattle.plan_steps.specs.Steps.{openAt, initial, blockEnd, filled, opened, stepOf, runFrom, run}
+use Rattle.plan_checks.specs.Checks.{inputChecked}
+use Rattle.plan.specs.Answer.{answer}
+use Rattle.plan_steps.proofs.Opening.{open-found, full-none}
+use Rattle.plan_steps.proofs.Stepping.{Ok, step-open}
+use Rattle.plan_steps.proofs.Running.{run-stops, run-goes}
 use Rattle.plan_laws.specs.Plans.{NoSlotFits}
 use Rattle.table_laws.proofs.Format.{SlotOf, fixed-slot, slot-fixed}
 use Rattle.plan_laws.proofs.Laying.{still-ok, ran-ok, ran-laid}

@@ -9,13 +9,13 @@ use lib.ListN.{length, getD}
 use Rattle.table.specs.Table.{Table, fixed}
 use Rattle.table.specs.Sizes.{directHeader}
 use Rattle.table.specs.Capacity.{sum}
-use Rattle.plan.specs.declared.State.{State}
-use Rattle.plan.specs.declared.Step.{Step}
-use Rattle.plan.specs.declared.Step.the-variants.{Placed, Ends}
-use Rattle.plan.specs.declared.Run.the-variants.{Done}
-use Rattle.plan.specs.Steps.{initial, blockEnd, stepOf, runFrom, offsetsFrom, startsFrom, run, planOffsets, planStarts}
-use Rattle.plan.proofs.Stepping.{Ok, Placing, Same, New, step-placed, ok-initial}
-use Rattle.plan.proofs.Running.{run-stops, run-goes, offsets-go, starts-go-same, starts-go-new}
+use Rattle.plan_steps.specs.declared.State.{State}
+use Rattle.plan_steps.specs.declared.Step.{Step}
+use Rattle.plan_steps.specs.declared.Step.the-variants.{Placed, Ends}
+use Rattle.plan_steps.specs.declared.Run.the-variants.{Done}
+use Rattle.plan_steps.specs.Steps.{initial, blockEnd, stepOf, runFrom, offsetsFrom, startsFrom, run, planOffsets, planStarts}
+use Rattle.plan_steps.proofs.Stepping.{Ok, Placing, Same, New, step-placed, ok-initial}
+use Rattle.plan_steps.proofs.Running.{run-stops, run-goes, offsets-go, starts-go-same, starts-go-new}
 use Rattle.table_laws.proofs.Format.{SlotOf}
 
 -- from a state on, the sizes, their offsets, the starts of the blocks that open for them, and the state after them

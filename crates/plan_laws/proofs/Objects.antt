@@ -11,7 +11,7 @@ use Rattle.table.specs.Sizes.{offsetBytes, directHeader}
 use Rattle.table_laws.proofs.Format.{slot-least, slots-meet, fixed-slot, slot-fixed}
 use Rattle.plan.specs.declared.ManagedPlan.{ManagedPlan}
 use Rattle.plan.specs.declared.Planned.the-variants.{Accepted}
-use Rattle.plan.specs.Steps.{planOffsets}
+use Rattle.plan_steps.specs.Steps.{planOffsets}
 use Rattle.plan.specs.Answer.{answer}
 use Rattle.plan_laws.specs.Plans.{InObject, InPlacedBlock}
 use Rattle.plan.proofs.Answering.{accepted}

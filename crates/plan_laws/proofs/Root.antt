@@ -15,13 +15,13 @@ use Rattle.table.specs.Sizes.{directHeader}
 use Rattle.table.specs.Capacity.{capacity}
 use Rattle.table.proofs.Rows.{row-lo, row-up, row-mono, row-29, heap-rows}
 use Rattle.table_laws.proofs.Format.{slot-least, fixed-slot, slot-fixed}
-use Rattle.plan.specs.declared.State.{State}
-use Rattle.plan.specs.declared.Run.the-variants.{Done}
+use Rattle.plan_steps.specs.declared.State.{State}
+use Rattle.plan_steps.specs.declared.Run.the-variants.{Done}
 use Rattle.plan.specs.declared.ManagedPlan.{ManagedPlan}
 use Rattle.plan.specs.declared.Planned.the-variants.{Accepted}
-use Rattle.plan.specs.Steps.{initial, blockEnd, runFrom, run, planStarts}
+use Rattle.plan_steps.specs.Steps.{initial, blockEnd, runFrom, run, planStarts}
 use Rattle.plan.specs.Answer.{oneBlock, closed, rootRows, bareTotals, rowTotals, totals, answer}
-use Rattle.plan.proofs.Stepping.{start-zero}
+use Rattle.plan_steps.proofs.Stepping.{start-zero}
 use Rattle.plan.proofs.Room.{no-rows, rows-of-end}
 use Rattle.plan_laws.specs.Plans.{FewestRows, OneBlock}
 use Rattle.plan.proofs.Answering.{Went, accepted}

@@ -11,11 +11,11 @@ use lib.ListN.{length}
 use borrow.Author.Tests.{ne-eqb}
 use Rattle.table.specs.Table.{fixed, rowBits, rowOffset, rowIn, rowOf}
 use Rattle.table.specs.Slots.{slotIn, slotBits, slotAt}
-use Rattle.plan.specs.declared.State.{State}
-use Rattle.plan.specs.declared.Run.the-variants.{Done}
+use Rattle.plan_steps.specs.declared.State.{State}
+use Rattle.plan_steps.specs.declared.Run.the-variants.{Done}
 use Rattle.plan.specs.declared.ManagedPlan.{ManagedPlan}
 use Rattle.plan.specs.declared.Planned.the-variants.{Accepted}
-use Rattle.plan.specs.Steps.{initial, blockEnd, run, runFrom, planStarts}
+use Rattle.plan_steps.specs.Steps.{initial, blockEnd, run, runFrom, planStarts}
 use Rattle.plan.specs.Answer.{closed, rootRows, bareTotals, rowTotals, totals, answer}
 use Rattle.plan.proofs.Answering.{accepted}
 use Rattle.plan_laws.specs.Plans.{sizesAt, Tallied}

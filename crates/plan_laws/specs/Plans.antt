@@ -8,11 +8,11 @@ use lib.ListN.{length, take, getD}
 use Rattle.table.specs.Table.{Table, fixed, rowOffset}
 use Rattle.table.specs.Slots.{Direct, slotAt}
 use Rattle.table.specs.Sizes.{directHeader}
-use Rattle.plan.specs.declared.State.{State}
-use Rattle.plan.specs.declared.Run.the-variants.{Done}
+use Rattle.plan_steps.specs.declared.State.{State}
+use Rattle.plan_steps.specs.declared.Run.the-variants.{Done}
 use Rattle.plan.specs.declared.ManagedPlan.{ManagedPlan}
 use Rattle.plan.specs.declared.Planned.the-variants.{Accepted}
-use Rattle.plan.specs.Steps.{blockEnd, run, planOffsets, planStarts}
+use Rattle.plan_steps.specs.Steps.{blockEnd, run, planOffsets, planStarts}
 use Rattle.plan.specs.Answer.{answer}
 use Rattle.table_laws.specs.Count.{count, InBody}
 

@@ -5,7 +5,8 @@ use mathlib.Core.List.{List, [], _∷_}
 use native.Mathlib.Omega.{arith}
 use lib.ListN.{length, set}
 use borrow.Author.Tests.{lt-ltb, le-ltb}
-use Rattle.plan.specs.Answer.{plannedNumber, fronted}
+use Rattle.plan.specs.Answer.{plannedNumber}
+use Rattle.plan_lists.specs.Lists.{fronted}
 use Rattle.plan.specs.declared.Planned.{Planned}
 use Rattle.plan_tools_c.specs.PlanTools.{plannedTotals, planNumber, planTotals, afterTotals}
 

@@ -4,7 +4,8 @@ use mathlib.Core.Bool.{cond}
 use mathlib.Core.List.{List}
 use lib.ListN.{length}
 use lib.Dec.{ltb}
-use Rattle.plan.specs.Answer.{plannedNumber, plannedValues, fronted}
+use Rattle.plan.specs.Answer.{plannedNumber, plannedValues}
+use Rattle.plan_lists.specs.Lists.{fronted}
 use Rattle.plan.specs.declared.Planned.{Planned}
 
 -- the list of totals at the end: the plan's numbers in front, or the refusal's pair

@@ -6,8 +6,9 @@ use Rattle.table.specs.Table.{rowBits, rowOffset, rowIn, rowOf, maxRows, coveri
 use Rattle.table.specs.Slots.{slotStart, slotIn, slotBits, slotAt, enteredIn, entered}
 use Rattle.table.specs.Sizes.{offsetBytes, directHeader, maxManaged, indirectSize}
 use Rattle.table.specs.Capacity.{sum, blockCapacity, capacities, capacity}
-use Rattle.plan.specs.Steps.{openIn, openAt, stepOf, runFrom, offsetsFrom, startsFrom, run, planOffsets, planStarts}
-use Rattle.plan.specs.Answer.{closed, rootRows, totals, sizesChecked, placesChecked, widthChecked, inputChecked, answer}
+use Rattle.plan_steps.specs.Steps.{openIn, openAt, stepOf, runFrom, offsetsFrom, startsFrom, run, planOffsets, planStarts}
+use Rattle.plan.specs.Answer.{closed, rootRows, totals, answer}
+use Rattle.plan_checks.specs.Checks.{sizesChecked, placesChecked, widthChecked, inputChecked}
 use Rattle.fields.specs.LittleEndian.{value, leAt}
 use lib.Count.{leadingZeros}
 use Rattle.heap_rows.specs.Rows.{log2, blockSize, directRows, sizeToRows, heapSize, slotSize}

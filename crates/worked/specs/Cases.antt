@@ -9,7 +9,7 @@ use Rattle.refusals.specs.declared.FormatError.the-variants.{UnexpectedEof, Obj
 use Rattle.table.specs.Table.{fixed, rowBits, rowOffset}
 use Rattle.plan.specs.declared.ManagedPlan.{ManagedPlan}
 use Rattle.plan.specs.declared.Planned.the-variants.{Accepted, Refused}
-use Rattle.plan.specs.Steps.{planOffsets, planStarts}
+use Rattle.plan_steps.specs.Steps.{planOffsets, planStarts}
 use Rattle.plan.specs.Answer.{answer}
 use Rattle.heap_rows.specs.declared.DoublingTable.{DoublingTable}
 use Rattle.heap_rows.specs.Rows.{blockSize, directRows, sizeToRows, slotSize}

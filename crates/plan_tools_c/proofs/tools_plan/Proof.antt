@@ -4,8 +4,9 @@ use mathlib.Core.Path.{sym, ap, _∙_}
 use mathlib.Core.List.{[], _∷_}
 use Rattle.refusals.specs.declared.Answer.{Answer as Pair}
 use Rattle.table.specs.Table.{fixed}
-use Rattle.plan.specs.Steps.{planOffsets, planStarts}
-use Rattle.plan.specs.Answer.{fronted, written}
+use Rattle.plan_steps.specs.Steps.{planOffsets, planStarts}
+use Rattle.plan_lists.specs.Lists.{fronted}
+use Rattle.plan.specs.Answer.{written}
 use Rattle.plan.specs.declared.Planned.{Planned}
 use Rattle.plan_tools_c.proofs.Numbers.{number-short, totals-short, after-short, number-long, totals-long, after-long}
 use Rattle.plan_tools_c.proofs.tools_plan.Statement.{statement}

@@ -1,0 +1,5 @@
+pub mod Opening
+pub mod Jumping
+pub mod Stepping
+pub mod Running
+pub mod Filling
