@@ -1,6 +1,6 @@
 -- Stores one after another into the first places of a list, and the list of totals at the end.
 use Prim.Native.Nat.{ℕ, _≤_, _<_}
-use mathlib.Core.Path.{_≡_, refl, ap}
+use mathlib.Core.Path.{_≡_, refl, ap, _∙_}
 use mathlib.Core.List.{List, [], _∷_}
 use native.Mathlib.Omega.{arith}
 use lib.ListN.{length, set}
@@ -8,7 +8,7 @@ use borrow.Author.Tests.{lt-ltb, le-ltb}
 use Rattle.plan.specs.Answer.{plannedNumber}
 use Rattle.plan_lists.specs.Lists.{fronted}
 use Rattle.plan.specs.declared.Planned.{Planned}
-use Rattle.plan_tools_c.specs.PlanTools.{plannedTotals, planNumber, planTotals, afterTotals}
+use Rattle.plan_numbers.specs.PlanTools.{plannedTotals, planNumber, planTotals, afterTotals}
 
 pub two-set : (l : List ℕ) (a b : ℕ) → 8 ≤ length l → set (set l 0 a) 1 b ≡ fronted (a ∷ b ∷ []) l
 unfolding fronted
@@ -54,6 +54,10 @@ module _ (l : List ℕ) where
     unfolding planTotals
     totals-long a r e = rw (le-ltb (length l) 8 h, planTotals) (ap (plannedTotals l) e)
 
-    pub after-long : (before after : List ℕ) → after ≡ afterTotals l before after
+    after-long : (before after : List ℕ) → after ≡ afterTotals l before after
     unfolding afterTotals
     after-long before after = rw (le-ltb (length l) 8 h, afterTotals)
+
+    -- another list, by the answer r that the function had
+    pub after-by : (f : Planned → List ℕ) (before after : List ℕ) (a r : Planned) → r ≡ a → after ≡ f r → after ≡ afterTotals l before (f a)
+    after-by f before after a r e g = g ∙ ap f e ∙ after-long before (f a)

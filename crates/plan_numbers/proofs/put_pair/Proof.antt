@@ -2,9 +2,9 @@
 use borrow.Author.Needs.{needs}
 use native.Mathlib.Omega.{arith}
 use lib.ListN.{length-set}
-use Rattle.plan_tools_c.proofs.Numbers.{two-set}
-use Rattle.plan_tools_c.proofs.put_pair.Statement.{statement}
-use Rattle.plan_tools_c.proofs.put_pair.Tie as tie
+use Rattle.plan_numbers.proofs.Numbers.{two-set}
+use Rattle.plan_numbers.proofs.put_pair.Statement.{statement}
+use Rattle.plan_numbers.proofs.put_pair.Tie as tie
 
 slice-write-totals : tie.Need-slice-write-totals
 slice-write-totals c = search needs

@@ -1,4 +1,4 @@
--- What the C function for planning hands back.
+-- What the C functions for planning and writing hand back: the answer in a list of totals.
 use Prim.Native.Nat.{ℕ}
 use mathlib.Core.Bool.{cond}
 use mathlib.Core.List.{List}
