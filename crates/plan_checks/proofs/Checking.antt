@@ -95,7 +95,7 @@ module _ (xs : List ℕ) (o b w : ℕ) where
   unfolding inputChecked widthChecked placesChecked
   passed P = rw (P .width, le-leb (length xs) o (P .offsets), le-leb (max 1 (length xs)) b (P .blocks)) (P .sizes)
 
-  -- nor does any test before planning
+  -- no test before planning says so
   pub tests-other : (i : ℕ) → inputChecked xs o b w ≡ NotPassed (HeapSpaceExhausted i) → ⊥
   unfolding inputChecked widthChecked placesChecked
   tests-other i e = go (legal w) (leb (length xs) o) (leb (max 1 (length xs)) b) e
