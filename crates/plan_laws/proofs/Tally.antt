@@ -27,7 +27,7 @@ offsets-laid end = refl
 offsets-laid (same P n L) = ap suc (offsets-laid L)
 offsets-laid (new P n L) = ap suc (offsets-laid L)
 
-allocated-laid : {w : ℕ} {s s′ : State} {xs os bs : List ℕ} → Laid fixed w s xs os bs s′ → s′ .allocated ≡ s .allocated + sizesAt bs
+allocated-laid : {w : ℕ} {s s′ : State} {xs os bs : List ℕ} → Laid fixed w s xs os bs s′ → s′ .allocated ≡ s .allocated + sizesAt fixed bs
 unfolding sizesAt
 allocated-laid {s = s} end = omega arith
 allocated-laid (same P n L) = let z = allocated-laid L in let a = n .allocated-is in omega arith
@@ -36,7 +36,7 @@ allocated-laid (new P n L) = let z = allocated-laid L in let a = n .allocated-is
 -- the state at the end counts the placed blocks and their sizes
 record Counted (w : ℕ) (xs : List ℕ) (s : State) : Type 0 where
   count-is : s .count ≡ length (planStarts fixed w xs)
-  sizes-are : s .allocated ≡ sizesAt (planStarts fixed w xs)
+  sizes-are : s .allocated ≡ sizesAt fixed (planStarts fixed w xs)
 
 counted : (w : ℕ) (xs : List ℕ) (s : State) → run fixed w xs ≡ Done s → Counted w xs (closed fixed w s)
 unfolding closed run runFrom planStarts sizesAt slotAt slotBits slotIn rowOf rowIn rowOffset rowBits
@@ -49,7 +49,7 @@ counted w (x ∷ xs) s e =
     let c = B .counted in
     let b = starts-some w (x ∷ xs) (omega arith) in
     rw (ne-eqb (s .count) 0 (λ z. omega arith), closed)
-    (record { count-is = count-starts L ∙ zero-add _ ∙ ap length (sym b); sizes-are = allocated-laid L ∙ zero-add _ ∙ ap sizesAt (sym b) })
+    (record { count-is = count-starts L ∙ zero-add _ ∙ ap length (sym b); sizes-are = allocated-laid L ∙ zero-add _ ∙ ap (sizesAt fixed) (sym b) })
 
 -- the totals of a root of some rows, and of none
 totals-count : (w : ℕ) (s : State) → ((totals fixed w s .«root_rows» ≡ 0) × (totals fixed w s .«block_count» ≡ 1) × (totals fixed w s .«allocated_space» ≡ 1024))
@@ -65,7 +65,7 @@ totals-count w s = go (eqb (rootRows fixed (blockEnd s)) 0)
     go true = inl (refl, refl, refl)
     go false = inr (refl, refl)
 
-one-size : sizesAt (0 ∷ []) ≡ 1024
+one-size : sizesAt fixed (0 ∷ []) ≡ 1024
 unfolding sizesAt slotAt slotBits slotIn rowOf rowIn rowOffset rowBits
 one-size = refl
 
@@ -82,7 +82,7 @@ tallied xs o b w p e =
     record {
       offsets = offsets-laid (ran-laid w xs (G .state) (G .ran));
       blocks = ap (λ (y : ManagedPlan). y .«block_count») q ∙ z .1 ∙ ap length (sym O);
-      allocated = ap (λ (y : ManagedPlan). y .«allocated_space») q ∙ z .2 ∙ sym one-size ∙ ap sizesAt (sym O);
+      allocated = ap (λ (y : ManagedPlan). y .«allocated_space») q ∙ z .2 ∙ sym one-size ∙ ap (sizesAt fixed) (sym O);
     })
     (λ (z : (totals fixed w c .«block_count» ≡ c .count) × (totals fixed w c .«allocated_space» ≡ c .allocated)). record {
       offsets = offsets-laid (ran-laid w xs (G .state) (G .ran));

@@ -85,12 +85,12 @@ pub record OneBlock (w : ℕ) (xs : List ℕ) (p : ManagedPlan) : Type 0 where
   pub iterator : p .«allocation_iterator» ≡ 0
 
 -- the sizes of the direct slots at these starts together
-unfoldable pub sizesAt : List ℕ → ℕ
-sizesAt [] = 0
-sizesAt (b ∷ bs) = slotAt fixed b .size + sizesAt bs
+unfoldable pub sizesAt : Table → List ℕ → ℕ
+sizesAt t [] = 0
+sizesAt t (b ∷ bs) = slotAt t b .size + sizesAt t bs
 
 -- every object has an offset, and p says how many blocks are placed and how large they are together
 pub record Tallied (w : ℕ) (xs : List ℕ) (p : ManagedPlan) : Type 0 where
   pub offsets : length (planOffsets fixed w xs) ≡ length xs
   pub blocks : p .«block_count» ≡ length (planStarts fixed w xs)
-  pub allocated : p .«allocated_space» ≡ sizesAt (planStarts fixed w xs)
+  pub allocated : p .«allocated_space» ≡ sizesAt fixed (planStarts fixed w xs)
