@@ -55,7 +55,7 @@ module _ (t : Table) (w header : ℕ) where
       slot-inner d = slot-held inner r at ss pos next ∙ ap₂ (held r ss next (inner (r - t .widthBits) at ss pos next)) (rw sz at b) d
 
   -- the blocks of fewer than n rows are the blocks
-  smaller-block : (n j : ℕ) → j < n → (at : ℕ) (ss : List ℕ) (pos next : ℕ) → smaller t w header n j at ss pos next ≡ block t w header j at ss pos next
+  pub smaller-block : (n j : ℕ) → j < n → (at : ℕ) (ss : List ℕ) (pos next : ℕ) → smaller t w header n j at ss pos next ≡ block t w header j at ss pos next
   unfolding smaller block allSlots
   smaller-block zero j h at ss pos next = absurd (omega arith)
   smaller-block (suc n) j h at ss pos next = by (eqb j n) refl (λ l. smaller-block n j l at ss pos next)

@@ -1,0 +1,1 @@
+// Theorems about the region's indirect blocks; nothing runs here.
