@@ -1,0 +1,23 @@
+-- The direct blocks of a region, as bytes (Format, Fractal Heap: Direct Block): each placed block with the
+-- objects whose heap offsets lie in it.
+use Prim.Native.Nat.{ℕ, _+_}
+use mathlib.Core.Bool.{_&&_, cond}
+use mathlib.Core.List.{List, [], _∷_, _++_}
+use lib.ListN.{take, drop}
+use lib.Dec.{leb, ltb}
+use Rattle.table.specs.Table.{Table}
+use Rattle.table.specs.Slots.{slotAt}
+use Rattle.region_blocks.specs.Blocks.{directBlock}
+
+-- the bytes of the objects whose offsets lie in the z bytes from s on, in their order: os are the objects'
+-- heap offsets, xs their sizes, js their bytes, joined
+unfoldable pub objectsIn : ℕ → ℕ → List ℕ → List ℕ → List ℕ → List ℕ
+objectsIn s z [] xs js = []
+objectsIn s z (o ∷ os) [] js = []
+objectsIn s z (o ∷ os) (x ∷ xs) js = cond (leb s o && ltb o (s + z)) (take x js) [] ++ objectsIn s z os xs (drop x js)
+
+-- the blocks placed at the heap offsets ss, one after the other; a block fills its slot
+unfoldable pub directs : Table → ℕ → ℕ → List ℕ → List ℕ → List ℕ → List ℕ → List ℕ
+directs t w header os xs js [] = []
+directs t w header os xs js (s ∷ ss) =
+    directBlock t w header s (slotAt t s .size) (objectsIn s (slotAt t s .size) os xs js) ++ directs t w header os xs js ss
