@@ -34,11 +34,11 @@ allocated-laid (same P n L) = let z = allocated-laid L in let a = n .allocated-i
 allocated-laid (new P n L) = let z = allocated-laid L in let a = n .allocated-is in let b = n .size-is in omega arith
 
 -- the state at the end counts the placed blocks and their sizes
-record Counted (w : ℕ) (xs : List ℕ) (s : State) : Type 0 where
-  count-is : s .count ≡ length (planStarts fixed w xs)
-  sizes-are : s .allocated ≡ sizesAt fixed (planStarts fixed w xs)
+pub record Counted (w : ℕ) (xs : List ℕ) (s : State) : Type 0 where
+  pub count-is : s .count ≡ length (planStarts fixed w xs)
+  pub sizes-are : s .allocated ≡ sizesAt fixed (planStarts fixed w xs)
 
-counted : (w : ℕ) (xs : List ℕ) (s : State) → run fixed w xs ≡ Done s → Counted w xs (closed fixed w s)
+pub counted : (w : ℕ) (xs : List ℕ) (s : State) → run fixed w xs ≡ Done s → Counted w xs (closed fixed w s)
 unfolding closed run runFrom planStarts sizesAt slotAt slotBits slotIn rowOf rowIn rowOffset rowBits
 counted w [] s e =
     let z : initial fixed w ≡ s = cc in

@@ -154,10 +154,10 @@ module _ (t : Table) (g : t .startBits ≤ t .directBits) (k : t .startBits ≤ 
     pub placed : Placing t w s y s′ o
     placed = step-placed t g k w s y (L .ok) s′ o e
 
-    next-here : (a z : ℕ) → blockEnd s ≤ a → objectsIn a z os xs js ≡ objectsIn a z (o ∷ offsetsFrom t w s′ ys) (y ∷ ys) (drop (s .used) js)
+    pub next-here : (a z : ℕ) → blockEnd s ≤ a → objectsIn a z os xs js ≡ objectsIn a z (o ∷ offsetsFrom t w s′ ys) (y ∷ ys) (drop (s .used) js)
     next-here a z l = L .same a z l ∙ ap (λ (r : List ℕ). objectsIn a z r (y ∷ ys) (drop (s .used) js)) (offsets-go t w s y ys s′ o e)
 
-    next-drop : drop y (drop (s .used) js) ≡ drop (s′ .used) js
+    pub next-drop : drop y (drop (s .used) js) ≡ drop (s′ .used) js
     next-drop = drop-drop y (s .used) js ∙ ap (λ (n : ℕ). drop n js) (sym (placed .is-used))
 
     -- an object more is placed
@@ -182,15 +182,23 @@ module _ (t : Table) (g : t .startBits ≤ t .directBits) (k : t .startBits ≤ 
         let u = P .is-used in let a = P .to in let b = P .within in let c = n .place in let d = F .by in let m = F .more in let i = F .within b in
         omega arith
 
-    -- it opened a block: with those after it that fit, it is all that the block holds
+    -- it is the first object in that block
+    pub new-here : New t w s s′ o → objectsIn (s′ .start) (s′ .size) os xs js
+        ≡ take y (drop (s .used) js) ++ objectsIn (s′ .start) (s′ .size) (offsetsFrom t w s′ ys) ys (drop (s′ .used) js)
+    new-here n =
+        let P = placed in
+        let a = P .to in let b = P .within in let c = n .place in
+        next-here (s′ .start) (s′ .size) (n .after)
+        ∙ in-here (s′ .start) (s′ .size) o y (offsetsFrom t w s′ ys) ys (drop (s .used) js) (omega arith) (omega arith)
+        ∙ ap (λ (r : List ℕ). take y (drop (s .used) js) ++ objectsIn (s′ .start) (s′ .size) (offsetsFrom t w s′ ys) ys r) next-drop
+
+    -- with those after it that fit, it is all that the block holds
     pub held : New t w s s′ o → objectsIn (s′ .start) (s′ .size) os xs js ≡ take (fillState s′ ys .used - s .used) (drop (s .used) js)
     held n =
-        let P = placed in
         let js′ = drop (s .used) js in
-        let u = P .is-used in let m = fill-keeps ys s′ .more in let a = P .to in let b = P .within in let c = n .place in
-        next-here (s′ .start) (s′ .size) (n .after)
-        ∙ in-here (s′ .start) (s′ .size) o y (offsetsFrom t w s′ ys) ys js′ (omega arith) (omega arith)
-        ∙ ap (λ (r : List ℕ). take y js′ ++ r) (here t g k w ys s′ (drop y js′) (P .ok))
+        let u = placed .is-used in let m = fill-keeps ys s′ .more in
+        new-here n
+        ∙ ap (λ (r : List ℕ). take y js′ ++ r) (here t g k w ys s′ (drop (s′ .used) js) (placed .ok) ∙ ap (take (fillState s′ ys .used - s′ .used)) (sym next-drop))
         ∙ sym (take-add y (fillState s′ ys .used - s′ .used) js′)
         ∙ ap (λ (i : ℕ). take i js′) (let z : y + (fillState s′ ys .used - s′ .used) ≡ fillState s′ ys .used - s .used = omega arith in z)
 

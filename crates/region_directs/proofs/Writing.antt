@@ -2,17 +2,16 @@
 use Prim.Native.Nat.{ℕ, suc, _+_, _-_, _≤_, _<_}
 use mathlib.Core.Path.{_≡_, refl, sym, ap, ap₂, _∙_, subst, subst₂}
 use mathlib.Core.Logic.{_⊎_, ⊎-elim}
-use mathlib.Core.List.{List, [], _∷_, _++_, append-nil}
+use mathlib.Core.List.{List, _∷_, _++_}
 use native.Mathlib.Omega.{arith}
 use native.Mathlib.Nat.{add-zero}
 use native.Mathlib.Numerals.{add-one}
 use lib.ListN.{length, take, drop, getD, length-append}
 use lib.Seq.{drop-cons, drop-drop}
-use Rattle.table.specs.Table.{fixed, rowBits, rowOffset, rowIn, rowOf}
-use Rattle.table.specs.Slots.{slotIn, slotBits, slotAt}
-use Rattle.table.specs.Sizes.{offsetBytes, directHeader}
+use Rattle.table.specs.Table.{fixed}
+use Rattle.table.specs.Sizes.{directHeader}
 use Rattle.table.specs.Capacity.{sum}
-use Rattle.plan_steps.specs.Steps.{openAt, blockEnd, initial, opened, stepOf, offsetsFrom, startsFrom, planOffsets, planStarts}
+use Rattle.plan_steps.specs.Steps.{openAt, blockEnd, initial, opened, stepOf, startsFrom, planOffsets}
 use Rattle.plan_steps.specs.Filling.{fillState, fillOffsets, filledFrom}
 use Rattle.plan_steps.specs.Requires.{Bounded, Runs}
 use Rattle.plan_steps.specs.declared.State.{State}
@@ -188,32 +187,3 @@ module _ (w h : ℕ) (xs js r₀ : List ℕ) (place : ℕ) (r : List ℕ) (s : S
       room = room-here;
       more = writing-more;
     }
-
--- ---- no objects, or some
-
--- without objects, one block of no bytes
-module _ (w h : ℕ) (js : List ℕ) where
-  pub none-is : (xs : List ℕ) → length xs ≡ 0 → length js ≡ sum xs → directs fixed w h (planOffsets fixed w xs) xs js (planStarts fixed w xs) ≡ directBlock fixed w h 0 1024 js
-  unfolding directs planOffsets planStarts offsetsFrom objectsIn slotAt slotBits slotIn rowOf rowIn rowOffset rowBits sum
-  none-is [] e f = append-nil (directBlock fixed w h 0 1024 []) ∙ ap (directBlock fixed w h 0 1024) (go js f)
-    where
-      go : (ks : List ℕ) → length ks ≡ 0 → [] ≡ ks
-      go [] f = refl
-      go (k ∷ ks) f = absurd (omega arith)
-  none-is (x ∷ xs) e f = absurd (omega arith)
-
-  pub none-fits : (xs : List ℕ) → w ≤ 255 → length xs ≡ 0 → length js ≡ sum xs → directHeader fixed w + length js ≤ 1024
-  unfolding sum directHeader offsetBytes
-  none-fits [] u e f = omega arith
-  none-fits (x ∷ xs) u e f = absurd (omega arith)
-
-  pub none-room : (xs : List ℕ) (place n : ℕ) → w ≤ 255 → length xs ≡ 0 → length js ≡ sum xs
-      → place + length (directs fixed w h (planOffsets fixed w xs) xs js (planStarts fixed w xs)) ≤ n → place + 1024 ≤ n
-  none-room xs place n u e f l = let a = ap length (none-is xs e f) ∙ block-length fixed w h 0 1024 js (none-fits xs u e f) in omega arith
-
--- with objects, those that open
-pub some-is : (w h : ℕ) (js xs : List ℕ) → (length xs ≡ 0 → ⊥)
-    → directs fixed w h (planOffsets fixed w xs) xs js (startsFrom fixed w (initial fixed w) xs) ≡ directs fixed w h (planOffsets fixed w xs) xs js (planStarts fixed w xs)
-unfolding planStarts
-some-is w h js [] n = absurd (n refl)
-some-is w h js (x ∷ xs) n = refl

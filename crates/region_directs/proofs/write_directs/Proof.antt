@@ -3,14 +3,14 @@ use borrow.Author.Needs.{needs}
 use mathlib.Core.Path.{sym, ap, _∙_}
 use native.Mathlib.Omega.{arith}
 use Rattle.region_blocks.specs.Storing.{stored}
-use Rattle.region_directs.proofs.Writing.{none-is, none-fits, none-room, some-is}
+use Rattle.region_directs.proofs.Lengths.{none-block, none-fits, none-room, some-is}
 use Rattle.region_directs.proofs.write_directs.Statement.{statement}
 use Rattle.region_directs.proofs.write_directs.Tie as tie
 
 write-direct-block-requires : tie.Need-write-direct-block-requires
 write-direct-block-requires c κs =
     let e = c .before .before .before .before .before in
-    (none-room (e .args .site .«offset_size») (e .args .site .«heap_header_address») (e .args .objects .now) (e .args .sizes .now) _ _ (omega arith) (c .before .if1 .taken) (e .pre .1 .1 .0) (e .pre .1 .1 .1), none-fits (e .args .site .«offset_size») (e .args .site .«heap_header_address») (e .args .objects .now) (e .args .sizes .now) (omega arith) (c .before .if1 .taken) (e .pre .1 .1 .0))
+    (none-room (e .args .site .«offset_size») (e .args .site .«heap_header_address») (e .args .objects .now) (e .args .sizes .now) _ _ (omega arith) (c .before .if1 .taken) (e .pre .1 .1 .1), none-fits _ (e .args .objects .now) (e .args .sizes .now) (omega arith) (c .before .if1 .taken) (e .pre .1 .1 .0))
 
 same-length : tie.Need-same-length
 same-length c = search needs
@@ -19,7 +19,7 @@ returns : tie.Need-returns
 returns c =
     let e = c .before .before .before .before .before .before .before .before in
     c .before .before .write-direct-block .ensures
-    ∙ ap (stored (e .args .region .now) (e .args .place)) (sym (none-is (e .args .site .«offset_size») (e .args .site .«heap_header_address») (e .args .objects .now) (e .args .sizes .now) (c .before .before .before .before .if1 .taken) (e .pre .1 .1 .0)))
+    ∙ ap (stored (e .args .region .now) (e .args .place)) (sym (none-block (e .args .site .«offset_size») (e .args .site .«heap_header_address») (e .args .objects .now) (e .args .sizes .now) (c .before .before .before .before .if1 .taken) (e .pre .1 .1 .0)))
 
 write-placed-requires : tie.Need-write-placed-requires
 write-placed-requires c κs =

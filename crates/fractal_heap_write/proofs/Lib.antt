@@ -1,0 +1,5 @@
+pub mod Lengths
+pub mod Answering
+pub mod Planned
+pub mod Writing
+pub mod Serializing

@@ -1,0 +1,73 @@
+-- `serialize` meets its contract: nothing is touched before the last test, and then the lists and the region are written. Assumes nothing.
+use mathlib.Core.Path.{refl, sym, _∙_}
+use lib.ListN.{length}
+use lib.Seq.{length-take-le}
+use Rattle.fractal_heap_write.proofs.Serializing.{lists-ready, size-fits, space-within, count-fits, writable, behind-kept}
+use borrow.Author.Needs.{needs}
+use Rattle.fractal_heap_write.proofs.serialize.Statement.{statement}
+use Rattle.fractal_heap_write.proofs.serialize.Tie as tie
+
+serialized-for-requires : tie.Need-serialized-for-requires
+serialized-for-requires c κs = search needs
+
+enum-known-e : tie.Need-enum-known-e
+enum-known-e c = search needs
+
+enum-known-p : tie.Need-enum-known-p
+enum-known-p c = search needs
+
+write-lists-requires : tie.Need-write-lists-requires
+write-lists-requires c κs = lists-ready (c .before .before .before .before .before .before .before .before .before .before .before .args .sizes .now) (length (c .before .before .before .before .before .before .before .before .before .before .before .args .offsets .now)) (length (c .before .before .before .before .before .before .before .before .before .before .before .args .blocks .now)) (c .before .before .before .before .before .before .before .before .before .before .before .args .objects .now) (c .before .before .before .before .before .before .before .before .before .before .before .args .region .now) (record { «offset_size» = c .before .before .before .before .before .before .before .before .before .before .before .args .offset-size; «heap_header_address» = c .before .before .before .before .before .before .before .before .before .before .before .args .heap-header-address; «region_address» = c .before .before .before .before .before .before .before .before .before .before .before .args .region-address }) _ (sym (c .before .before .before .before .before .serialized-for .ensures) ∙ c .before .before .before .p .given .1)
+
+slice-reshare-prefix-write-region : tie.Need-slice-reshare-prefix-write-region
+slice-reshare-prefix-write-region c = count-fits (c .before .before .before .before .before .before .before .before .before .before .before .before .before .before .before .before .args .sizes .now) (length (c .before .before .before .before .before .before .before .before .before .before .before .before .before .before .before .before .args .offsets .now)) (length (c .before .before .before .before .before .before .before .before .before .before .before .before .before .before .before .before .args .blocks .now)) (c .before .before .before .before .before .before .before .before .before .before .before .before .before .before .before .before .args .objects .now) (c .before .before .before .before .before .before .before .before .before .before .before .before .before .before .before .before .args .region .now) (record { «offset_size» = c .before .before .before .before .before .before .before .before .before .before .before .before .before .before .before .before .args .offset-size; «heap_header_address» = c .before .before .before .before .before .before .before .before .before .before .before .before .before .before .before .before .args .heap-header-address; «region_address» = c .before .before .before .before .before .before .before .before .before .before .before .before .before .before .before .before .args .region-address }) _ (sym (c .before .before .before .before .before .before .before .before .before .before .serialized-for .ensures) ∙ c .before .before .before .before .before .before .before .before .p .given .1) _ _ (c .before .before .before .before .write-lists .ensures .1)
+
+slice-aggregate-write-region : tie.Need-slice-aggregate-write-region
+slice-aggregate-write-region c = sym (length-take-le _ _ (count-fits (c .before .before .before .before .before .before .before .before .before .before .before .before .before .before .before .before .before .args .sizes .now) (length (c .before .before .before .before .before .before .before .before .before .before .before .before .before .before .before .before .before .args .offsets .now)) (length (c .before .before .before .before .before .before .before .before .before .before .before .before .before .before .before .before .before .args .blocks .now)) (c .before .before .before .before .before .before .before .before .before .before .before .before .before .before .before .before .before .args .objects .now) (c .before .before .before .before .before .before .before .before .before .before .before .before .before .before .before .before .before .args .region .now) (record { «offset_size» = c .before .before .before .before .before .before .before .before .before .before .before .before .before .before .before .before .before .args .offset-size; «heap_header_address» = c .before .before .before .before .before .before .before .before .before .before .before .before .before .before .before .before .before .args .heap-header-address; «region_address» = c .before .before .before .before .before .before .before .before .before .before .before .before .before .before .before .before .before .args .region-address }) _ (sym (c .before .before .before .before .before .before .before .before .before .before .before .serialized-for .ensures) ∙ c .before .before .before .before .before .before .before .before .before .p .given .1) _ _ (c .before .before .before .before .before .write-lists .ensures .1)))
+
+slice-relend-prefix-write-region : tie.Need-slice-relend-prefix-write-region
+slice-relend-prefix-write-region c = size-fits (c .before .before .before .before .before .before .before .before .before .before .before .before .before .before .before .before .before .args .sizes .now) (length (c .before .before .before .before .before .before .before .before .before .before .before .before .before .before .before .before .before .args .offsets .now)) (length (c .before .before .before .before .before .before .before .before .before .before .before .before .before .before .before .before .before .args .blocks .now)) (c .before .before .before .before .before .before .before .before .before .before .before .before .before .before .before .before .before .args .objects .now) (c .before .before .before .before .before .before .before .before .before .before .before .before .before .before .before .before .before .args .region .now) (record { «offset_size» = c .before .before .before .before .before .before .before .before .before .before .before .before .before .before .before .before .before .args .offset-size; «heap_header_address» = c .before .before .before .before .before .before .before .before .before .before .before .before .before .before .before .before .before .args .heap-header-address; «region_address» = c .before .before .before .before .before .before .before .before .before .before .before .before .before .before .before .before .before .args .region-address }) _ (sym (c .before .before .before .before .before .before .before .before .before .before .before .serialized-for .ensures) ∙ c .before .before .before .before .before .before .before .before .before .p .given .1)
+
+slice-aggregate-write-region-2 : tie.Need-slice-aggregate-write-region-2
+slice-aggregate-write-region-2 c = sym (length-take-le _ _ (size-fits (c .before .before .before .before .before .before .before .before .before .before .before .before .before .before .before .before .before .before .args .sizes .now) (length (c .before .before .before .before .before .before .before .before .before .before .before .before .before .before .before .before .before .before .args .offsets .now)) (length (c .before .before .before .before .before .before .before .before .before .before .before .before .before .before .before .before .before .before .args .blocks .now)) (c .before .before .before .before .before .before .before .before .before .before .before .before .before .before .before .before .before .before .args .objects .now) (c .before .before .before .before .before .before .before .before .before .before .before .before .before .before .before .before .before .before .args .region .now) (record { «offset_size» = c .before .before .before .before .before .before .before .before .before .before .before .before .before .before .before .before .before .before .args .offset-size; «heap_header_address» = c .before .before .before .before .before .before .before .before .before .before .before .before .before .before .before .before .before .before .args .heap-header-address; «region_address» = c .before .before .before .before .before .before .before .before .before .before .before .before .before .before .before .before .before .before .args .region-address }) _ (sym (c .before .before .before .before .before .before .before .before .before .before .before .before .serialized-for .ensures) ∙ c .before .before .before .before .before .before .before .before .before .before .p .given .1)))
+
+sub-write-region : tie.Need-sub-write-region
+sub-write-region c = space-within (c .before .before .before .before .before .before .before .before .before .before .before .before .before .before .before .before .before .before .before .args .sizes .now) (length (c .before .before .before .before .before .before .before .before .before .before .before .before .before .before .before .before .before .before .before .args .offsets .now)) (length (c .before .before .before .before .before .before .before .before .before .before .before .before .before .before .before .before .before .before .before .args .blocks .now)) (c .before .before .before .before .before .before .before .before .before .before .before .before .before .before .before .before .before .before .before .args .objects .now) (c .before .before .before .before .before .before .before .before .before .before .before .before .before .before .before .before .before .before .before .args .region .now) (record { «offset_size» = c .before .before .before .before .before .before .before .before .before .before .before .before .before .before .before .before .before .before .before .args .offset-size; «heap_header_address» = c .before .before .before .before .before .before .before .before .before .before .before .before .before .before .before .before .before .before .before .args .heap-header-address; «region_address» = c .before .before .before .before .before .before .before .before .before .before .before .before .before .before .before .before .before .before .before .args .region-address }) _ (sym (c .before .before .before .before .before .before .before .before .before .before .before .before .before .serialized-for .ensures) ∙ c .before .before .before .before .before .before .before .before .before .before .before .p .given .1)
+
+write-region-requires : tie.Need-write-region-requires
+write-region-requires c κs = writable (c .before .before .before .before .before .before .before .before .before .before .before .before .before .before .before .before .before .before .before .args .sizes .now) (length (c .before .before .before .before .before .before .before .before .before .before .before .before .before .before .before .before .before .before .before .args .offsets .now)) (length (c .before .before .before .before .before .before .before .before .before .before .before .before .before .before .before .before .before .before .before .args .blocks .now)) (c .before .before .before .before .before .before .before .before .before .before .before .before .before .before .before .before .before .before .before .args .objects .now) (c .before .before .before .before .before .before .before .before .before .before .before .before .before .before .before .before .before .before .before .args .region .now) (record { «offset_size» = c .before .before .before .before .before .before .before .before .before .before .before .before .before .before .before .before .before .before .before .args .offset-size; «heap_header_address» = c .before .before .before .before .before .before .before .before .before .before .before .before .before .before .before .before .before .before .before .args .heap-header-address; «region_address» = c .before .before .before .before .before .before .before .before .before .before .before .before .before .before .before .before .before .before .before .args .region-address }) _ (sym (c .before .before .before .before .before .before .before .before .before .before .before .before .before .serialized-for .ensures) ∙ c .before .before .before .before .before .before .before .before .before .before .before .p .given .1) _ _ (c .before .before .before .before .before .before .before .write-lists .ensures .1)
+
+returns : tie.Need-returns
+returns c = (sym (c .before .e .given .1) ∙ c .before .before .before .serialized-for .ensures, (refl, (refl, refl)))
+
+same-length : tie.Need-same-length
+same-length c = search needs
+
+same-length-2 : tie.Need-same-length-2
+same-length-2 c = search needs
+
+same-length-3 : tie.Need-same-length-3
+same-length-3 c = search needs
+
+returns-2 : tie.Need-returns-2
+returns-2 c = (sym (c .before .before .before .before .before .before .before .before .before .before .before .before .before .before .p .given .1) ∙ c .before .before .before .before .before .before .before .before .before .before .before .before .before .before .before .before .serialized-for .ensures, (c .before .before .before .before .before .before .before .before .before .before .write-lists .ensures .0, (c .before .before .before .before .before .before .before .before .before .before .write-lists .ensures .1, behind-kept (c .before .before .before .before .before .before .before .before .before .before .before .before .before .before .before .before .before .before .before .before .before .before .args .sizes .now) (length (c .before .before .before .before .before .before .before .before .before .before .before .before .before .before .before .before .before .before .before .before .before .before .args .offsets .now)) (length (c .before .before .before .before .before .before .before .before .before .before .before .before .before .before .before .before .before .before .before .before .before .before .args .blocks .now)) (c .before .before .before .before .before .before .before .before .before .before .before .before .before .before .before .before .before .before .before .before .before .before .args .objects .now) (c .before .before .before .before .before .before .before .before .before .before .before .before .before .before .before .before .before .before .before .before .before .before .args .region .now) (record { «offset_size» = c .before .before .before .before .before .before .before .before .before .before .before .before .before .before .before .before .before .before .before .before .before .before .args .offset-size; «heap_header_address» = c .before .before .before .before .before .before .before .before .before .before .before .before .before .before .before .before .before .before .before .before .before .before .args .heap-header-address; «region_address» = c .before .before .before .before .before .before .before .before .before .before .before .before .before .before .before .before .before .before .before .before .before .before .args .region-address }) _ (sym (c .before .before .before .before .before .before .before .before .before .before .before .before .before .before .before .before .serialized-for .ensures) ∙ c .before .before .before .before .before .before .before .before .before .before .before .before .before .before .p .given .1) _ (c .before .before .write-region .ensures))))
+
+pub serialize-spec : {M : Type 1} → statement M
+serialize-spec =
+    tie.close
+    (tie.spec
+    serialized-for-requires
+    enum-known-e
+    enum-known-p
+    write-lists-requires
+    slice-reshare-prefix-write-region
+    slice-aggregate-write-region
+    slice-relend-prefix-write-region
+    slice-aggregate-write-region-2
+    sub-write-region
+    write-region-requires
+    returns
+    same-length
+    same-length-2
+    same-length-3
+    returns-2)

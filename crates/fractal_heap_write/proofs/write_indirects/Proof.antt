@@ -1,0 +1,26 @@
+-- `write_indirects` meets its contract: nothing, or the walk of the root. Assumes nothing.
+use native.Mathlib.Omega.{arith}
+use Prim.Native.Nat.{_+_}
+use Rattle.fractal_heap_write.proofs.Writing.{none-written, root-fits, some-written}
+use borrow.Author.Needs.{needs}
+use Rattle.fractal_heap_write.proofs.write_indirects.Statement.{statement}
+use Rattle.fractal_heap_write.proofs.write_indirects.Tie as tie
+
+returns : tie.Need-returns
+returns c = none-written (c .before .before .before .args .region .now) (c .before .before .before .args .site .«offset_size») (c .before .before .before .args .site .«heap_header_address») (c .before .before .before .args .rows) (c .before .before .before .args .starts .now) (c .before .before .before .args .site .«region_address») (c .before .before .before .args .site .«region_address» + c .before .before .before .args .size) (c .if1 .taken)
+
+add-t8 : tie.Need-add-t8
+add-t8 c = search needs
+
+block-walk-requires : tie.Need-block-walk-requires
+block-walk-requires c κs = ((c .before .before .before .before .before .pre .few, omega (arith, c .before .before .before .before .before .pre .few)), root-fits (c .before .before .before .before .before .args .site) (c .before .before .before .before .before .args .starts .now) (c .before .before .before .before .before .args .region .now) (c .before .before .before .before .before .args .rows) (c .before .before .before .before .before .args .size) (c .before .before .if1 .left) (c .before .before .before .before .before .pre))
+
+same-length : tie.Need-same-length
+same-length c = search needs
+
+returns-2 : tie.Need-returns-2
+returns-2 c = some-written (c .before .before .before .before .before .before .before .before .args .region .now) _ (c .before .before .before .before .before .before .before .before .args .site .«offset_size») (c .before .before .before .before .before .before .before .before .args .site .«heap_header_address») (c .before .before .before .before .before .before .before .before .args .rows) (c .before .before .before .before .before .before .before .before .args .starts .now) (c .before .before .before .before .before .before .before .before .args .site .«region_address») (c .before .before .before .before .before .before .before .before .args .site .«region_address» + c .before .before .before .before .before .before .before .before .args .size) (c .before .before .before .before .before .if1 .left) (c .before .before .block-walk .ensures .bytes)
+
+pub write-indirects-spec : {M : Type 1} → statement M
+write-indirects-spec =
+    tie.close (tie.spec returns add-t8 block-walk-requires same-length returns-2)

@@ -1,0 +1,3 @@
+pub mod Region
+pub mod Serialize
+pub mod Requires

@@ -1,0 +1,46 @@
+// Writing a region as a C function, for tests, comparisons and tools; no part of the loader's interface.
+ghost use mathlib.Core.Path.{_≡_};
+ghost use lib.ListN.{length};
+ghost use Rattle.table.specs.Table.{fixed};
+ghost use Rattle.plan_steps.specs.Steps.{planOffsets, planStarts};
+ghost use Rattle.plan.specs.Answer.{written};
+ghost use Rattle.plan_numbers.specs.PlanTools.{planNumber, planTotals, afterTotals};
+ghost use Rattle.fractal_heap_write.specs.Serialize.{serialized, regionWritten};
+use fractal_heap_write::serialize;
+use plan_numbers::put_planned;
+
+// Plans and writes, and puts the plan's eight numbers, or a refusal's pair, into the first places of `totals`; a
+// shorter list than 8 gives 13 before all else.
+#[no_mangle]
+pub extern "C" fn tools_serialize(
+    sizes: &[u64],
+    offsets: &mut [u64],
+    blocks: &mut [u64],
+    objects: &[u8],
+    region: &mut [u8],
+    region_address: u64,
+    heap_header_address: u64,
+    offset_size: u8,
+    totals: &mut [u64],
+) -> u32
+    ensures { λ r. ⌜ r ≡ planNumber (now (totals .entry)) (serialized (now (sizes .entry)) (length (now (offsets .entry))) (length (now (blocks .entry))) (length (now (objects .entry))) (length (now (region .entry))) «region_address» «heap_header_address» «offset_size») ⌝ }
+    ensures { λ _. ⌜ now (totals .exit) ≡ planTotals (now (totals .entry)) (serialized (now (sizes .entry)) (length (now (offsets .entry))) (length (now (blocks .entry))) (length (now (objects .entry))) (length (now (region .entry))) «region_address» «heap_header_address» «offset_size») ⌝ }
+    ensures { λ _. ⌜ now (offsets .exit) ≡ afterTotals (now (totals .entry)) (now (offsets .entry)) (written (serialized (now (sizes .entry)) (length (now (offsets .entry))) (length (now (blocks .entry))) (length (now (objects .entry))) (length (now (region .entry))) «region_address» «heap_header_address» «offset_size») (planOffsets fixed «offset_size» (now (sizes .entry))) (now (offsets .entry))) ⌝ }
+    ensures { λ _. ⌜ now (blocks .exit) ≡ afterTotals (now (totals .entry)) (now (blocks .entry)) (written (serialized (now (sizes .entry)) (length (now (offsets .entry))) (length (now (blocks .entry))) (length (now (objects .entry))) (length (now (region .entry))) «region_address» «heap_header_address» «offset_size») (planStarts fixed «offset_size» (now (sizes .entry))) (now (blocks .entry))) ⌝ }
+    ensures { λ _. ⌜ now (region .exit) ≡ afterTotals (now (totals .entry)) (now (region .entry)) (regionWritten (serialized (now (sizes .entry)) (length (now (offsets .entry))) (length (now (blocks .entry))) (length (now (objects .entry))) (length (now (region .entry))) «region_address» «heap_header_address» «offset_size») «offset_size» «heap_header_address» «region_address» (now (sizes .entry)) (now (objects .entry)) (now (region .entry))) ⌝ }
+{
+    if totals.len() < 8 {
+        return 13;
+    }
+    let written = serialize(
+        sizes,
+        offsets,
+        blocks,
+        objects,
+        region,
+        region_address,
+        heap_header_address,
+        offset_size,
+    );
+    put_planned(totals, written)
+}
