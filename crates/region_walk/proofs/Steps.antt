@@ -1,8 +1,8 @@
 -- What each call of the walks asks and what each return owes, on plain values: one slot, some slots, a block.
-use Prim.Native.Nat.{ℕ, zero, suc, _+_, _-_, _*_, _^_, _≤_, _<_}
+use Prim.Native.Nat.{ℕ, _+_, _-_, _*_, _^_, _≤_, _<_}
 use mathlib.Core.Path.{_≡_, refl, sym, ap, _∙_}
-use mathlib.Core.Bool.{Bool, true, false, cond}
-use mathlib.Core.List.{List, [], _∷_, _++_, append-assoc}
+use mathlib.Core.Bool.{true, false, cond}
+use mathlib.Core.List.{List, [], _++_, append-assoc}
 use native.Mathlib.Omega.{arith}
 use native.Mathlib.Nat.{lt-of-not-le, lt-of-le-of-lt}
 use lib.ListN.{length, length-append, take, drop}
@@ -18,8 +18,8 @@ use Rattle.region_blocks.specs.declared.Site.{Site}
 use Rattle.region_blocks.proofs.Storing.{length-stored, stored-nil, stored-append, stored-then, stored-comm, stored-over, stored-read}
 use Rattle.region_walk.specs.declared.Cursor.{Cursor}
 use Rattle.region_walk.specs.declared.Child.{Child}
-use Rattle.region_walk.specs.Walk.{Walked, beginsBefore, unplaced, direct, nothing, both, slot, slots, finished, smaller, allSlots, block}
-use Rattle.region_walk.specs.Requires.{rowsLeft, blockOf, slotsOf, slotOf, Fits, Moved, Wrote, WroteSlots}
+use Rattle.region_walk.specs.Walk.{Walked, beginsBefore, unplaced, direct, nothing, both, slots, finished, smaller, allSlots, block}
+use Rattle.region_walk.specs.Requires.{rowsLeft, blockOf, slotsOf, slotOf, Fits, Wrote, WroteSlots}
 use Rattle.region_walk.proofs.Walking.{begins-none, slot-unplaced, slot-direct, slot-inner, slots-step, slots-grow, block-entries, head-length, indirect-length, rows-none, rows-all, rows-next}
 
 -- ---- one slot

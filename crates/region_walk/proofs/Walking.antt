@@ -3,7 +3,7 @@
 use Prim.Native.Nat.{ℕ, zero, suc, _+_, _-_, _*_, _^_, _≤_, _<_}
 use mathlib.Core.Path.{_≡_, refl, sym, ap, ap₂, _∙_}
 use mathlib.Core.Bool.{Bool, true, false, cond}
-use mathlib.Core.List.{List, [], _∷_, _++_}
+use mathlib.Core.List.{List, [], _∷_}
 use native.Mathlib.Omega.{arith}
 use native.Mathlib.Nat.{le-trans}
 use native.Mathlib.Numerals.{add-one}
@@ -13,7 +13,6 @@ use lib.Seq.{drop-cons}
 use lib.Dec.{leb, ltb, eqb}
 use lib.Pow.{pow-mono}
 use borrow.Author.Tests.{leb-false, eqb-true, eqb-false, ne-eqb, lt-ltb, le-ltb}
-use Rattle.fields.specs.LittleEndian.{le}
 use Rattle.fields.proofs.LittleEndian.{length-le}
 use Rattle.table.specs.Table.{Table, fixed, rowBits}
 use Rattle.region_blocks.specs.Blocks.{indirectSignature, blockHead, indirectBlock}

@@ -1,7 +1,7 @@
 -- What the walks ask of their arguments, so that they stay in the region and within 64 bits, and what they give.
-use Prim.Native.Nat.{ℕ, _+_, _-_, _*_, _^_, _≤_, _<_}
+use Prim.Native.Nat.{ℕ, _+_, _-_, _^_, _≤_, _<_}
 use mathlib.Core.Path.{_≡_}
-use mathlib.Core.Bool.{true, cond}
+use mathlib.Core.Bool.{cond}
 use mathlib.Core.List.{List, [], _++_}
 use lib.ListN.{length, drop, replicate}
 use lib.Dec.{ltb}

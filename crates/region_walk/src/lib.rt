@@ -82,8 +82,8 @@ pub fn block_walk(
     }
 }
 
-// The slots of a block of `rows` rows, from one on that has `left` slots of its row before it and itself; their
-// entries stand from `at` on in the block, whose place is known once all of them are written.
+// The slots of a block of `rows` rows, from one on that begins the last `left` of its row. Their entries stand
+// from `at` on in the block, whose place is known once the blocks of all of them are written.
 fn slot_walk(
     region: &mut [u8],
     starts: &[u64],
