@@ -1,10 +1,36 @@
-"""Reads what real_files.py needs of an HDF5 file, by the HDF5 File Format Specification: superblock,
-object headers, version 2 B-trees and the blocks of a fractal heap. Nothing here calls our library."""
+"""Reads what real_files.py and written_files.py need of an HDF5 file, by the HDF5 File Format
+Specification: superblock, object headers, version 2 B-trees and the blocks of a fractal heap. Nothing here
+calls our library."""
 
 import bisect
 
 LINK_INFO, CONTINUATION, ATTRIBUTE_INFO = 0x02, 0x10, 0x15
-LINK_NAMES, LINK_ORDER, ATTRIBUTE_NAMES, ATTRIBUTE_ORDER = 5, 6, 8, 9
+HUGE_OBJECTS, LINK_NAMES, LINK_ORDER, ATTRIBUTE_NAMES, ATTRIBUTE_ORDER = 1, 5, 6, 8, 9
+HEADER_FIELDS = [  # of a fractal heap, after signature and version: name, and width or kind of number
+    ("id_length", 2),
+    ("filter_length", 2),
+    ("flags", 1),
+    ("largest_object", 4),
+    ("next_huge", "length"),
+    ("huge_tree", "address"),
+    ("free_space", "length"),
+    ("space_manager", "address"),
+    ("managed_space", "length"),
+    ("allocated_space", "length"),
+    ("iterator", "length"),
+    ("managed_count", "length"),
+    ("huge_size", "length"),
+    ("huge_count", "length"),
+    ("tiny_size", "length"),
+    ("tiny_count", "length"),
+    ("width", 2),
+    ("start", "length"),
+    ("largest_direct", "length"),
+    ("bits", 2),
+    ("start_rows", 2),
+    ("root", "address"),
+    ("rows", 2),
+]
 
 
 def expect(holds, what):
@@ -41,7 +67,8 @@ class Cursor:
 
 
 class Image:
-    """The bytes of a file, with the widths and the root's address that its superblock gives."""
+    """The bytes of a file, with the widths, the root's address and its place for the end of the file that
+    its superblock gives."""
 
     def __init__(self, data):
         self.data = data
@@ -49,6 +76,7 @@ class Image:
         self.offset_size, self.length_size = data[9], data[10]
         self.undefined = (1 << 8 * self.offset_size) - 1
         at = self.at(12)
+        self.end_place = 12 + 2 * self.offset_size
         base, _extension, end, self.root = (at.address() for _ in range(4))
         expect(base == 0 and end == len(data), "base address and end of file")
 
@@ -105,7 +133,8 @@ def bytes_for(limit):
 
 
 class BTree:
-    """A version 2 B-tree: its type and all its records, in order."""
+    """A version 2 B-tree: its type, all its records in order, where each lies, and from where to where the
+    checksum of each node runs."""
 
     def __init__(self, image, address):
         at = image.at(address)
@@ -116,7 +145,9 @@ class BTree:
         at.number(2)  # percentages of split and merge
         root, count, total = at.address(), at.number(2), at.length()
         self._measure(depth)
-        self.records = list(self._node(root, count, depth)) if total else []
+        self.nodes = []
+        self.places = list(self._node(root, count, depth)) if total else []
+        self.records = [image.at(place).take(self.record_size) for place in self.places]
         expect(len(self.records) == total, "number of records")
 
     def _measure(self, depth):
@@ -131,18 +162,19 @@ class BTree:
             self.below_widths.append(bytes_for(below))
 
     def _node(self, address, count, depth):
+        """Where the records of a node and of those below it lie, in order."""
         at = self.image.at(address)
         at.signature(b"BTIN" if depth else b"BTLF")
         expect(at.number(1) == self.kind, "type of a node")
-        own = [at.take(self.record_size) for _ in range(count)]
-        if depth == 0:
-            yield from own
-            return
+        own = [at.at + i * self.record_size for i in range(count)]
+        at.take(count * self.record_size)
         for i in range(count + 1):
-            child, records = at.address(), at.number(self.count_width)
-            at.number(self.below_widths[depth - 1])
-            yield from self._node(child, records, depth - 1)
+            if depth:
+                child, records = at.address(), at.number(self.count_width)
+                at.number(self.below_widths[depth - 1])
+                yield from self._node(child, records, depth - 1)
             yield from own[i : i + 1]
+        self.nodes.append((address, at.at))
 
 
 def key_and_id(kind, record):
@@ -163,31 +195,24 @@ def header_length(image):
 
 
 class Heap:
-    """A fractal heap without filters: the fields of its header, and its direct blocks."""
+    """A fractal heap without filters: the fields of its header by name and where each lies, its direct
+    blocks, and its indirect blocks as (address, heap offset, rows, indirect blocks above it)."""
 
     def __init__(self, image, address):
         self.image, self.address = image, address
         at = image.at(address)
         at.signature(b"FRHP")
-        self.id_length, self.filter_length = at.number(2), at.number(2)
-        self.flags, self.largest_object = at.number(1), at.number(4)
-        for _ in range(2):  # huge objects: next ID, index; free space: size, manager
-            at.length()
-            at.address()
-        for _ in range(3):  # managed space, allocated space, iterator
-            at.length()
-        self.managed_count = at.length()
-        at.length()  # size of the huge objects
-        self.huge_count = at.length()
-        at.length()  # size of the tiny objects
-        self.tiny_count = at.length()
-        self.width, self.start, self.largest_direct = at.number(2), at.length(), at.length()
-        self.bits, _start_rows = at.number(2), at.number(2)
-        self.root, self.rows = at.address(), at.number(2)
+        widths = {"length": image.length_size, "address": image.offset_size}
+        self.fields = {}  # name: place and width
+        for name, width in HEADER_FIELDS:
+            width = widths.get(width, width)
+            self.fields[name] = at.at, width
+            setattr(self, name, at.number(width))
         expect(self.filter_length == 0, "a filtered heap")
         computed = lookup3(image.data[address : at.at])
         expect(at.number(4) == computed, "header checksum")
         expect(at.at - address == header_length(image), "length of a header")
+        self.indirects = []
         self.blocks = sorted(self._blocks())
         self.depth = max((len(above) for _, _, _, above in self.blocks), default=-1)
 
@@ -213,6 +238,7 @@ class Heap:
 
     def _indirect(self, address, offset, rows, above):
         at = self._block(b"FHIB", address, offset)
+        self.indirects.append((address, offset, rows, above))
         above += (address,)
         for row in range(rows):
             size = self.start << max(row - 1, 0)
@@ -222,10 +248,34 @@ class Heap:
                     pass
                 elif size <= self.largest_direct:
                     yield self._direct(child, offset, size, above)
-                else:  # rows that fill the slot: of 1, 1, 2, 4, .. times the first row's bytes
-                    child_rows = (size // (self.width * self.start)).bit_length()
-                    yield from self._indirect(child, offset, child_rows, above)
+                else:
+                    yield from self._indirect(child, offset, self.child_rows(size), above)
                 offset += size
+
+    def direct_header(self):
+        """Bytes of a direct block's header."""
+        expect(self.flags & 2, "direct blocks without checksums")
+        return 9 + self.image.offset_size + (self.bits + 7) // 8
+
+    def indirect_size(self, rows):
+        """Bytes of an indirect block."""
+        return 9 + (rows * self.width + 1) * self.image.offset_size + (self.bits + 7) // 8
+
+    def capacity(self, rows):
+        """Bytes in the bodies of all direct slots below so many rows; 0 rows have the root block's."""
+        if rows == 0:
+            return self.start - self.direct_header()
+        total = 0
+        for row in range(rows):
+            size = self.start << max(row - 1, 0)
+            direct = size <= self.largest_direct
+            one = size - self.direct_header() if direct else self.capacity(self.child_rows(size))
+            total += self.width * one
+        return total
+
+    def child_rows(self, size):
+        """The rows that fill a slot: they have 1, 1, 2, 4, .. times the first row's bytes."""
+        return (size // (self.width * self.start)).bit_length()
 
     def decode(self, heap_id):
         """Offset and length of a managed ID, whose length takes all bytes after the offset."""

@@ -3,43 +3,11 @@
  * A line of input is `at offset_size length_size id`, the ID in hexadecimal; the line of output that
  * answers it is `number first second`: the object's position and length, or a refusal. With `decode` it
  * is the ID alone that is decoded. The file, each ID and each slot lie in memory of exactly their size. */
+#include "files.h"
 #include "fractal_heap.h"
 
 #include <inttypes.h>
-#include <stdio.h>
-#include <stdlib.h>
 #include <string.h>
-
-static void give_up(const char *what)
-{
-    fprintf(stderr, "read_objects: %s\n", what);
-    exit(1);
-}
-
-static uint8_t *memory(size_t len)
-{
-    uint8_t *bytes = malloc(len ? len : 1);
-    if (!bytes)
-        give_up("no memory");
-    return bytes;
-}
-
-static uint8_t *whole_file(const char *name, size_t *len)
-{
-    FILE *from = fopen(name, "rb");
-    if (!from || fseek(from, 0, SEEK_END))
-        give_up("the file does not open");
-    long end = ftell(from);
-    if (end < 0)
-        give_up("the file has no length");
-    *len = (size_t)end;
-    uint8_t *bytes = memory(*len);
-    rewind(from);
-    if (fread(bytes, 1, *len, from) != *len)
-        give_up("the file does not read");
-    fclose(from);
-    return bytes;
-}
 
 static uint8_t *bytes_of(const char *hex, size_t *len)
 {

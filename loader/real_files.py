@@ -8,55 +8,25 @@ import collections
 import ctypes
 import os
 import random
-import re
 import shutil
 import subprocess
 import sys
 
 import h5py
 import numpy
-from h5py import h5f, h5g, h5o, h5p
+from h5py import h5g, h5o, h5p
 
+import h5debug
 import hdf5_format as form
 from hdf5_format import expect
 from hdf5_messages import due_messages
+from made_files import WIDTHS, created, some_size, some_value
 
-WIDTHS = [(8, 8), (8, 4), (4, 8), (4, 4), (2, 8), (2, 4)]  # sizes of offsets and lengths
 TYPES = ["managed", "huge", "tiny"]  # of heap IDs
 KINDS = ["empty", "direct", "indirect", "nested"]  # of heaps: no block, or indirect ones above the direct
-EDGES = [1, 2, 60, 900, 3900]  # of the sizes of data; an object above 4,096 bytes is huge
 
 
 # Making files
-
-
-def created(name, offset_size, length_size):
-    """A new file of the latest format with these widths."""
-    sizes = h5p.create(h5p.FILE_CREATE)
-    sizes.set_sizes(offset_size, length_size)
-    access = h5p.create(h5p.FILE_ACCESS)
-    access.set_libver_bounds(h5f.LIBVER_LATEST, h5f.LIBVER_LATEST)
-    return h5py.File(h5f.create(name.encode(), h5f.ACC_TRUNC, sizes, access))
-
-
-def some_size(draw):
-    low = draw.randrange(len(EDGES) - 1)
-    return draw.randrange(EDGES[low], EDGES[low + 1])
-
-
-def some_value(draw, size):
-    """A value of about `size` bytes, of one of the types that hdf5_messages.py knows."""
-    data = draw.randbytes(size)
-    kind = draw.choice(["<u1", "<u1", "<i4", ">i4", "<u8", "<f8", "text", "scalar", "square", "none"])
-    if kind == "text":
-        return numpy.array(data.hex()[:size].encode(), dtype=f"S{size}")
-    if kind == "scalar":
-        return numpy.int32(draw.randrange(1 << 31))
-    if kind == "square":
-        return numpy.frombuffer(data[: size // 2 * 2], "<u1").reshape(2, size // 2)
-    if kind == "none":
-        return h5py.Empty("<i4")
-    return numpy.frombuffer(data + bytes(-size % 8), "<u1").view(kind)
 
 
 def add_attributes(draw, target, count, size=None):
@@ -178,25 +148,6 @@ def check_index(program, name, heap, tree, due):
     return ids
 
 
-def check_header(name, heap):
-    """Holds the fields of a header to h5debug's."""
-    words = ["h5debug", name, str(heap.address)]
-    text = subprocess.run(words, text=True, stdout=subprocess.PIPE, check=True).stdout
-    told = dict(re.findall(r"^ *(.*?): +(\d+)", text, re.MULTILINE))
-    fields = {
-        "Max. size of managed object": heap.largest_object,
-        "Number of managed objects in heap": heap.managed_count,
-        "Doubling table width": heap.width,
-        "Starting block size": heap.start,
-        "Max. direct block size": heap.largest_direct,
-        "Max. index size": heap.bits,
-        "Table's root address": heap.root if heap.blocks else (1 << 64) - 1,
-        "Current # of rows in root indirect block": heap.rows,
-    }
-    for key, value in fields.items():
-        expect(told.get(key) == str(value), f"{key}: {told.get(key)}, not {value}")
-
-
 def check_heap(program, name, image, owner, kind, counts):
     """The heap of an object's links or attributes, by each of its indexes; None if there is none."""
     dense = form.dense_storage(image, h5o.get_info(owner).addr, kind)
@@ -212,7 +163,7 @@ def check_heap(program, name, image, owner, kind, counts):
     counts.update(TYPES[heap_id[0] >> 4 & 3] for heap_id in ids)
     counts[kind_of(heap)] += 1
     if shutil.which("h5debug"):
-        check_header(name, heap)
+        h5debug.check_header(name, heap)
         counts["h5debug"] += 1
     return heap
 
