@@ -10,6 +10,7 @@ mod plan;
 mod random;
 mod reads;
 mod record;
+mod write;
 
 use std::io::Write;
 
@@ -22,6 +23,7 @@ fn main() {
                 fields::compare(1_000_000);
                 checksum::compare(1_000_000);
                 heap::compare(1_000_000);
+                write::compare(40_000);
             });
         }
         ["record", "vectors"] => print!("{}", record::vectors()),

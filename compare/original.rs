@@ -188,32 +188,55 @@ pub struct Plan {
     pub totals: [u64; 8],
 }
 
-fn planned(sizes: &[u64], offset_size: u8) -> Option<ManagedPlan> {
+/// A plan that the original can write.
+pub struct Planned {
+    plan: ManagedPlan,
+    objects: usize,
+}
+
+/// Plans; none where the heap space ends: the original does not say at which object.
+pub fn planned(sizes: &[u64], offset_size: u8) -> Option<Planned> {
+    let objects = sizes.len();
     match ManagedPlan::new(sizes, offset_size) {
-        Ok(plan) => Some(plan),
+        Ok(plan) => Some(Planned { plan, objects }),
         Err(PlanRefusal::HeapSpace) => None,
         Err(other) => panic!("no number for {other:?}"),
     }
 }
 
-/// The plan, or none where the heap space ends: the original does not say at which object.
+impl Planned {
+    pub fn region_size(&self) -> u64 {
+        self.plan.region_size()
+    }
+
+    /// The root's place is its address less that of the region.
+    pub fn told(&self, region_at: u64) -> Plan {
+        let p = &self.plan;
+        let starts = p.block_starts();
+        Plan {
+            offsets: (0..self.objects).map(|i| p.heap_offset(i)).collect(),
+            totals: [
+                starts.len() as u64,
+                p.region_size(),
+                p.root_rows().into(),
+                p.root_address(region_at) - region_at,
+                p.managed_space(),
+                p.allocated_space(),
+                p.free_space(),
+                p.allocation_iterator(),
+            ],
+            starts,
+        }
+    }
+
+    pub fn serialize(&self, objects: &[&[u8]], region_at: u64, header_at: u64) -> Vec<u8> {
+        self.plan.serialize(objects, region_at, header_at)
+    }
+}
+
+/// The plan, or none where the heap space ends.
 pub fn plan(sizes: &[u64], offset_size: u8) -> Option<Plan> {
-    let p = planned(sizes, offset_size)?;
-    let starts = p.block_starts();
-    Some(Plan {
-        offsets: (0..sizes.len()).map(|i| p.heap_offset(i)).collect(),
-        totals: [
-            starts.len() as u64,
-            p.region_size(),
-            p.root_rows().into(),
-            p.root_address(0),
-            p.managed_space(),
-            p.allocated_space(),
-            p.free_space(),
-            p.allocation_iterator(),
-        ],
-        starts,
-    })
+    planned(sizes, offset_size).map(|p| p.told(0))
 }
 
 /// Plans, and hands back the region's size alone: for times, and for lists that are only accepted or not.

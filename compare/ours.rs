@@ -1,5 +1,5 @@
 //! Our static libraries, each C function behind a safe one: `fractal_heap_c`, which the loader calls, and the
-//! tests' own `tools_c`, `plan_tools_c` and `heap_tools_c`.
+//! tests' own `tools_c`, `plan_tools_c`, `write_tools_c` and `heap_tools_c`.
 use crate::made::Heap;
 use original::Answer;
 
@@ -60,6 +60,27 @@ unsafe extern "C" {
         offsets_len: usize,
         blocks: *mut u64,
         blocks_len: usize,
+        offset_size: u8,
+        totals: *mut u64,
+        totals_len: usize,
+    ) -> u32;
+}
+
+#[link(name = "write_tools_c", kind = "static")]
+unsafe extern "C" {
+    fn tools_serialize(
+        sizes: *const u64,
+        sizes_len: usize,
+        offsets: *mut u64,
+        offsets_len: usize,
+        blocks: *mut u64,
+        blocks_len: usize,
+        objects: *const u8,
+        objects_len: usize,
+        region: *mut u8,
+        region_len: usize,
+        region_address: u64,
+        heap_header_address: u64,
         offset_size: u8,
         totals: *mut u64,
         totals_len: usize,
@@ -209,6 +230,46 @@ pub fn plan(
             blocks.as_mut_ptr(),
             blocks.len(),
             offset_size,
+            totals.as_mut_ptr(),
+            totals.len(),
+        )
+    }
+}
+
+/// What is written and where: sizes and joined bytes of the objects, offset size, addresses.
+#[derive(Clone, Copy)]
+pub struct Writing<'a> {
+    pub sizes: &'a [u64],
+    pub objects: &'a [u8],
+    pub offset_size: u8,
+    pub region_at: u64,
+    pub header_at: u64,
+}
+
+/// The refusal's number, or 0; its pair, or the eight totals, are put into `totals`.
+pub fn serialize(
+    writing: &Writing,
+    offsets: &mut [u64],
+    blocks: &mut [u64],
+    region: &mut [u8],
+    totals: &mut [u64],
+) -> u32 {
+    let (sizes, objects) = (writing.sizes, writing.objects);
+    unsafe {
+        tools_serialize(
+            sizes.as_ptr(),
+            sizes.len(),
+            offsets.as_mut_ptr(),
+            offsets.len(),
+            blocks.as_mut_ptr(),
+            blocks.len(),
+            objects.as_ptr(),
+            objects.len(),
+            region.as_mut_ptr(),
+            region.len(),
+            writing.region_at,
+            writing.header_at,
+            writing.offset_size,
             totals.as_mut_ptr(),
             totals.len(),
         )

@@ -36,20 +36,21 @@ fn mark(i: usize) -> u64 {
     0xA5A5_5A5A_0000_0000 ^ i as u64
 }
 
-struct Lent(Vec<u64>);
+/// A list that is lent.
+pub struct Lent(Vec<u64>);
 
 impl Lent {
-    fn new(places: usize) -> Self {
+    pub fn new(places: usize) -> Self {
         Lent((0..places + 2 * AROUND).map(mark).collect())
     }
 
-    fn places(&mut self) -> &mut [u64] {
+    pub fn places(&mut self) -> &mut [u64] {
         let end = self.0.len() - AROUND;
         &mut self.0[AROUND..end]
     }
 
     /// Panics unless the first places hold the new numbers, and everything else what was there.
-    fn holds(&self, new: &[u64], what: impl Fn() -> String) {
+    pub fn holds(&self, new: &[u64], what: impl Fn() -> String) {
         let due = |i: usize| match i.checked_sub(AROUND).and_then(|k| new.get(k)) {
             Some(&x) => x,
             None => mark(i),
@@ -61,7 +62,7 @@ impl Lent {
 }
 
 /// How many places are lent: for offsets, for blocks, for totals.
-type Places = [usize; 3];
+pub type Places = [usize; 3];
 
 /// Calls ours with lists of so many places, and holds all that was lent to the expected numbers.
 fn expect(sizes: &[u64], places: Places, w: u8, number: u32, news: [&[u64]; 3]) {
@@ -95,7 +96,7 @@ fn refused(sizes: &[u64], places: Places, w: u8, (number, x, y): Answer) {
 }
 
 /// What the lists hold after a plan.
-fn news(plan: &Plan) -> [&[u64]; 3] {
+pub fn news(plan: &Plan) -> [&[u64]; 3] {
     [&plan.offsets, &plan.starts, &plan.totals]
 }
 
@@ -107,7 +108,7 @@ fn accepted(sizes: &[u64], places: Places, w: u8) -> Plan {
 }
 
 /// As many places as are needed and so many more.
-fn enough(sizes: &[u64], more: Places) -> Places {
+pub fn enough(sizes: &[u64], more: Places) -> Places {
     let n = sizes.len();
     [n + more[0], n.max(1) + more[1], 8 + more[2]]
 }
@@ -191,7 +192,7 @@ fn list(random: &mut Random, len: u64, kind: u64, once_in: u64, w: u8) -> Vec<u6
 }
 
 /// A list of any kind.
-fn any_list(random: &mut Random, len: u64, w: u8) -> Vec<u64> {
+pub fn any_list(random: &mut Random, len: u64, w: u8) -> Vec<u64> {
     let (kind, once_in) = (random.below(7), 1 + random.below(30));
     list(random, len, kind, once_in, w)
 }
@@ -216,18 +217,18 @@ impl Counts {
 }
 
 /// Every list of up to three sizes that fill a block, or are one less or one more, or are 0 or 1.
-fn short_lists(counts: &mut Counts, w: u8) {
+pub fn short_lists(w: u8, mut each: impl FnMut(&[u64])) {
     let bodies = (10..17).map(|bits| (1 << bits) - header(w));
     let mut edges: Vec<u64> = bodies.flat_map(|x| [x - 1, x, x + 1]).collect();
     edges.extend([0, 1]);
     edges.retain(|&x| x <= limit(w));
-    counts.same(&[], [1; 3], w);
+    each(&[]);
     for &x in &edges {
-        counts.same(&[x], [1; 3], w);
+        each(&[x]);
         for &y in &edges {
-            counts.same(&[x, y], [1; 3], w);
+            each(&[x, y]);
             for &z in &edges {
-                counts.same(&[x, y, z], [1; 3], w);
+                each(&[x, y, z]);
             }
         }
     }
@@ -238,7 +239,7 @@ fn short_lists(counts: &mut Counts, w: u8) {
 fn lists(random: &mut Random, n: u64) {
     let mut counts = Counts::default();
     for w in [2, 4, 8] {
-        short_lists(&mut counts, w);
+        short_lists(w, |sizes| counts.same(sizes, [1; 3], w));
         for _ in 0..n {
             let len = match random.below(200) {
                 0 => random.below(4000),
