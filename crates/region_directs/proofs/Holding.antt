@@ -1,8 +1,8 @@
 -- The objects that a block holds: while planning goes on, the objects so far have no bytes in later blocks, and
 -- those that fill a block are contiguous among the joined bytes.
-use Prim.Native.Nat.{ℕ, zero, suc, _+_, _-_, _≤_, _<_}
-use mathlib.Core.Path.{_≡_, refl, sym, ap, ap₂, _∙_, subst}
-use mathlib.Core.Logic.{_⊎_, ⊎-elim}
+use Prim.Native.Nat.{ℕ, _+_, _-_, _≤_, _<_}
+use mathlib.Core.Path.{_≡_, refl, sym, ap, _∙_}
+use mathlib.Core.Logic.{⊎-elim}
 use mathlib.Core.Bool.{Bool, true, false, _&&_, cond}
 use mathlib.Core.List.{List, [], _∷_, _++_}
 use native.Mathlib.Omega.{arith}
@@ -64,8 +64,8 @@ offsets-stop t w s x xs e = rw (e, offsetsFrom)
 
 -- ---- the objects that fit into a block
 
--- what they leave of a state, x bytes together
-pub record Filled (s s′ : State) : Type 0 where
+-- what they leave of a state as it was
+pub record Fills (s s′ : State) : Type 0 where
   pub start-is : s′ .start ≡ s .start
   pub size-is : s′ .size ≡ s .size
   pub allocated-is : s′ .allocated ≡ s .allocated
@@ -73,13 +73,13 @@ pub record Filled (s s′ : State) : Type 0 where
   pub by : s′ .fill + s .used ≡ s .fill + s′ .used
   pub within : s .fill ≤ s .size → s′ .fill ≤ s .size
 
-pub fill-keeps : (ys : List ℕ) (s : State) → Filled s (fillState s ys)
+pub fill-keeps : (ys : List ℕ) (s : State) → Fills s (fillState s ys)
 unfolding fillState
 fill-keeps [] s = record { start-is = refl; size-is = refl; allocated-is = refl; more = omega arith; by = refl; within = λ l. l }
 fill-keeps (y ∷ ys) s = go (leb (s .fill + y) (s .size)) refl (fill-keeps ys (filled s y))
   where
-    go : (b : Bool) → leb (s .fill + y) (s .size) ≡ b → Filled (filled s y) (fillState (filled s y) ys)
-        → Filled s (elim b [ true ↦ fillState (filled s y) ys | false ↦ s ])
+    go : (b : Bool) → leb (s .fill + y) (s .size) ≡ b → Fills (filled s y) (fillState (filled s y) ys)
+        → Fills s (elim b [ true ↦ fillState (filled s y) ys | false ↦ s ])
     go true e F =
         let a = F .more in let b = F .by in let l = leb-true (s .fill + y) (s .size) e in
         record { start-is = F .start-is; size-is = F .size-is; allocated-is = F .allocated-is; more = omega arith; by = omega arith; within = λ _. F .within l }

@@ -1,7 +1,7 @@
 -- The loop that writes the blocks, a turn at a time: what is written and the blocks that are left give the whole.
-use Prim.Native.Nat.{ℕ, suc, _+_, _-_, _≤_, _<_}
+use Prim.Native.Nat.{ℕ, _+_, _-_, _≤_, _<_}
 use mathlib.Core.Path.{_≡_, refl, sym, ap, ap₂, _∙_, subst, subst₂}
-use mathlib.Core.Logic.{_⊎_, ⊎-elim}
+use mathlib.Core.Logic.{⊎-elim}
 use mathlib.Core.List.{List, _∷_, _++_}
 use native.Mathlib.Omega.{arith}
 use native.Mathlib.Nat.{add-zero}
@@ -26,12 +26,16 @@ use Rattle.region_blocks.specs.Blocks.{directBlock}
 use Rattle.region_blocks.specs.Storing.{stored}
 use Rattle.region_blocks.proofs.Storing.{length-stored, stored-nil, stored-then}
 use Rattle.region_directs.specs.Directs.{objectsIn, directs}
-use Rattle.region_directs.proofs.Holding.{Left, left-start, left-step, left-fill, held, held-fits, Filled as Fills, fill-keeps}
+use Rattle.region_directs.proofs.Holding.{Left, left-start, left-step, left-fill, held, held-fits, Fills, fill-keeps}
 use Rattle.region_directs.proofs.Lengths.{block-length, take-short, directs-cons}
 
 -- the blocks at ss of a whole list
-abbrev blocks : ℕ → ℕ → List ℕ → List ℕ → List ℕ → List ℕ
+abbrev pub blocks : ℕ → ℕ → List ℕ → List ℕ → List ℕ → List ℕ
 blocks w h xs js ss = directs fixed w h (planOffsets fixed w xs) xs js ss
+
+-- the block that planning fills between s and s′
+abbrev pub blockOf : ℕ → ℕ → List ℕ → State → State → List ℕ
+blockOf w h js s s′ = directBlock fixed w h (s′ .start) (s′ .size) (take (s′ .used - s .used) (drop (s .used) js))
 
 -- at s and the next-th size: region r, which was r₀
 pub record Writing (w h : ℕ) (xs js r₀ : List ℕ) (place : ℕ) (r : List ℕ) (s : State) (next : ℕ) : Type 0 where
@@ -40,9 +44,9 @@ pub record Writing (w h : ℕ) (xs js r₀ : List ℕ) (place : ℕ) (r : List �
   pub full : next < length xs → s .size < s .fill + getD xs next 0
   pub left : Left fixed w (planOffsets fixed w xs) xs js s (drop next xs)
   pub len : length r ≡ length r₀
-  pub room : place + s .allocated + length (directs fixed w h (planOffsets fixed w xs) xs js (startsFrom fixed w s (drop next xs))) ≤ length r₀
-  pub rest : stored r (place + s .allocated) (directs fixed w h (planOffsets fixed w xs) xs js (startsFrom fixed w s (drop next xs)))
-      ≡ stored r₀ place (directs fixed w h (planOffsets fixed w xs) xs js (startsFrom fixed w (initial fixed w) xs))
+  pub room : place + s .allocated + length (blocks w h xs js (startsFrom fixed w s (drop next xs))) ≤ length r₀
+  pub rest : stored r (place + s .allocated) (blocks w h xs js (startsFrom fixed w s (drop next xs)))
+      ≡ stored r₀ place (blocks w h xs js (startsFrom fixed w (initial fixed w) xs))
 
 -- a turn: f is the state after the objects of the block in hand
 pub record Turn (w h : ℕ) (xs js r₀ : List ℕ) (place : ℕ) (r : List ℕ) (s : State) (next : ℕ) (f : Filled) : Type 0 where
@@ -51,10 +55,10 @@ pub record Turn (w h : ℕ) (xs js r₀ : List ℕ) (place : ℕ) (r : List ℕ)
   pub used-within : length js ≡ sum xs → f .state .used ≤ length js
   pub fits : directHeader fixed w + length (take (f .state .used - s .used) (drop (s .used) js)) ≤ f .state .size
   pub room : place + s .allocated + f .state .size ≤ length r
-  pub more : (r′ : List ℕ) → r′ ≡ stored r (place + s .allocated) (directBlock fixed w h (f .state .start) (f .state .size) (take (f .state .used - s .used) (drop (s .used) js)))
+  pub more : (r′ : List ℕ) → r′ ≡ stored r (place + s .allocated) (blockOf w h js s (f .state))
       → Writing w h xs js r₀ place r′ (f .state) (f .next)
 
-pub writing-start : (w h : ℕ) (xs js r₀ : List ℕ) (place : ℕ) → w ≤ 255 → place + length (directs fixed w h (planOffsets fixed w xs) xs js (startsFrom fixed w (initial fixed w) xs)) ≤ length r₀
+pub writing-start : (w h : ℕ) (xs js r₀ : List ℕ) (place : ℕ) → w ≤ 255 → place + length (blocks w h xs js (startsFrom fixed w (initial fixed w) xs)) ≤ length r₀
     → Writing w h xs js r₀ place r₀ (initial fixed w) 0
 unfolding directHeader
 writing-start w h xs js r₀ place u l = record {
@@ -69,7 +73,7 @@ writing-start w h xs js r₀ place u l = record {
 
 module _ (w h : ℕ) (xs js r₀ : List ℕ) (place : ℕ) (r : List ℕ) (s : State) (next : ℕ) (I : Writing w h xs js r₀ place r s next) where
   -- no object is left
-  pub writing-done : length xs ≤ next → r ≡ stored r₀ place (directs fixed w h (planOffsets fixed w xs) xs js (startsFrom fixed w (initial fixed w) xs))
+  pub writing-done : length xs ≤ next → r ≡ stored r₀ place (blocks w h xs js (startsFrom fixed w (initial fixed w) xs))
   unfolding directs
   writing-done l =
       sym (stored-nil r (place + s .allocated)) ∙ ap (λ (ss : List ℕ). stored r (place + s .allocated) (blocks w h xs js ss)) (sym (starts-done fixed w xs s next l)) ∙ I .rest
@@ -133,38 +137,38 @@ module _ (w h : ℕ) (xs js r₀ : List ℕ) (place : ℕ) (r : List ℕ) (s : S
     used-within j = let a = after .sums in omega arith
 
     block-is : directBlock fixed w h (s₁ .start) (s₁ .size) (objectsIn (s₁ .start) (s₁ .size) (planOffsets fixed w xs) xs js)
-        ≡ directBlock fixed w h (f .state .start) (f .state .size) (take (f .state .used - s .used) (drop (s .used) js))
+        ≡ blockOf w h js s (f .state)
     block-is =
         ap (directBlock fixed w h (s₁ .start) (s₁ .size))
         (held fixed (omega arith) (omega arith) w (planOffsets fixed w xs) xs js s (getD xs next 0) (drop (next + 1) xs) now s₁ o e new
         ∙ ap (λ (y : State). take (y .used - s .used) (drop (s .used) js)) (sym state-is))
         ∙ ap₂ (λ (b z : ℕ). directBlock fixed w h b z (take (f .state .used - s .used) (drop (s .used) js))) (sym (keeps .start-is)) (sym (keeps .size-is))
 
-    long : length (directBlock fixed w h (f .state .start) (f .state .size) (take (f .state .used - s .used) (drop (s .used) js))) ≡ f .state .size
+    long : length (blockOf w h js s (f .state)) ≡ f .state .size
     long = block-length fixed w h (f .state .start) (f .state .size) (take (f .state .used - s .used) (drop (s .used) js)) fits
 
     -- it is the first of the blocks that are left
-    blocks-are : directs fixed w h (planOffsets fixed w xs) xs js (startsFrom fixed w s (drop next xs))
-        ≡ directBlock fixed w h (f .state .start) (f .state .size) (take (f .state .used - s .used) (drop (s .used) js))
-        ++ directs fixed w h (planOffsets fixed w xs) xs js (startsFrom fixed w (f .state) (drop (f .next) xs))
+    blocks-are : blocks w h xs js (startsFrom fixed w s (drop next xs))
+        ≡ blockOf w h js s (f .state)
+        ++ blocks w h xs js (startsFrom fixed w (f .state) (drop (f .next) xs))
     blocks-are =
         ap (blocks w h xs js) (starts-new fixed w xs s next l s₁ o e (omega (arith, new .count-is)) ∙ ap (λ (ss : List ℕ). s₁ .start ∷ ss) (starts-from-next w xs s₁ (next + 1) f q))
         ∙ directs-cons fixed w h (planOffsets fixed w xs) xs js (s₁ .start) (startsFrom fixed w (f .state) (drop (f .next) xs)) (s₁ .size) (new .size-is)
-        ∙ ap (λ (y : List ℕ). y ++ directs fixed w h (planOffsets fixed w xs) xs js (startsFrom fixed w (f .state) (drop (f .next) xs))) block-is
+        ∙ ap (λ (y : List ℕ). y ++ blocks w h xs js (startsFrom fixed w (f .state) (drop (f .next) xs))) block-is
 
-    length-are : length (directs fixed w h (planOffsets fixed w xs) xs js (startsFrom fixed w s (drop next xs)))
-        ≡ f .state .size + length (directs fixed w h (planOffsets fixed w xs) xs js (startsFrom fixed w (f .state) (drop (f .next) xs)))
-    length-are = ap length blocks-are ∙ length-append (directBlock fixed w h (f .state .start) (f .state .size) (take (f .state .used - s .used) (drop (s .used) js))) (directs fixed w h (planOffsets fixed w xs) xs js (startsFrom fixed w (f .state) (drop (f .next) xs)))
-        ∙ ap (λ (n : ℕ). n + length (directs fixed w h (planOffsets fixed w xs) xs js (startsFrom fixed w (f .state) (drop (f .next) xs)))) long
+    length-are : length (blocks w h xs js (startsFrom fixed w s (drop next xs)))
+        ≡ f .state .size + length (blocks w h xs js (startsFrom fixed w (f .state) (drop (f .next) xs)))
+    length-are = ap length blocks-are ∙ length-append (blockOf w h js s (f .state)) (blocks w h xs js (startsFrom fixed w (f .state) (drop (f .next) xs)))
+        ∙ ap (λ (n : ℕ). n + length (blocks w h xs js (startsFrom fixed w (f .state) (drop (f .next) xs)))) long
 
     room-here : place + s .allocated + f .state .size ≤ length r
     room-here = let a = I .room in let b = length-are in let c = I .len in omega arith
 
-    writing-more : (r′ : List ℕ) → r′ ≡ stored r (place + s .allocated) (directBlock fixed w h (f .state .start) (f .state .size) (take (f .state .used - s .used) (drop (s .used) js)))
+    writing-more : (r′ : List ℕ) → r′ ≡ stored r (place + s .allocated) (blockOf w h js s (f .state))
         → Writing w h xs js r₀ place r′ (f .state) (f .next)
     writing-more r′ p =
-        let D = directs fixed w h (planOffsets fixed w xs) xs js (startsFrom fixed w (f .state) (drop (f .next) xs)) in
-        let B = directBlock fixed w h (f .state .start) (f .state .size) (take (f .state .used - s .used) (drop (s .used) js)) in
+        let D = blocks w h xs js (startsFrom fixed w (f .state) (drop (f .next) xs)) in
+        let B = blockOf w h js s (f .state) in
         let a = I .room in let b = length-are in let c = new .allocated-is in let d = keeps .allocated-is in let z = keeps .size-is in let m = long in
         let k : place + f .state .allocated ≡ place + s .allocated + length B = omega arith in
         record {

@@ -2,6 +2,7 @@
 use borrow.Author.Needs.{needs}
 use mathlib.Core.Path.{sym, ap, _∙_}
 use native.Mathlib.Omega.{arith}
+use lib.ListN.{length}
 use Rattle.region_blocks.specs.Storing.{stored}
 use Rattle.region_directs.proofs.Lengths.{none-block, none-fits, none-room, some-is}
 use Rattle.region_directs.proofs.write_directs.Statement.{statement}
@@ -10,7 +11,7 @@ use Rattle.region_directs.proofs.write_directs.Tie as tie
 write-direct-block-requires : tie.Need-write-direct-block-requires
 write-direct-block-requires c κs =
     let e = c .before .before .before .before .before in
-    (none-room (e .args .site .«offset_size») (e .args .site .«heap_header_address») (e .args .objects .now) (e .args .sizes .now) _ _ (omega arith) (c .before .if1 .taken) (e .pre .1 .1 .1), none-fits _ (e .args .objects .now) (e .args .sizes .now) (omega arith) (c .before .if1 .taken) (e .pre .1 .1 .0))
+    (omega (arith, none-room (e .args .site .«offset_size») (e .args .site .«heap_header_address») (e .args .objects .now) (e .args .sizes .now) (e .args .place) (length (e .args .region .now)) (omega arith) (c .before .if1 .taken) (e .pre .1 .1 .1)), none-fits _ (e .args .objects .now) (e .args .sizes .now) (omega arith) (c .before .if1 .taken) (e .pre .1 .1 .0))
 
 same-length : tie.Need-same-length
 same-length c = search needs

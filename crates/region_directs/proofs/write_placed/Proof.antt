@@ -53,7 +53,7 @@ after c =
     turn _ _ _ _ _ _ _ _ _ (c .before .before .before .before .before .before .before .loop .inv) (c .before .before .before .before .before .before .loop-test .taken) _ _ (step-is _ _ _ _ _ _ _ _ _ (c .before .before .before .before .before .before .before .loop .inv) (c .before .before .before .before .before .before .loop-test .taken) _ (c .before .before .before .before .open-block .ensures) ∙ c .before .before .opened .given .1) _ (c .fill-block .ensures)
 
 sub-write-direct-block : tie.Need-sub-write-direct-block Inv-loop μ-loop
-sub-write-direct-block c = after (c .before .before) .used-more
+sub-write-direct-block c = omega (arith, after (c .before .before) .used-more)
 
 part-write-direct-block-start : tie.Need-part-write-direct-block-start Inv-loop μ-loop
 part-write-direct-block-start c = omega (arith, after (c .before .before) .used-more, after (c .before .before) .used-within (c .before .before .before .before .before .before .before .before .before .before .before .before .before .before .pre .1 .1 .0))
@@ -62,7 +62,7 @@ part-write-direct-block-end : tie.Need-part-write-direct-block-end Inv-loop μ-l
 part-write-direct-block-end c = omega (arith, after (c .before .before) .used-more, after (c .before .before) .used-within (c .before .before .before .before .before .before .before .before .before .before .before .before .before .before .pre .1 .1 .0))
 
 write-direct-block-requires : tie.Need-write-direct-block-requires Inv-loop μ-loop
-write-direct-block-requires c κs = (after (c .before .before .before) .room, after (c .before .before .before) .fits)
+write-direct-block-requires c κs = (omega (arith, after (c .before .before .before) .room), after (c .before .before .before) .fits)
 
 loop-less : tie.Need-loop-less Inv-loop μ-loop
 loop-less c = omega (arith, after (c .before .before .before .before .before .before) .later, (c .before .before .before .before .before .before .before .before .before .before .before .before) .loop-test .taken)

@@ -39,11 +39,19 @@ returns-2 c =
     let a = c .before .before .before .before .before .before .before .before .before .before .before .before .before .before .before .before .before .before .before .before .before .args in
     let l = a .totals .now in
     let h = c .before .before .before .before .before .before .before .before .before .before .before .before .before .before .if1 .left in
-    let e = c .before .before .before .before .before .before .before .before .before .before .serialize .ensures .0 in
-    (c .before .before .put-planned .ensures .0 ∙ number-long l h _ _ e, (c .before .before .put-planned .ensures .1 ∙ totals-long l h _ _ e, (
-    after-by l h (λ (y : Planned). written y (planOffsets fixed (a .offset-size) (a .sizes .now)) (a .offsets .now)) _ _ _ _ e (c .before .before .before .before .before .before .before .before .before .before .serialize .ensures .1 .0), (
-    after-by l h (λ (y : Planned). written y (planStarts fixed (a .offset-size) (a .sizes .now)) (a .blocks .now)) _ _ _ _ e (c .before .before .before .before .before .before .before .before .before .before .serialize .ensures .1 .1 .0),
-    after-by l h (λ (y : Planned). regionWritten y (a .offset-size) (a .heap-header-address) (a .region-address) (a .sizes .now) (a .objects .now) (a .region .now)) _ _ _ _ e (c .before .before .before .before .before .before .before .before .before .before .serialize .ensures .1 .1 .1)))))
+    let e = c .before .before .before .before .before .before .before .before .before .before .serialize .ensures .0 in (
+      c .before .before .put-planned .ensures .0 ∙ number-long l h _ _ e,
+      (
+        c .before .before .put-planned .ensures .1 ∙ totals-long l h _ _ e,
+        (
+          after-by l h (λ (y : Planned). written y (planOffsets fixed (a .offset-size) (a .sizes .now)) (a .offsets .now)) _ _ _ _ e (c .before .before .before .before .before .before .before .before .before .before .serialize .ensures .1 .0),
+          (
+            after-by l h (λ (y : Planned). written y (planStarts fixed (a .offset-size) (a .sizes .now)) (a .blocks .now)) _ _ _ _ e (c .before .before .before .before .before .before .before .before .before .before .serialize .ensures .1 .1 .0),
+            after-by l h (λ (y : Planned). regionWritten y (a .offset-size) (a .heap-header-address) (a .region-address) (a .sizes .now) (a .objects .now) (a .region .now)) _ _ _ _ e (c .before .before .before .before .before .before .before .before .before .before .serialize .ensures .1 .1 .1),
+          ),
+        ),
+      ),
+    )
 
 pub tools-serialize-spec : {M : Type 1} → statement M
 tools-serialize-spec =
