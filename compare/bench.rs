@@ -1,6 +1,7 @@
 //! Times, ours against the original: one process, the same input, the best of many rounds.
 use crate::made::{self, Heap};
-use crate::{ours, random::Random};
+use crate::ours::{self, Writing};
+use crate::{random::Random, write};
 use std::hint::black_box;
 use std::time::Instant;
 
@@ -96,12 +97,12 @@ pub fn checksum() {
     }
 }
 
-/// Sizes at w = 8.
-fn sizes(random: &mut Random, kind: &str, n: usize) -> Vec<u64> {
+/// Sizes at w = 8, none above `most`.
+fn sizes(random: &mut Random, kind: &str, n: usize, most: u64) -> Vec<u64> {
     let draw = |_| match kind {
         "small" => 1 + random.below(200),
-        "mixed" => (random.next() >> (48 + random.below(16))).min(65_514),
-        _ => 65_514,
+        "mixed" => (random.next() >> (48 + random.below(16))).min(most),
+        _ => most,
     };
     (0..n).map(draw).collect()
 }
@@ -118,7 +119,7 @@ pub fn plan() {
     let mut random = Random::new(5);
     for n in [10, 1000, 1_000_000] {
         for kind in ["small", "mixed", "largest"] {
-            let all = sizes(&mut random, kind, n.max(100_000));
+            let all = sizes(&mut random, kind, n.max(100_000), 65_514);
             let lists = || all.chunks_exact(n);
             let (calls, rounds) = (lists().count(), if n > 1000 { 7 } else { 25 });
             let original = || {
@@ -222,4 +223,112 @@ pub fn heap() {
             "{n} objects"
         );
     }
+}
+
+/// What ours is lent for writing.
+struct Lent {
+    offsets: Vec<u64>,
+    blocks: Vec<u64>,
+    region: Vec<u8>,
+}
+
+impl Lent {
+    fn new(objects: usize, size: usize) -> Self {
+        Lent {
+            offsets: vec![0; objects],
+            blocks: vec![0; objects.max(1)],
+            region: vec![0; size],
+        }
+    }
+
+    fn write(&mut self, writing: &Writing) {
+        let (offsets, blocks) = (&mut self.offsets, &mut self.blocks);
+        let mut totals = [0; 8];
+        let region = &mut self.region;
+        let number = ours::serialize(black_box(writing), offsets, blocks, region, &mut totals);
+        assert_eq!(black_box(number), 0);
+    }
+}
+
+/// The longest front part of a list whose region has at most so many bytes.
+fn fitting(sizes: &[u64], bytes: u64) -> &[u64] {
+    let (mut fits, mut too_many) = (0, sizes.len() + 1);
+    while fits + 1 < too_many {
+        let n = (fits + too_many) / 2;
+        let size = original::plans(&sizes[..n], 8).expect("within the heap space");
+        if size <= bytes {
+            fits = n;
+        } else {
+            too_many = n;
+        }
+    }
+    &sizes[..fits]
+}
+
+/// Planning and writing a region, again and again. The original allocates what it fills in every call; ours is
+/// lent memory that is allocated once, outside of the time, and in the second line in every call. The third
+/// line is the time of one checksum and one copy of the whole region.
+pub fn write() {
+    let mut random = Random::new(12);
+    for (name, bytes, most, n) in [
+        ("2 KiB", 2200, 2026, 100),
+        ("1 MiB", 1 << 20, 65_514, 20_000),
+        ("256 MiB", 1 << 28, 65_514, 3_000_000),
+    ] {
+        for kind in ["small", "mixed", "largest"] {
+            let all = sizes(&mut random, kind, n, most);
+            let sizes = fitting(&all, bytes);
+            let mut objects = vec![0; sizes.iter().sum::<u64>() as usize];
+            random.fill(&mut objects);
+            let writing = Writing {
+                sizes,
+                objects: &objects,
+                offset_size: 8,
+                region_at: 4096,
+                header_at: 2048,
+            };
+            written(&format!("{name}, {kind}"), &writing);
+        }
+    }
+}
+
+fn written(name: &str, writing: &Writing) {
+    let parts = write::parts(writing.sizes, writing.objects);
+    let region = original::region(&parts, 8, writing.region_at, writing.header_at);
+    let (objects, size) = (parts.len(), region.len());
+    let calls = ((1 << 22) / size).max(1);
+    let rounds = if size > 1 << 24 { 9 } else { 25 };
+    let again = |f: &mut dyn FnMut()| (0..calls).for_each(|_| f());
+    let original = || {
+        again(&mut || {
+            let (at, header) = (writing.region_at, writing.header_at);
+            let plan =
+                original::planned(black_box(writing.sizes), 8).expect("within the heap space");
+            black_box(plan.serialize(black_box(&parts), at, header));
+        })
+    };
+    let mut lent = Lent::new(objects, size);
+    let times = best(rounds, || again(&mut || lent.write(writing)), original);
+    assert!(lent.region == region, "{name}");
+    println!("bench: {name}: {objects} objects, {size} bytes");
+    line("  written", calls, times);
+    let allocated = || again(&mut || Lent::new(objects, size).write(writing));
+    line(
+        "  with all memory allocated",
+        calls,
+        best(rounds, allocated, original),
+    );
+    let mut copy = vec![0; size];
+    let pass = || {
+        again(&mut || {
+            black_box(ours::jenkins_lookup3(black_box(&region)));
+            black_box(&mut copy).copy_from_slice(black_box(&region));
+        })
+    };
+    let (pass, ours) = best(rounds, pass, || again(&mut || lent.write(writing)));
+    println!(
+        "bench:   one checksum and one copy {:>10.1} ns, ours / that {:.2}",
+        pass * 1e9 / calls as f64,
+        ours / pass
+    );
 }

@@ -39,7 +39,9 @@ fn main() {
             bench::checksum();
             bench::plan();
             bench::heap();
+            bench::write();
         }
-        _ => panic!("compare, record vectors, record heaps, record reads [stdin] or bench"),
+        ["bench", "write"] => bench::write(),
+        _ => panic!("compare, record vectors, record heaps, record reads [stdin], bench [write]"),
     }
 }
