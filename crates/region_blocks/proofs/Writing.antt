@@ -18,15 +18,15 @@ use Rattle.region_blocks.proofs.Storing.{length-stored, stored-nil, sto
 
 -- ---- the loops
 
-pub zeros-more : (l : List ℕ) (i end : ℕ) → i < end → stored l i (replicate (end - i) 0) ≡ stored (set l i 0) (i + 1) (replicate (end - (i + 1)) 0)
-zeros-more l i end h =
+pub run-more : (l : List ℕ) (i end v : ℕ) → i < end → stored l i (replicate (end - i) v) ≡ stored (set l i v) (i + 1) (replicate (end - (i + 1)) v)
+run-more l i end v h =
     let e : end - i ≡ suc (end - (i + 1)) = omega arith in
-    ap (λ (n : ℕ). stored l i (replicate n 0)) e ∙ stored-cons l i 0 (replicate (end - (i + 1)) 0)
-    ∙ ap (λ (n : ℕ). stored (set l i 0) n (replicate (end - (i + 1)) 0)) (sym (add-one i))
+    ap (λ (n : ℕ). stored l i (replicate n v)) e ∙ stored-cons l i v (replicate (end - (i + 1)) v)
+    ∙ ap (λ (n : ℕ). stored (set l i v) n (replicate (end - (i + 1)) v)) (sym (add-one i))
 
-pub zeros-done : (l : List ℕ) (i end : ℕ) → end ≤ i → stored l i (replicate (end - i) 0) ≡ l
+pub run-done : (l : List ℕ) (i end v : ℕ) → end ≤ i → stored l i (replicate (end - i) v) ≡ l
 unfolding stored
-zeros-done l i end h = let e : end - i ≡ 0 = omega arith in rw e
+run-done l i end v h = let e : end - i ≡ 0 = omega arith in rw e
 
 pub bytes-more : (l bs : List ℕ) (at i : ℕ) → i < length bs → stored l (at + i) (drop i bs) ≡ stored (set l (at + i) (getD bs i 0)) (at + (i + 1)) (drop (i + 1) bs)
 bytes-more l bs at i h =

@@ -45,14 +45,14 @@ fn put_head(region: &mut [u8], at: usize, signature: u64, offset: u64, site: Sit
     put_number(region, at + 5 + width, offset, 5);
 }
 
-// Zeros from `at` up to `end`.
-fn put_zeros(region: &mut [u8], at: usize, end: usize)
+// The same byte from `at` up to `end`.
+pub fn put_run(region: &mut [u8], at: usize, end: usize, byte: u8)
     requires { ⌜ (at ≤ end) × (end ≤ length (now region)) ⌝ }
-    ensures { λ _. ⌜ now (region .exit) ≡ stored (now (region .entry)) at (replicate (end - at) 0) ⌝ }
+    ensures { λ _. ⌜ now (region .exit) ≡ stored (now (region .entry)) at (replicate (end - at) byte) ⌝ }
 {
     let mut i = at;
     while i < end {
-        region[i] = 0;
+        region[i] = byte;
         i += 1;
     }
 }
@@ -101,7 +101,7 @@ pub fn write_direct_block(
     put_head(region, at, DIRECT, offset, site);
     put_number(region, body - 4, 0, 4);
     put_bytes(region, body, objects);
-    put_zeros(region, body + objects.len(), end);
+    put_run(region, body + objects.len(), end, 0);
     let sum = jenkins_lookup3(&region[at..end]);
     put_number(region, body - 4, sum as u64, 4);
 }

@@ -5,7 +5,7 @@ use mathlib.Core.Bool.{true, false, cond}
 use mathlib.Core.List.{List, [], _++_, append-assoc}
 use native.Mathlib.Omega.{arith}
 use native.Mathlib.Nat.{lt-of-not-le, lt-of-le-of-lt}
-use lib.ListN.{length, length-append, take, drop}
+use lib.ListN.{length, length-append, length-replicate, take, drop, replicate}
 use lib.Seq.{drop-drop}
 use lib.Dec.{leb, eqb}
 use Rattle.fields.specs.LittleEndian.{le}
@@ -19,8 +19,8 @@ use Rattle.region_blocks.proofs.Storing.{length-stored, stored-nil, stored-appe
 use Rattle.region_walk.specs.declared.Cursor.{Cursor}
 use Rattle.region_walk.specs.declared.Child.{Child}
 use Rattle.region_walk.specs.Walk.{Walked, beginsBefore, unplaced, direct, nothing, both, slots, finished, smaller, allSlots, block}
-use Rattle.region_walk.specs.Requires.{rowsLeft, blockOf, slotsOf, slotOf, Fits, Wrote, WroteSlots}
-use Rattle.region_walk.proofs.Walking.{begins-none, slot-unplaced, slot-direct, slot-inner, slots-step, slots-grow, block-entries, head-length, indirect-length, rows-none, rows-all, rows-next}
+use Rattle.region_walk.specs.Requires.{rowsLeft, blockOf, slotsOf, slotOf, Fits, Moved, Wrote, WroteSlots}
+use Rattle.region_walk.proofs.Walking.{begins-none, slot-unplaced, slot-direct, slot-inner, slots-step, slots-passed, slots-grow, block-entries, head-length, indirect-length, rows-none, rows-all, rows-row, rows-next}
 
 -- ---- one slot
 
@@ -81,14 +81,114 @@ wrote-stop site starts l n row left off at c k h =
       moved = record { known = k; rest = refl; place = omega arith; next = refl };
     })
 
--- a slot's blocks, those of the slots after it, their entries and then its own, behind them all
-weave : (l : List ℕ) (p q at w : ℕ) (cb ob ce oe : List ℕ) → length ce ≡ w
-    → stored (stored (stored (stored l p cb) (p + length cb) ob) (q + (at + w)) oe) (q + at) ce ≡ stored (stored l p (cb ++ ob)) (q + at) (ce ++ oe)
-weave l p q at w cb ob ce oe e =
+-- a part of the slots with its blocks, then those of the slots after it, their entries and then its own, behind all
+weave : (l : List ℕ) (p q at k : ℕ) (cb ob ce oe : List ℕ) → length ce ≡ k
+    → stored (stored (stored (stored l p cb) (p + length cb) ob) (q + (at + k)) oe) (q + at) ce ≡ stored (stored l p (cb ++ ob)) (q + at) (ce ++ oe)
+weave l p q at k cb ob ce oe e =
     let x : List ℕ = stored (stored l p cb) (p + length cb) ob in
-    sym (stored-comm x (q + at) ce (q + (at + w)) oe (omega arith)) ∙ stored-then x (q + at) (q + (at + w)) ce oe (omega arith)
+    sym (stored-comm x (q + at) ce (q + (at + k)) oe (omega arith)) ∙ stored-then x (q + at) (q + (at + k)) ce oe (omega arith)
     ∙ ap (λ (y : List ℕ). stored y (q + at) (ce ++ oe)) (stored-append l p cb ob)
 
+-- slots S in two parts, C with entries of k bytes and R
+module _ (site : Site) (starts l : List ℕ) (at : ℕ) (c : Cursor) (S C R : Walked) (k : ℕ) (parts : S ≡ both C R) (wide : length (C .entries) ≡ k) (p : Fits site starts l c S (at + length (S .entries)))
+    {l₁ : List ℕ} {c₁ : Cursor} (q : l₁ ≡ stored l (c .place) (C .bytes)) (m : Moved starts c C c₁) where
+  bytes-are : S .bytes ≡ C .bytes ++ R .bytes
+  unfolding both
+  bytes-are = ap (λ (o : Walked). o .bytes) parts
+
+  entries-are : S .entries ≡ C .entries ++ R .entries
+  unfolding both
+  entries-are = ap (λ (o : Walked). o .entries) parts
+
+  rest-is : S .rest ≡ R .rest
+  unfolding both
+  rest-is = ap (λ (o : Walked). o .rest) parts
+
+  next-is : S .next ≡ R .next
+  unfolding both
+  next-is = ap (λ (o : Walked). o .next) parts
+
+  length-S : length (S .bytes) ≡ length (C .bytes) + length (R .bytes)
+  length-S = ap length bytes-are ∙ length-append (C .bytes) (R .bytes)
+
+  length-E : length (S .entries) ≡ k + length (R .entries)
+  length-E = ap length entries-are ∙ length-append (C .entries) (R .entries) ∙ ap (λ (n : ℕ). n + length (R .entries)) wide
+
+  length-l₁ : length l₁ ≡ length l
+  length-l₁ = ap length q ∙ length-stored l (c .place) (C .bytes)
+
+  -- what the second part asks
+  second-fits : Fits site starts l₁ c₁ R (at + k + length (R .entries))
+  second-fits = record {
+    narrow = p .narrow;
+    known = m .known;
+    room = omega (arith, p .room, length-S, length-E, length-l₁, m .place);
+    addresses = rw length-l₁ (p .addresses);
+    direct = rw next-is at (p .direct);
+  }
+
+  module _ {l₂ : List ℕ} {d : Cursor} (s : WroteSlots starts l₁ l₂ (at + k) c₁ R d) where
+    length-l₂ : length l₂ ≡ length l
+    length-l₂ =
+        ap length (s .bytes) ∙ length-stored (stored l₁ (c₁ .place) (R .bytes)) (d .place + (at + k)) (R .entries) ∙ length-stored l₁ (c₁ .place) (R .bytes) ∙ length-l₁
+
+    -- the place of the first part's entries
+    first-fits : d .place + at + k ≤ length l₂
+    first-fits = omega (arith, p .room, length-S, length-E, length-l₂, m .place, s .moved .place)
+
+    wrote-both : {l₃ : List ℕ} {es : List ℕ} → es ≡ C .entries → l₃ ≡ stored l₂ (d .place + at) es → WroteSlots starts l l₃ at c S d
+    wrote-both {l₃} {es} f e = record {
+      bytes =
+          e ∙ ap (λ (y : List ℕ). stored y (d .place + at) es) (s .bytes)
+          ∙ (λ i. stored (stored (stored (q i) (m .place i) (R .bytes)) (d .place + (at + k)) (R .entries)) (d .place + at) (f i))
+          ∙ weave l (c .place) (d .place) at k (C .bytes) (R .bytes) (C .entries) (R .entries) wide
+          ∙ (λ i. stored (stored l (c .place) (sym bytes-are i)) (d .place + at) (sym entries-are i));
+      moved = record {
+        known = s .moved .known;
+        rest = s .moved .rest ∙ sym rest-is;
+        place = omega (arith, s .moved .place, m .place, length-S);
+        next = s .moved .next ∙ sym next-is;
+      };
+    }
+
+-- the rest of a row without a block
+module _ (site : Site) (starts l : List ℕ) (n row left off at : ℕ) (c : Cursor) {size : ℕ} (more : row < n) (sz : size ≡ 2 ^ rowBits fixed row)
+    (b : beginsBefore (drop (c .index) starts) (off + left * size) ≡ false) (p : Fits site starts l c (slotsOf site starts n row left off c) (at + length (slotsOf site starts n row left off c .entries))) where
+  abbrev none : Walked
+  none = unplaced (left * site .«offset_size») (drop (c .index) starts) (c .next)
+
+  passed : slotsOf site starts n row left off c ≡ both none (slotsOf site starts n (row + 1) 4 (off + left * size) c)
+  passed =
+      rw (rows-row n row left more) (slots-passed fixed _ _ _ left row _ off (drop (c .index) starts) _ _ (rw sz at b))
+      ∙ ap (λ (z : ℕ). both none (slotsOf site starts n (row + 1) 4 (off + left * z) c)) (sym sz)
+
+  none-wide : length (none .entries) ≡ left * site .«offset_size»
+  unfolding unplaced
+  none-wide = length-replicate (left * site .«offset_size») 0xFF
+
+  none-stored : l ≡ stored l (c .place) (none .bytes)
+  unfolding unplaced
+  none-stored = sym (stored-nil l (c .place))
+
+  none-moved : Moved starts c none c
+  unfolding unplaced
+  none-moved = record { known = p .known; rest = refl; place = omega arith; next = refl }
+
+  pub rows-fit : Fits site starts l c (slotsOf site starts n (row + 1) 4 (off + left * size) c) (at + left * site .«offset_size» + length (slotsOf site starts n (row + 1) 4 (off + left * size) c .entries))
+  rows-fit = second-fits site starts l at c _ _ _ _ passed none-wide p none-stored none-moved
+
+  module _ {l₂ : List ℕ} {d : Cursor} (s : WroteSlots starts l l₂ (at + left * site .«offset_size») c (slotsOf site starts n (row + 1) 4 (off + left * size) c) d) where
+    pub run-fits : d .place + at + left * site .«offset_size» ≤ length l₂
+    run-fits = first-fits site starts l at c _ _ _ _ passed none-wide p none-stored none-moved s
+
+    pub wrote-passed : {l₃ : List ℕ} → l₃ ≡ stored l₂ (d .place + at) (replicate (d .place + at + left * site .«offset_size» - (d .place + at)) 0xFF)
+        → WroteSlots starts l l₃ at c (slotsOf site starts n row left off c) d
+    unfolding unplaced
+    wrote-passed e =
+        let g : d .place + at + left * site .«offset_size» - (d .place + at) ≡ left * site .«offset_size» = omega arith in
+        wrote-both site starts l at c _ _ _ _ passed none-wide p none-stored none-moved s (ap (λ (m : ℕ). replicate m 0xFF) g) e
+
+-- one slot, and those after it
 module _ (site : Site) (starts l : List ℕ) (n row left off at : ℕ) (c : Cursor) (more : row < n) (some : 0 < left) where
   abbrev S : Walked
   S = slotsOf site starts n row left off c
@@ -105,24 +205,13 @@ module _ (site : Site) (starts l : List ℕ) (n row left off at : ℕ) (c : Curs
   first : S ≡ both C O
   first = rw (rows-next n row left more some) (slots-step fixed _ _ n row _ more off (drop (c .index) starts) _ _ C refl)
 
-  bytes-are : S .bytes ≡ C .bytes ++ O .bytes
+  first-bytes : length (S .bytes) ≡ length (C .bytes) + length (O .bytes)
   unfolding both
-  bytes-are = ap (λ (o : Walked). o .bytes) first
+  first-bytes = ap (λ (o : Walked). length (o .bytes)) first ∙ length-append (C .bytes) (O .bytes)
 
-  entries-are : S .entries ≡ C .entries ++ O .entries
+  first-next : S .next ≡ O .next
   unfolding both
-  entries-are = ap (λ (o : Walked). o .entries) first
-
-  rest-is : S .rest ≡ O .rest
-  unfolding both
-  rest-is = ap (λ (o : Walked). o .rest) first
-
-  next-is : S .next ≡ O .next
-  unfolding both
-  next-is = ap (λ (o : Walked). o .next) first
-
-  bytes-length : length (S .bytes) ≡ length (C .bytes) + length (O .bytes)
-  bytes-length = ap length bytes-are ∙ length-append (C .bytes) (O .bytes)
+  first-next = ap (λ (o : Walked). o .next) first
 
   module _ (p : Fits site starts l c S (at + length (S .entries))) where
     -- what the slot asks
@@ -130,9 +219,9 @@ module _ (site : Site) (starts l : List ℕ) (n row left off at : ℕ) (c : Curs
     slot-fits = record {
       narrow = p .narrow;
       known = p .known;
-      room = omega (arith, p .room, bytes-length);
+      room = omega (arith, p .room, first-bytes);
       addresses = p .addresses;
-      direct = lt-of-le-of-lt (slots-grow fixed _ _ n _ _ (C .rest) _ (C .next)) (rw next-is at (p .direct));
+      direct = lt-of-le-of-lt (slots-grow fixed _ _ n _ _ (C .rest) _ (C .next)) (rw first-next at (p .direct));
     }
 
     module _ {row₁ left₁ size : ℕ} (rn : row₁ ≡ cond (eqb left 1) (row + 1) row) (ln : left₁ ≡ cond (eqb left 1) 4 (left - 1)) (sz : size ≡ 2 ^ rowBits fixed row)
@@ -147,54 +236,23 @@ module _ (site : Site) (starts l : List ℕ) (n row left off at : ℕ) (c : Curs
           λ i. slots fixed (site .«offset_size») (site .«heap_header_address») (smaller fixed (site .«offset_size») (site .«heap_header_address») n)
           (rowsLeft n (rn i) (ln i)) (off + sz i) (q .moved .rest i) (a i) (q .moved .next i)
 
-      length-C : length (C .entries) ≡ site .«offset_size»
-      length-C = ap length (sym (q .entry)) ∙ length-le (site .«offset_size») (r .entry)
+      parts : S ≡ both C R
+      parts = first ∙ ap (both C) (sym rest-are)
 
-      length-S : length (S .bytes) ≡ length (C .bytes) + length (R .bytes)
-      length-S = bytes-length ∙ ap (λ (o : Walked). length (C .bytes) + length (o .bytes)) (sym rest-are)
-
-      length-E : length (S .entries) ≡ site .«offset_size» + length (R .entries)
-      length-E =
-          ap length entries-are ∙ length-append (C .entries) (O .entries) ∙ ap (λ (k : ℕ). k + length (O .entries)) length-C
-          ∙ ap (λ (o : Walked). site .«offset_size» + length (o .entries)) (sym rest-are)
-
-      length-l₁ : length l₁ ≡ length l
-      length-l₁ = ap length (q .bytes) ∙ length-stored l (c .place) (C .bytes)
+      wide : length (C .entries) ≡ site .«offset_size»
+      wide = ap length (sym (q .entry)) ∙ length-le (site .«offset_size») (r .entry)
 
       -- what the slots after it ask
       pub slots-fit : Fits site starts l₁ (r .cursor) R (at + site .«offset_size» + length (R .entries))
-      slots-fit = record {
-        narrow = p .narrow;
-        known = q .moved .known;
-        room = omega (arith, p .room, length-S, length-E, length-l₁, q .moved .place);
-        addresses = rw length-l₁ (p .addresses);
-        direct = rw rest-are (rw next-is at (p .direct));
-      }
+      slots-fit = second-fits site starts l at c S C R _ parts wide p (q .bytes) (q .moved)
 
       module _ {l₂ : List ℕ} {d : Cursor} (s : WroteSlots starts l₁ l₂ (at + site .«offset_size») (r .cursor) R d) where
-        length-l₂ : length l₂ ≡ length l
-        length-l₂ =
-            ap length (s .bytes) ∙ length-stored (stored l₁ (r .cursor .place) (R .bytes)) (d .place + (at + site .«offset_size»)) (R .entries)
-            ∙ length-stored l₁ (r .cursor .place) (R .bytes) ∙ length-l₁
-
         -- its entry's place
         pub entry-fits : d .place + at + site .«offset_size» ≤ length l₂
-        entry-fits = omega (arith, p .room, length-S, length-E, length-l₂, q .moved .place, s .moved .place)
+        entry-fits = first-fits site starts l at c S C R _ parts wide p (q .bytes) (q .moved) s
 
         pub wrote-slots : {l₃ : List ℕ} → l₃ ≡ stored l₂ (d .place + at) (le (site .«offset_size») (r .entry)) → WroteSlots starts l l₃ at c S d
-        wrote-slots {l₃} e = record {
-          bytes =
-              e ∙ ap (λ (y : List ℕ). stored y (d .place + at) (le (site .«offset_size») (r .entry))) (s .bytes)
-              ∙ (λ i. stored (stored (stored (q .bytes i) (q .moved .place i) (rest-are i .bytes)) (d .place + (at + site .«offset_size»)) (rest-are i .entries)) (d .place + at) (q .entry i))
-              ∙ weave l (c .place) (d .place) at (site .«offset_size») (C .bytes) (O .bytes) (C .entries) (O .entries) length-C
-              ∙ (λ i. stored (stored l (c .place) (sym bytes-are i)) (d .place + at) (sym entries-are i));
-          moved = record {
-            known = s .moved .known;
-            rest = s .moved .rest ∙ ap (λ (o : Walked). o .rest) rest-are ∙ sym rest-is;
-            place = omega (arith, s .moved .place, q .moved .place, length-S);
-            next = s .moved .next ∙ ap (λ (o : Walked). o .next) rest-are ∙ sym next-is;
-          };
-        }
+        wrote-slots {l₃} e = wrote-both site starts l at c S C R _ parts wide p (q .bytes) (q .moved) s (q .entry) e
 
 -- ---- a block
 

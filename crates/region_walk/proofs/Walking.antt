@@ -3,16 +3,16 @@
 use Prim.Native.Nat.{ℕ, zero, suc, _+_, _-_, _*_, _^_, _≤_, _<_}
 use mathlib.Core.Path.{_≡_, refl, sym, ap, ap₂, _∙_}
 use mathlib.Core.Bool.{Bool, true, false, cond}
-use mathlib.Core.List.{List, [], _∷_}
+use mathlib.Core.List.{List, [], _∷_, _++_, append-assoc}
 use native.Mathlib.Omega.{arith}
-use native.Mathlib.Nat.{le-trans}
+use native.Mathlib.Nat.{add-zero, le-trans, mul-le-mul-left, mul-le-mul-right}
 use native.Mathlib.Numerals.{add-one}
 use native.Mathlib.Decide.{decLt}
-use lib.ListN.{length, length-append, length-replicate, replicate, drop, drop-of-length-le, getD}
+use lib.ListN.{length, length-append, length-replicate, replicate, replicate-append-replicate, drop, drop-of-length-le, getD}
 use lib.Seq.{drop-cons}
 use lib.Dec.{leb, ltb, eqb}
 use lib.Pow.{pow-mono}
-use borrow.Author.Tests.{leb-false, eqb-true, eqb-false, ne-eqb, lt-ltb, le-ltb}
+use borrow.Author.Tests.{leb-false, ltb-false, eqb-true, eqb-false, ne-eqb, lt-ltb, le-ltb}
 use Rattle.fields.proofs.LittleEndian.{length-le}
 use Rattle.table.specs.Table.{Table, fixed, rowBits}
 use Rattle.region_blocks.specs.Blocks.{indirectSignature, blockHead, indirectBlock}
@@ -78,6 +78,49 @@ module _ (t : Table) (w header : ℕ) where
       ≡ both c (slots t w header (smaller t w header n) rs (at + 2 ^ rowBits t r) (c .rest) (pos + length (c .bytes)) (c .next))
   unfolding slots
   slots-step n r rs h at ss pos next c e = rw (slot-any n r h at ss pos next, ← e)
+
+-- ---- slots without a block, passed at once
+
+before-less : (ss : List ℕ) (a b : ℕ) → a ≤ b → beginsBefore ss b ≡ false → beginsBefore ss a ≡ false
+unfolding beginsBefore
+before-less [] a b l e = refl
+before-less (s ∷ ss) a b l e = le-ltb s a (let z = ltb-false s b e in omega arith)
+
+both-none : (ss : List ℕ) (next w : ℕ) (o : Walked) → both (unplaced (0 * w) ss next) o ≡ o
+unfolding both unplaced
+both-none ss next w o = let e : 0 * w ≡ 0 = omega arith in rw e
+
+both-more : (ss : List ℕ) (next w k : ℕ) (o : Walked) → both (unplaced w ss next) (both (unplaced (k * w) ss next) o) ≡ both (unplaced (suc k * w) ss next) o
+unfolding both unplaced
+both-more ss next w k o =
+    let n : w + k * w ≡ suc k * w = omega arith in
+    let e : replicate w 0xFF ++ (replicate (k * w) 0xFF ++ o .entries) ≡ replicate (suc k * w) 0xFF ++ o .entries =
+    sym (append-assoc (replicate w 0xFF) (replicate (k * w) 0xFF) (o .entries))
+    ∙ ap (λ (es : List ℕ). es ++ o .entries) (replicate-append-replicate w (k * w) 0xFF ∙ ap (λ (m : ℕ). replicate m 0xFF) n) in
+    λ i. record { bytes = o .bytes; entries = e i; rest = o .rest; next = o .next }
+
+module _ (t : Table) (w header : ℕ) (inner : ℕ → Walk) where
+  slots-first : (r : ℕ) (rs : List ℕ) (at : ℕ) (ss : List ℕ) (pos next : ℕ) → slot t w header inner r at ss pos next ≡ unplaced w ss next
+      → slots t w header inner (r ∷ rs) at ss pos next ≡ both (unplaced w ss next) (slots t w header inner rs (at + 2 ^ rowBits t r) ss pos next)
+  unfolding slots unplaced
+  slots-first r rs at ss pos next e =
+      ap (λ (c : Walked). both c (slots t w header inner rs (at + 2 ^ rowBits t r) (c .rest) (pos + length (c .bytes)) (c .next))) e
+      ∙ ap (λ (y : ℕ). both (unplaced w ss next) (slots t w header inner rs (at + 2 ^ rowBits t r) ss y next)) (add-zero pos)
+
+  -- k slots of a row before whose end no block begins
+  pub slots-passed : (k r : ℕ) (rs : List ℕ) (at : ℕ) (ss : List ℕ) (pos next : ℕ) → beginsBefore ss (at + k * 2 ^ rowBits t r) ≡ false
+      → slots t w header inner (replicate k r ++ rs) at ss pos next ≡ both (unplaced (k * w) ss next) (slots t w header inner rs (at + k * 2 ^ rowBits t r) ss pos next)
+  slots-passed zero r rs at ss pos next b =
+      let e : at ≡ at + 0 * 2 ^ rowBits t r = omega arith in
+      ap (λ (y : ℕ). slots t w header inner rs y ss pos next) e ∙ sym (both-none ss next w (slots t w header inner rs (at + 0 * 2 ^ rowBits t r) ss pos next))
+  slots-passed (suc k) r rs at ss pos next b =
+      let z : ℕ = 2 ^ rowBits t r in
+      let e : at + z + k * z ≡ at + suc k * z = omega arith in
+      let c : slot t w header inner r at ss pos next ≡ unplaced w ss next = slot-unplaced t w header inner r at ss pos next refl (before-less ss (at + z) (at + suc k * z) (omega arith) b) in
+      slots-first r (replicate k r ++ rs) at ss pos next c
+      ∙ ap (both (unplaced w ss next)) (slots-passed k r rs (at + z) ss pos next (ap (beginsBefore ss) e ∙ b))
+      ∙ both-more ss next w k (slots t w header inner rs (at + z + k * z) ss pos next)
+      ∙ ap (λ (y : ℕ). both (unplaced (suc k * w) ss next) (slots t w header inner rs y ss pos next)) e
 
 -- ---- the width of entries, and the address of the next direct block
 
@@ -165,6 +208,14 @@ rows-from n row = by (decLt row n)
     by (yes l) = let e : n - row ≡ suc (n - (row + 1)) = omega arith in rw (lt-ltb row n l, e, add-one row)
     by (no l) = let e : n - row ≡ 0 = omega arith in rw (le-ltb row n (omega arith), e)
 
+rows-here : (n row left : ℕ) → row < n → rowsLeft n row left ≡ replicate left row ++ slotRows fixed (n - (row + 1)) (row + 1)
+unfolding rowsLeft
+rows-here n row left h = rw (lt-ltb row n h)
+
+-- the rest of a row, and the rows after it
+pub rows-row : (n row left : ℕ) → row < n → rowsLeft n row left ≡ replicate left row ++ rowsLeft n (row + 1) 4
+rows-row n row left h = rows-here n row left h ∙ ap (λ (rs : List ℕ). replicate left row ++ rs) (rows-from n (row + 1))
+
 pub rows-next : (n row left : ℕ) → row < n → 0 < left → rowsLeft n row left ≡ row ∷ rowsLeft n (cond (eqb left 1) (row + 1) row) (cond (eqb left 1) 4 (left - 1))
 unfolding rowsLeft
 rows-next n row zero h l = absurd (omega arith)
@@ -193,6 +244,13 @@ next-slot {n} {row} {left} {row₁} {left₁} h s f = by (eqb left 1) refl
 pub size-small : {row size : ℕ} → row < 29 → size ≡ 2 ^ rowBits fixed row → size ≤ 2 ^ 38
 unfolding rowBits
 size-small {row} {size} h e = let m : 2 ^ (10 + (row - 1)) ≤ 2 ^ 38 = pow-mono {i = 10 + (row - 1)} {j = 38} (omega arith) in omega arith
+
+-- some slots of one of these rows, and the entries of some slots
+pub row-small : {row size left : ℕ} → row < 29 → size ≡ 2 ^ rowBits fixed row → left ≤ 4 → left * size ≤ left * 2 ^ 38
+row-small {row} {size} {left} h e l = mul-le-mul-left left (size-small {row = row} {size = size} h e)
+
+pub entries-small : {left w : ℕ} → left ≤ 4 → w ≤ 8 → left * w ≤ 32
+entries-small {left} {w} l n = let m : left * w ≤ 4 * w = mul-le-mul-right w l in omega arith
 
 -- an indirect slot's row
 pub row-high : {row : ℕ} → leb (rowBits fixed row) 16 ≡ false → 8 ≤ row

@@ -10,6 +10,7 @@ ghost use Rattle.region_walk.specs.Walk.{beginsBefore};
 ghost use Rattle.region_walk.specs.Requires.{blockOf, slotsOf, slotOf, Fits, Wrote, WroteSlots};
 use region_blocks::Site;
 use region_blocks::put_number;
+use region_blocks::put_run;
 use region_blocks::seal_indirect;
 use table::is_direct;
 use table::row_block_size;
@@ -83,7 +84,8 @@ pub fn block_walk(
 }
 
 // The slots of a block of `rows` rows, from one on that begins the last `left` of its row. Their entries stand
-// from `at` on in the block, whose place is known once the blocks of all of them are written.
+// from `at` on in the block, whose place is known once the blocks of all of them are written. The slots of a row
+// behind its last block are passed at once.
 fn slot_walk(
     region: &mut [u8],
     starts: &[u64],
@@ -103,8 +105,26 @@ fn slot_walk(
         return from;
     }
     let width = site.offset_size as usize;
+    let size = row_block_size(row);
+    let row_end = offset + left * size;
+    if !begins_before(starts, from.index, row_end) {
+        let entries = left as usize * width;
+        let end = slot_walk(
+            region,
+            starts,
+            site,
+            rows,
+            row + 1,
+            4,
+            row_end,
+            at + entries,
+            from,
+        );
+        let first = end.place + at;
+        put_run(region, first, first + entries, 0xFF);
+        return end;
+    }
     let child = slot_child(region, starts, site, row, offset, from);
-    let after = offset + row_block_size(row);
     let end = slot_walk(
         region,
         starts,
@@ -112,7 +132,7 @@ fn slot_walk(
         rows,
         next_row(row, left),
         next_left(left),
-        after,
+        offset + size,
         at + width,
         child.cursor,
     );

@@ -37,11 +37,11 @@ put-number-requires c κs =
 put-bytes-requires : tie.Need-put-bytes-requires
 put-bytes-requires c κs = search needs
 
-add-put-zeros : tie.Need-add-put-zeros
-add-put-zeros c = search needs
+add-put-run : tie.Need-add-put-run
+add-put-run c = search needs
 
-put-zeros-requires : tie.Need-put-zeros-requires
-put-zeros-requires c κs = search needs
+put-run-requires : tie.Need-put-run-requires
+put-run-requires c κs = search needs
 
 sub-jenkins-lookup3 : tie.Need-sub-jenkins-lookup3
 sub-jenkins-lookup3 c = search needs
@@ -68,7 +68,7 @@ put-number-requires-2 : tie.Need-put-number-requires-2
 put-number-requires-2 c κs =
     let h = c .before .before .before .before .before .before .before .before .before .before .before .before .before .before .before .before .before .before .before .before .direct-block-header .ensures ∙ header-is (c .before .before .before .before .before .before .before .before .before .before .before .before .before .before .before .before .before .before .before .before .before .before .before .args .site .«offset_size») in
     let p = c .before .before .before .before .before .before .before .before .before .before .before .before .before .before .before .before .before .before .before .before .before .before .before .pre in
-    omega (arith, h, p .0, p .1, c .before .before .before .before .before .before .put-zeros .kept .0, c .before .before .before .before .before .before .before .before .before .before .put-bytes .kept .0, c .before .before .before .before .before .before .before .before .before .before .before .before .before .before .put-number .kept .0, c .before .before .before .before .before .before .before .before .before .before .before .before .before .before .before .before .before .before .put-head .kept .0)
+    omega (arith, h, p .0, p .1, c .before .before .before .before .before .before .put-run .kept .0, c .before .before .before .before .before .before .before .before .before .before .put-bytes .kept .0, c .before .before .before .before .before .before .before .before .before .before .before .before .before .before .put-number .kept .0, c .before .before .before .before .before .before .before .before .before .before .before .before .before .before .before .before .before .before .put-head .kept .0)
 
 same-length : tie.Need-same-length
 same-length c = search needs
@@ -79,7 +79,7 @@ returns c =
     let w = a .site .«offset_size» in
     let p = c .before .before .before .before .before .before .before .before .before .before .before .before .before .before .before .before .before .before .before .before .before .before .before .before .before .before .pre in
     let h : c .before .before .before .before .before .before .before .before .before .before .before .before .before .before .before .before .before .before .before .before .before .before .before .direct-block-header .result ≡ 14 + w = c .before .before .before .before .before .before .before .before .before .before .before .before .before .before .before .before .before .before .before .before .before .before .before .direct-block-header .ensures ∙ header-is w in
-    written (a .region .now) _ _ _ _ _ (a .objects .now) (a .at) w (a .size) (a .site .«heap_header_address») (a .offset) _ _ h (p .0) (rw header-is at (p .1)) (c .before .before .before .before .before .before .before .before .before .before .before .before .before .before .before .before .before .before .before .before .before .put-head .ensures) (c .before .before .before .before .before .before .before .before .before .before .before .before .before .before .before .before .before .put-number .ensures) (c .before .before .before .before .before .before .before .before .before .before .before .before .before .put-bytes .ensures) (c .before .before .before .before .before .before .before .before .before .put-zeros .ensures) (c .before .before .before .before .jenkins-lookup3 .ensures) (c .before .before .put-number2 .ensures)
+    written (a .region .now) _ _ _ _ _ (a .objects .now) (a .at) w (a .size) (a .site .«heap_header_address») (a .offset) _ _ h (p .0) (rw header-is at (p .1)) (c .before .before .before .before .before .before .before .before .before .before .before .before .before .before .before .before .before .before .before .before .before .put-head .ensures) (c .before .before .before .before .before .before .before .before .before .before .before .before .before .before .before .before .before .put-number .ensures) (c .before .before .before .before .before .before .before .before .before .before .before .before .before .put-bytes .ensures) (c .before .before .before .before .before .before .before .before .before .put-run .ensures) (c .before .before .before .before .jenkins-lookup3 .ensures) (c .before .before .put-number2 .ensures)
 
 pub write-direct-block-spec : {M : Type 1} → statement M
 write-direct-block-spec =
@@ -92,8 +92,8 @@ write-direct-block-spec =
     sub-put-number
     put-number-requires
     put-bytes-requires
-    add-put-zeros
-    put-zeros-requires
+    add-put-run
+    put-run-requires
     sub-jenkins-lookup3
     part-jenkins-lookup3-start
     part-jenkins-lookup3-end

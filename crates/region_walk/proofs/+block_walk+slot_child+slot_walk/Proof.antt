@@ -4,8 +4,8 @@ use mathlib.Core.Path.{sym, _∙_}
 use native.Mathlib.Omega.{arith}
 use borrow.Author.Needs.{needs}
 use borrow.Author.Tests.{not-true, not-false}
-use Rattle.region_walk.proofs.Walking.{next-slot, size-small, row-high}
-use Rattle.region_walk.proofs.Steps.{begins-in, wrote-none, direct-fits, wrote-direct, is-block, block-fits, wrote-stop, slot-fits, slots-fit, entry-fits, wrote-slots, all-fit, own-fits, end-fits, wrote-block}
+use Rattle.region_walk.proofs.Walking.{next-slot, size-small, row-small, entries-small, row-high}
+use Rattle.region_walk.proofs.Steps.{begins-in, wrote-none, direct-fits, wrote-direct, is-block, block-fits, wrote-stop, rows-fit, run-fits, wrote-passed, slot-fits, slots-fit, entry-fits, wrote-slots, all-fit, own-fits, end-fits, wrote-block}
 use Prim.Native.Nat.{ℕ, _<_, _+_, _*_, _-_}
 use borrow.Fn.Kinds.{In}
 use borrow.Fn.PlainCycle.{Measures, is, falls, and}
@@ -19,6 +19,7 @@ use Rattle.region_walk.proofs.slot_walk.Reads as slot-walk
 use Rattle.region_walk.proofs.slot_walk.Kinds as slot-walk-kinds
 use Rattle.region_walk.proofs.+block_walk+slot_child+slot_walk.Lts-slot_walk as slot-walk-lts
 use Rattle.region_blocks.proofs.put_number.Reads as put-number-reads
+use Rattle.region_blocks.proofs.put_run.Reads as put-run-reads
 use Rattle.region_blocks.proofs.seal_indirect.Reads as seal-indirect-reads
 use Rattle.region_walk.proofs.begins_before.Reads as begins-before-reads
 use Rattle.region_walk.proofs.next_left.Reads as next-left-reads
@@ -83,16 +84,20 @@ child-cs t = (
 
 abbrev slots-cs : ℕ → slot-walk-lts.Claims
 slots-cs t = (
-  slot-child-below t,
-  slot-child.Post,
   row-block-size-reads.Asked,
   row-block-size-reads.Learnt,
+  begins-before-reads.Asked,
+  begins-before-reads.Learnt,
+  slot-walk-below t,
+  slot-walk.Post,
+  put-run-reads.Asked,
+  put-run-reads.Learnt,
+  slot-child-below t,
+  slot-child.Post,
   next-row-reads.Asked,
   next-row-reads.Learnt,
   next-left-reads.Asked,
   next-left-reads.Learnt,
-  slot-walk-below t,
-  slot-walk.Post,
   put-number-reads.Asked,
   put-number-reads.Learnt,
 )
@@ -193,14 +198,56 @@ slot-walk-returns t c = wrote-stop _ _ _ _ _ _ _ _ _ (c .before .before .before 
 slot-walk-cast-width : (t : ℕ) → slot-walk-lts.Need-cast-width (slots-cs t) (slot-walk-at t) slot-walk.Post
 slot-walk-cast-width t c = omega arith
 
-slot-walk-slot-child-requires : (t : ℕ) → slot-walk-lts.Need-slot-child-requires (slots-cs t) (slot-walk-at t) slot-walk.Post
-slot-walk-slot-child-requires t c κs = (omega arith, ((omega arith, omega arith), slot-fits _ _ _ _ _ _ _ _ _ (c .before .before .if1 .left) (c .before .before .before .before .before .pre .1 .0 .2) (c .before .before .before .before .before .pre .1 .1)))
-
 slot-walk-row-block-size-requires : (t : ℕ) → slot-walk-lts.Need-row-block-size-requires (slots-cs t) (slot-walk-at t) slot-walk.Post
 slot-walk-row-block-size-requires t c κs = omega arith
 
-slot-walk-add-after : (t : ℕ) → slot-walk-lts.Need-add-after (slots-cs t) (slot-walk-at t) slot-walk.Post
-slot-walk-add-after t c = let low : c .before .before .before .before .before .before .before .before .before .args .row < 29 = omega arith in omega (arith, size-small low (c .row-block-size .ensures))
+slot-walk-mul-row-end : (t : ℕ) → slot-walk-lts.Need-mul-row-end (slots-cs t) (slot-walk-at t) slot-walk.Post
+slot-walk-mul-row-end t c =
+    let low : c .before .before .before .before .before .args .row < 29 = omega arith in
+    let z = row-small low (c .row-block-size .ensures) (c .before .before .before .before .before .pre .1 .0 .3) in
+    omega arith
+
+slot-walk-add-row-end : (t : ℕ) → slot-walk-lts.Need-add-row-end (slots-cs t) (slot-walk-at t) slot-walk.Post
+slot-walk-add-row-end t c =
+    let low : c .before .before .before .before .before .args .row < 29 = omega arith in
+    let z = row-small low (c .row-block-size .ensures) (c .before .before .before .before .before .pre .1 .0 .3) in
+    omega arith
+
+slot-walk-begins-before-requires : (t : ℕ) → slot-walk-lts.Need-begins-before-requires (slots-cs t) (slot-walk-at t) slot-walk.Post
+slot-walk-begins-before-requires t c κs = search needs
+
+slot-walk-mul-entries : (t : ℕ) → slot-walk-lts.Need-mul-entries (slots-cs t) (slot-walk-at t) slot-walk.Post
+slot-walk-mul-entries t c = let e = entries-small (c .before .before .before .before .before .before .before .pre .1 .0 .3) (c .before .before .before .before .before .before .before .pre .1 .1 .narrow) in omega arith
+
+slot-walk-add-slot-walk : (t : ℕ) → slot-walk-lts.Need-add-slot-walk (slots-cs t) (slot-walk-at t) slot-walk.Post
+slot-walk-add-slot-walk t c = omega arith
+
+slot-walk-add-slot-walk-2 : (t : ℕ) → slot-walk-lts.Need-add-slot-walk-2 (slots-cs t) (slot-walk-at t) slot-walk.Post
+slot-walk-add-slot-walk-2 t c = omega (arith, rows-fit _ _ _ _ _ _ _ _ _ (c .before .before .before .before .before .if1 .left) (c .before .before .before .row-block-size .ensures) (sym (c .before .before .begins-before .ensures) ∙ not-true _ (c .before .if2 .taken)) (c .before .before .before .before .before .before .before .before .pre .1 .1) .room)
+
+slot-walk-slot-walk-requires : (t : ℕ) → slot-walk-lts.Need-slot-walk-requires (slots-cs t) (slot-walk-at t) slot-walk.Post
+slot-walk-slot-walk-requires t c κs =
+    let low : c .before .before .before .before .before .before .before .before .args .row < 29 = omega arith in
+    let z = row-small low (c .before .before .before .row-block-size .ensures) (c .before .before .before .before .before .before .before .before .pre .1 .0 .3) in
+    (omega arith, ((omega arith, omega arith, omega arith, omega arith, omega arith), rows-fit _ _ _ _ _ _ _ _ _ (c .before .before .before .before .before .if1 .left) (c .before .before .before .row-block-size .ensures) (sym (c .before .before .begins-before .ensures) ∙ not-true _ (c .before .if2 .taken)) (c .before .before .before .before .before .before .before .before .pre .1 .1)))
+
+slot-walk-add-first : (t : ℕ) → slot-walk-lts.Need-add-first (slots-cs t) (slot-walk-at t) slot-walk.Post
+slot-walk-add-first t c = omega (arith, run-fits _ _ _ _ _ _ _ _ _ (c .before .before .before .before .before .before .before .before .before .if1 .left) (c .before .before .before .before .before .before .before .row-block-size .ensures) (sym (c .before .before .before .before .before .before .begins-before .ensures) ∙ not-true _ (c .before .before .before .before .before .if2 .taken)) (c .before .before .before .before .before .before .before .before .before .before .before .before .pre .1 .1) (c .before .before .before .slot-walk .ensures), c .before .before .before .slot-walk .kept .0)
+
+slot-walk-add-put-run : (t : ℕ) → slot-walk-lts.Need-add-put-run (slots-cs t) (slot-walk-at t) slot-walk.Post
+slot-walk-add-put-run t c = omega (arith, run-fits _ _ _ _ _ _ _ _ _ (c .before .before .before .before .before .before .before .before .before .before .if1 .left) (c .before .before .before .before .before .before .before .before .row-block-size .ensures) (sym (c .before .before .before .before .before .before .before .begins-before .ensures) ∙ not-true _ (c .before .before .before .before .before .before .if2 .taken)) (c .before .before .before .before .before .before .before .before .before .before .before .before .before .pre .1 .1) (c .before .before .before .before .slot-walk .ensures), c .before .before .before .before .slot-walk .kept .0)
+
+slot-walk-put-run-requires : (t : ℕ) → slot-walk-lts.Need-put-run-requires (slots-cs t) (slot-walk-at t) slot-walk.Post
+slot-walk-put-run-requires t c κs = (omega arith, run-fits _ _ _ _ _ _ _ _ _ (c .before .before .before .before .before .before .before .before .before .before .if1 .left) (c .before .before .before .before .before .before .before .before .row-block-size .ensures) (sym (c .before .before .before .before .before .before .before .begins-before .ensures) ∙ not-true _ (c .before .before .before .before .before .before .if2 .taken)) (c .before .before .before .before .before .before .before .before .before .before .before .before .before .pre .1 .1) (c .before .before .before .before .slot-walk .ensures))
+
+slot-walk-same-length : (t : ℕ) → slot-walk-lts.Need-same-length (slots-cs t) (slot-walk-at t) slot-walk.Post
+slot-walk-same-length t c = c .before .before .put-run .kept .0 ∙ c .before .before .before .before .before .before .before .slot-walk .kept .0
+
+slot-walk-returns-2 : (t : ℕ) → slot-walk-lts.Need-returns-2 (slots-cs t) (slot-walk-at t) slot-walk.Post
+slot-walk-returns-2 t c = wrote-passed _ _ _ _ _ _ _ _ _ (c .before .before .before .before .before .before .before .before .before .before .before .before .before .if1 .left) (c .before .before .before .before .before .before .before .before .before .before .before .row-block-size .ensures) (sym (c .before .before .before .before .before .before .before .before .before .before .begins-before .ensures) ∙ not-true _ (c .before .before .before .before .before .before .before .before .before .if2 .taken)) (c .before .before .before .before .before .before .before .before .before .before .before .before .before .before .before .before .pre .1 .1) (c .before .before .before .before .before .before .before .slot-walk .ensures) (c .before .before .put-run .ensures)
+
+slot-walk-slot-child-requires : (t : ℕ) → slot-walk-lts.Need-slot-child-requires (slots-cs t) (slot-walk-at t) slot-walk.Post
+slot-walk-slot-child-requires t c κs = (omega arith, ((omega arith, omega arith), slot-fits _ _ _ _ _ _ _ _ _ (c .before .before .before .before .before .if1 .left) (c .before .before .before .before .before .before .before .before .pre .1 .0 .2) (c .before .before .before .before .before .before .before .before .pre .1 .1)))
 
 slot-walk-next-row-requires : (t : ℕ) → slot-walk-lts.Need-next-row-requires (slots-cs t) (slot-walk-at t) slot-walk.Post
 slot-walk-next-row-requires t c κs = omega arith
@@ -208,27 +255,32 @@ slot-walk-next-row-requires t c κs = omega arith
 slot-walk-next-left-requires : (t : ℕ) → slot-walk-lts.Need-next-left-requires (slots-cs t) (slot-walk-at t) slot-walk.Post
 slot-walk-next-left-requires t c κs = omega arith
 
-slot-walk-add-slot-walk : (t : ℕ) → slot-walk-lts.Need-add-slot-walk (slots-cs t) (slot-walk-at t) slot-walk.Post
-slot-walk-add-slot-walk t c = omega (arith, slots-fit _ _ _ _ _ _ _ _ _ (c .before .before .before .before .before .before .before .before .before .if1 .left) (c .before .before .before .before .before .before .before .before .before .before .before .before .pre .1 .0 .2) (c .before .before .before .before .before .before .before .before .before .before .before .before .pre .1 .1) (c .before .next-row .ensures) (c .next-left .ensures) (c .before .before .before .row-block-size .ensures) (c .before .before .before .before .before .before .slot-child .ensures) .room, c .before .before .before .before .before .before .slot-child .kept .0)
+slot-walk-add-slot-walk-3 : (t : ℕ) → slot-walk-lts.Need-add-slot-walk-3 (slots-cs t) (slot-walk-at t) slot-walk.Post
+slot-walk-add-slot-walk-3 t c =
+    let low : c .before .before .before .before .before .before .before .before .before .before .before .before .before .before .args .row < 29 = omega arith in
+    omega (arith, size-small low (c .before .before .before .before .before .before .before .before .before .row-block-size .ensures))
 
-slot-walk-slot-walk-requires : (t : ℕ) → slot-walk-lts.Need-slot-walk-requires (slots-cs t) (slot-walk-at t) slot-walk.Post
-slot-walk-slot-walk-requires t c κs =
-    let low : c .before .before .before .before .before .before .before .before .before .before .before .before .args .row < 29 = omega arith in
-    let z = size-small low (c .before .before .before .row-block-size .ensures) in
-    let k = next-slot (c .before .before .before .before .before .before .before .before .before .if1 .left) (c .before .before .before .before .before .before .before .before .before .before .before .before .pre .1 .0 .2) (c .before .before .before .before .before .before .before .before .before .before .before .before .pre .1 .0 .3) (c .before .next-row .ensures) (c .next-left .ensures) in
-    (omega (arith, k .fewer), ((omega arith, k .within, k .some, k .few, omega (arith, k .fewer, z)), slots-fit _ _ _ _ _ _ _ _ _ (c .before .before .before .before .before .before .before .before .before .if1 .left) (c .before .before .before .before .before .before .before .before .before .before .before .before .pre .1 .0 .2) (c .before .before .before .before .before .before .before .before .before .before .before .before .pre .1 .1) (c .before .next-row .ensures) (c .next-left .ensures) (c .before .before .before .row-block-size .ensures) (c .before .before .before .before .before .before .slot-child .ensures)))
+slot-walk-add-slot-walk-4 : (t : ℕ) → slot-walk-lts.Need-add-slot-walk-4 (slots-cs t) (slot-walk-at t) slot-walk.Post
+slot-walk-add-slot-walk-4 t c = omega (arith, slots-fit _ _ _ _ _ _ _ _ _ (c .before .before .before .before .before .before .before .before .before .before .before .if1 .left) (c .before .before .before .before .before .before .before .before .before .before .before .before .before .before .pre .1 .0 .2) (c .before .before .before .before .before .before .before .before .before .before .before .before .before .before .pre .1 .1) (c .before .next-row .ensures) (c .next-left .ensures) (c .before .before .before .before .before .before .before .before .before .row-block-size .ensures) (c .before .before .before .before .before .slot-child .ensures) .room, c .before .before .before .before .before .slot-child .kept .0)
+
+slot-walk-slot-walk-requires-2 : (t : ℕ) → slot-walk-lts.Need-slot-walk-requires-2 (slots-cs t) (slot-walk-at t) slot-walk.Post
+slot-walk-slot-walk-requires-2 t c κs =
+    let low : c .before .before .before .before .before .before .before .before .before .before .before .before .before .before .args .row < 29 = omega arith in
+    let z = size-small low (c .before .before .before .before .before .before .before .before .before .row-block-size .ensures) in
+    let k = next-slot (c .before .before .before .before .before .before .before .before .before .before .before .if1 .left) (c .before .before .before .before .before .before .before .before .before .before .before .before .before .before .pre .1 .0 .2) (c .before .before .before .before .before .before .before .before .before .before .before .before .before .before .pre .1 .0 .3) (c .before .next-row .ensures) (c .next-left .ensures) in
+    (omega (arith, k .fewer), ((omega arith, k .within, k .some, k .few, omega (arith, k .fewer, z)), slots-fit _ _ _ _ _ _ _ _ _ (c .before .before .before .before .before .before .before .before .before .before .before .if1 .left) (c .before .before .before .before .before .before .before .before .before .before .before .before .before .before .pre .1 .0 .2) (c .before .before .before .before .before .before .before .before .before .before .before .before .before .before .pre .1 .1) (c .before .next-row .ensures) (c .next-left .ensures) (c .before .before .before .before .before .before .before .before .before .row-block-size .ensures) (c .before .before .before .before .before .slot-child .ensures)))
 
 slot-walk-add-put-number : (t : ℕ) → slot-walk-lts.Need-add-put-number (slots-cs t) (slot-walk-at t) slot-walk.Post
-slot-walk-add-put-number t c = omega (arith, entry-fits _ _ _ _ _ _ _ _ _ (c .before .before .before .before .before .before .before .before .before .before .before .before .before .before .if1 .left) (c .before .before .before .before .before .before .before .before .before .before .before .before .before .before .before .before .before .pre .1 .0 .2) (c .before .before .before .before .before .before .before .before .before .before .before .before .before .before .before .before .before .pre .1 .1) (c .before .before .before .before .before .before .next-row .ensures) (c .before .before .before .before .before .next-left .ensures) (c .before .before .before .before .before .before .before .before .row-block-size .ensures) (c .before .before .before .before .before .before .before .before .before .before .before .slot-child .ensures) (c .before .before .before .before .slot-walk .ensures), c .before .before .before .before .slot-walk .kept .0, c .before .before .before .before .before .before .before .before .before .before .before .slot-child .kept .0)
+slot-walk-add-put-number t c = omega (arith, entry-fits _ _ _ _ _ _ _ _ _ (c .before .before .before .before .before .before .before .before .before .before .before .before .before .before .before .before .if1 .left) (c .before .before .before .before .before .before .before .before .before .before .before .before .before .before .before .before .before .before .before .pre .1 .0 .2) (c .before .before .before .before .before .before .before .before .before .before .before .before .before .before .before .before .before .before .before .pre .1 .1) (c .before .before .before .before .before .before .next-row .ensures) (c .before .before .before .before .before .next-left .ensures) (c .before .before .before .before .before .before .before .before .before .before .before .before .before .before .row-block-size .ensures) (c .before .before .before .before .before .before .before .before .before .before .slot-child .ensures) (c .before .before .before .before .slot-walk2 .ensures), c .before .before .before .before .slot-walk2 .kept .0, c .before .before .before .before .before .before .before .before .before .before .slot-child .kept .0, c .before .before .before .before .before .before .before .before .before .before .before .before .before .before .before .before .before .before .before .pre .1 .1 .addresses)
 
 slot-walk-put-number-requires : (t : ℕ) → slot-walk-lts.Need-put-number-requires (slots-cs t) (slot-walk-at t) slot-walk.Post
-slot-walk-put-number-requires t c κs = entry-fits _ _ _ _ _ _ _ _ _ (c .before .before .before .before .before .before .before .before .before .before .before .before .before .before .if1 .left) (c .before .before .before .before .before .before .before .before .before .before .before .before .before .before .before .before .before .pre .1 .0 .2) (c .before .before .before .before .before .before .before .before .before .before .before .before .before .before .before .before .before .pre .1 .1) (c .before .before .before .before .before .before .next-row .ensures) (c .before .before .before .before .before .next-left .ensures) (c .before .before .before .before .before .before .before .before .row-block-size .ensures) (c .before .before .before .before .before .before .before .before .before .before .before .slot-child .ensures) (c .before .before .before .before .slot-walk .ensures)
+slot-walk-put-number-requires t c κs = entry-fits _ _ _ _ _ _ _ _ _ (c .before .before .before .before .before .before .before .before .before .before .before .before .before .before .before .before .if1 .left) (c .before .before .before .before .before .before .before .before .before .before .before .before .before .before .before .before .before .before .before .pre .1 .0 .2) (c .before .before .before .before .before .before .before .before .before .before .before .before .before .before .before .before .before .before .before .pre .1 .1) (c .before .before .before .before .before .before .next-row .ensures) (c .before .before .before .before .before .next-left .ensures) (c .before .before .before .before .before .before .before .before .before .before .before .before .before .before .row-block-size .ensures) (c .before .before .before .before .before .before .before .before .before .before .slot-child .ensures) (c .before .before .before .before .slot-walk2 .ensures)
 
-slot-walk-same-length : (t : ℕ) → slot-walk-lts.Need-same-length (slots-cs t) (slot-walk-at t) slot-walk.Post
-slot-walk-same-length t c = c .before .before .put-number .kept .0 ∙ c .before .before .before .before .before .before .before .slot-walk .kept .0 ∙ c .before .before .before .before .before .before .before .before .before .before .before .before .before .before .slot-child .kept .0
+slot-walk-same-length-2 : (t : ℕ) → slot-walk-lts.Need-same-length-2 (slots-cs t) (slot-walk-at t) slot-walk.Post
+slot-walk-same-length-2 t c = c .before .before .put-number .kept .0 ∙ c .before .before .before .before .before .before .before .slot-walk2 .kept .0 ∙ c .before .before .before .before .before .before .before .before .before .before .before .before .before .slot-child .kept .0
 
-slot-walk-returns-2 : (t : ℕ) → slot-walk-lts.Need-returns-2 (slots-cs t) (slot-walk-at t) slot-walk.Post
-slot-walk-returns-2 t c = wrote-slots _ _ _ _ _ _ _ _ _ (c .before .before .before .before .before .before .before .before .before .before .before .before .before .before .before .before .before .if1 .left) (c .before .before .before .before .before .before .before .before .before .before .before .before .before .before .before .before .before .before .before .before .pre .1 .0 .2) (c .before .before .before .before .before .before .before .before .before .before .before .before .before .before .before .before .before .before .before .before .pre .1 .1) (c .before .before .before .before .before .before .before .before .before .next-row .ensures) (c .before .before .before .before .before .before .before .before .next-left .ensures) (c .before .before .before .before .before .before .before .before .before .before .before .row-block-size .ensures) (c .before .before .before .before .before .before .before .before .before .before .before .before .before .before .slot-child .ensures) (c .before .before .before .before .before .before .before .slot-walk .ensures) (c .before .before .put-number .ensures)
+slot-walk-returns-3 : (t : ℕ) → slot-walk-lts.Need-returns-3 (slots-cs t) (slot-walk-at t) slot-walk.Post
+slot-walk-returns-3 t c = wrote-slots _ _ _ _ _ _ _ _ _ (c .before .before .before .before .before .before .before .before .before .before .before .before .before .before .before .before .before .before .before .if1 .left) (c .before .before .before .before .before .before .before .before .before .before .before .before .before .before .before .before .before .before .before .before .before .before .pre .1 .0 .2) (c .before .before .before .before .before .before .before .before .before .before .before .before .before .before .before .before .before .before .before .before .before .before .pre .1 .1) (c .before .before .before .before .before .before .before .before .before .next-row .ensures) (c .before .before .before .before .before .before .before .before .next-left .ensures) (c .before .before .before .before .before .before .before .before .before .before .before .before .before .before .before .before .before .row-block-size .ensures) (c .before .before .before .before .before .before .before .before .before .before .before .before .before .slot-child .ensures) (c .before .before .before .before .before .before .before .slot-walk2 .ensures) (c .before .before .put-number .ensures)
 
 pub +block-walk+slot-child+slot-walk-spec : {M : Type 1} → statement M
 +block-walk+slot-child+slot-walk-spec =
@@ -267,14 +319,26 @@ pub +block-walk+slot-child+slot-walk-spec : {M : Type 1} → statement M
     slot-walk.Post
     (slot-walk-returns t)
     (slot-walk-cast-width t)
-    (slot-walk-slot-child-requires t)
     (slot-walk-row-block-size-requires t)
-    (slot-walk-add-after t)
-    (slot-walk-next-row-requires t)
-    (slot-walk-next-left-requires t)
+    (slot-walk-mul-row-end t)
+    (slot-walk-add-row-end t)
+    (slot-walk-begins-before-requires t)
+    (slot-walk-mul-entries t)
     (slot-walk-add-slot-walk t)
+    (slot-walk-add-slot-walk-2 t)
     (slot-walk-slot-walk-requires t)
-    (slot-walk-add-put-number t)
-    (slot-walk-put-number-requires t)
+    (slot-walk-add-first t)
+    (slot-walk-add-put-run t)
+    (slot-walk-put-run-requires t)
     (slot-walk-same-length t)
     (slot-walk-returns-2 t)
+    (slot-walk-slot-child-requires t)
+    (slot-walk-next-row-requires t)
+    (slot-walk-next-left-requires t)
+    (slot-walk-add-slot-walk-3 t)
+    (slot-walk-add-slot-walk-4 t)
+    (slot-walk-slot-walk-requires-2 t)
+    (slot-walk-add-put-number t)
+    (slot-walk-put-number-requires t)
+    (slot-walk-same-length-2 t)
+    (slot-walk-returns-3 t)
