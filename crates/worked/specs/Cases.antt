@@ -1,9 +1,9 @@
--- The worked cases: sizes and what is planned for them, at addresses of w bytes in lists of just enough
--- places; IDs and what they say; the rows of the fixed table, as planning and as the reader has them.
+-- The worked cases: sizes and what is planned and written for them, at addresses of w bytes in lists of just
+-- enough places; IDs and what they say; the rows of the fixed table, as planning and as the reader has them.
 use Prim.Native.Nat.{ℕ, _-_, _^_, _≤_, _<_, max}
 use mathlib.Core.Path.{_≡_}
 use mathlib.Core.List.{List, [], _∷_}
-use lib.ListN.{length}
+use lib.ListN.{length, take, drop}
 use Rattle.refusals.specs.declared.FormatError.{FormatError}
 use Rattle.refusals.specs.declared.FormatError.the-variants.{UnexpectedEof, ObjectTooLarge}
 use Rattle.table.specs.Table.{fixed, rowBits, rowOffset}
@@ -11,6 +11,7 @@ use Rattle.plan.specs.declared.ManagedPlan.{ManagedPlan}
 use Rattle.plan.specs.declared.Planned.the-variants.{Accepted, Refused}
 use Rattle.plan_steps.specs.Steps.{planOffsets, planStarts}
 use Rattle.plan.specs.Answer.{answer}
+use Rattle.fractal_heap_write.specs.Region.{region, rootBytes}
 use Rattle.heap_rows.specs.declared.DoublingTable.{DoublingTable}
 use Rattle.heap_rows.specs.Rows.{blockSize, directRows, sizeToRows, slotSize}
 use Rattle.heap_blocks.specs.declared.Found.{Found}
@@ -23,7 +24,7 @@ abbrev pub fixedTable : DoublingTable
 fixedTable =
     record { «table_width» = 4; «starting_block_size» = 1024; «max_direct_block_size» = 65536; «max_heap_size» = 40 }
 
--- sizes with their offsets, block starts and plan; sizes that are refused; a direct row; the rows of an indirect
+-- sizes with their offsets, block starts, plan and region; sizes that are refused; a direct row; the rows of an indirect
 -- row's slots; a managed ID at some heap bits, with offset and length; a tiny ID of a heap with IDs of that
 -- length, and where its object is
 pub data Case : Type 0 where
@@ -34,9 +35,16 @@ pub data Case : Type 0 where
   decodes : ℕ → List ℕ → ℕ → ℕ → Case
   tiny : ℕ → List ℕ → Found → Case
 
+-- the region of a plan, whatever the addresses and the bytes of the objects: its size, and the root at its place
+pub record Region (w : ℕ) (xs : List ℕ) (p : ManagedPlan) : Type 0 where
+  pub size : (header address : ℕ) (js : List ℕ) → length (region w header address (p .«root_rows») xs js) ≡ p .«region_size»
+  pub root : (header address : ℕ) (js : List ℕ)
+      → take (length (rootBytes w header address (p .«root_rows») xs js)) (drop (p .«root_place») (region w header address (p .«root_rows») xs js))
+      ≡ rootBytes w header address (p .«root_rows») xs js
+
 abbrev pub Holds : Case → Type 0
 Holds (plans w xs os bs p) =
-    (answer xs (length xs) (max 1 (length xs)) w ≡ Accepted p) × (planOffsets fixed w xs ≡ os) × (planStarts fixed w xs ≡ bs)
+    (answer xs (length xs) (max 1 (length xs)) w ≡ Accepted p) × (planOffsets fixed w xs ≡ os) × (planStarts fixed w xs ≡ bs) × Region w xs p
 Holds (refuses w xs e) = answer xs (length xs) (max 1 (length xs)) w ≡ Refused e
 Holds (direct r) =
     (rowBits fixed r ≤ fixed .directBits) × (r < directRows fixedTable) × (slotSize fixedTable r ≡ 2 ^ rowBits fixed r)
