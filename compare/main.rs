@@ -10,6 +10,7 @@ mod plan;
 mod random;
 mod reads;
 mod record;
+mod regions;
 mod write;
 
 use std::io::Write;
@@ -28,6 +29,7 @@ fn main() {
         }
         ["record", "vectors"] => print!("{}", record::vectors()),
         ["record", "heaps"] => print!("{}", record::heaps()),
+        ["record", "regions"] => print!("{}", record::regions()),
         ["record", "reads"] => print!("{}", record::reads_summary()),
         ["record", "reads", "stdin"] => {
             let list = record::reads();
@@ -42,6 +44,8 @@ fn main() {
             bench::write();
         }
         ["bench", "write"] => bench::write(),
-        _ => panic!("compare, record vectors, record heaps, record reads [stdin], bench [write]"),
+        _ => panic!(
+            "compare, record vectors, record heaps, record regions, record reads [stdin], bench [write]"
+        ),
     }
 }

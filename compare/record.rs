@@ -1,10 +1,11 @@
 //! What the programs `vectors` and `heaps` must print, from the original alone (stores: by the facts of
 //! docs/DECISIONS.md; the refusals of planning that the original does not have: by the scope's table). What
-//! the program `reads` replays and prints is in reads.rs.
+//! the program `reads` replays and prints is in reads.rs, what `regions` prints in regions.rs.
 use crate::fields::stored;
 use crate::plan::{by_table, header, limit};
 pub use crate::reads::{reads, reads_summary};
-use original::{Answer, is_undefined_addr, jenkins_lookup3, plan, read_length, read_offset};
+pub use crate::regions::regions;
+use original::{Answer, Plan, is_undefined_addr, jenkins_lookup3, plan, read_length, read_offset};
 use std::fmt::Write;
 
 pub const LONG: [usize; 6] = [255, 1000, 4096, 10_007, 65_535, 65_536];
@@ -22,13 +23,13 @@ pub const ADDRS: [u64; 7] = [
 pub const STORED: u64 = 0x0123_4567_89AB_CDEF;
 
 /// A linear congruence, from 1 on.
-fn numbers() -> impl Iterator<Item = u64> {
+pub fn numbers() -> impl Iterator<Item = u64> {
     let next = |&x: &u64| Some((x * 1_103_515_245 + 12_345) % (1 << 32));
     std::iter::successors(Some(1), next).skip(1)
 }
 
 /// The bytes that are summed and read: bits 16 to 23 of each number.
-fn sequence(n: usize) -> Vec<u8> {
+pub fn sequence(n: usize) -> Vec<u8> {
     let bytes = numbers().map(|x| (x / 65_536 % 256) as u8);
     bytes.take(n).collect()
 }
@@ -37,7 +38,7 @@ fn answer((number, first, second): Answer) -> String {
     format!("{number} {first:x} {second:x}")
 }
 
-fn hex(bytes: &[u8]) -> String {
+pub fn hex(bytes: &[u8]) -> String {
     bytes
         .iter()
         .fold(String::new(), |s, b| s + &format!("{b:02x}"))
@@ -112,73 +113,87 @@ fn list(name: &str, numbers: &[u64], n: usize) -> String {
     format!("{name}{} sum {all}", front.collect::<String>())
 }
 
-/// A line of the program `heaps`: planning in lists of so many places.
-fn case_in(name: &str, sizes: &[u64], places: (usize, usize), w: u8) -> String {
+/// The front of a line: the name, the width, the sizes.
+pub fn given(name: &str, sizes: &[u64], w: u8) -> String {
+    format!("{name}: width {w}{}", list(", sizes", sizes, sizes.len()))
+}
+
+/// The answer, and what lists of so many places hold then.
+pub fn answered(answer: &Result<Plan, Answer>, places: (usize, usize)) -> String {
     let (mut offsets, mut blocks) = (vec![MARK; places.0], vec![MARK; places.1]);
-    let (n, count, answer) = match by_table(sizes, places.0, places.1, w) {
-        Some((number, x, y)) => (0, 0, format!("refused {number} {x} {y}")),
-        None => {
-            let p = plan(sizes, w).expect("the heap space is far");
-            offsets[..sizes.len()].copy_from_slice(&p.offsets);
-            blocks[..p.starts.len()].copy_from_slice(&p.starts);
+    let (n, count, answer) = match answer {
+        Err((number, x, y)) => (0, 0, format!("refused {number} {x} {y}")),
+        Ok(p) => {
+            let (n, count) = (p.offsets.len(), p.starts.len());
+            offsets[..n].copy_from_slice(&p.offsets);
+            blocks[..count].copy_from_slice(&p.starts);
             let totals = p.totals.map(|x| format!(" {x}")).concat();
-            (sizes.len(), p.starts.len(), format!("accepted{totals}"))
+            (n, count, format!("accepted{totals}"))
         }
     };
     format!(
-        "{name}: width {w}{}; {answer}{}{}\n",
-        list(", sizes", sizes, sizes.len()),
+        "; {answer}{}{}",
         list("; offsets", &offsets, n),
         list("; blocks", &blocks, count)
     )
+}
+
+/// A line of the program `heaps`: planning in lists of so many places.
+fn case_in(name: &str, sizes: &[u64], places: (usize, usize), w: u8) -> String {
+    let answer = match by_table(sizes, places.0, places.1, w) {
+        Some(refusal) => Err(refusal),
+        None => Ok(plan(sizes, w).expect("the heap space is far")),
+    };
+    given(name, sizes, w) + &answered(&answer, places) + "\n"
 }
 
 fn case(name: &str, sizes: &[u64], w: u8) -> String {
     case_in(name, sizes, (260, 260), w)
 }
 
-/// The scope's worked heaps 1 to 7 and its wrong turn.
-fn worked() -> String {
-    [
-        case("heap 1", &[], 8),
-        case("heap 2", &[1002], 8),
-        case("heap 3", &[1003], 8),
-        case("heap 4", &[1002, 1], 8),
-        case("heap 5", &[1002, 0], 8),
-        case("heap 6", &[65_514], 8),
-        case("heap 6, one more", &[65_515], 8),
-        case("heap 7", &[65_514; 5], 8),
-        case("passed slot", &[1003, 1], 8),
+/// Sizes with a name.
+type Named = (&'static str, Vec<u64>);
+
+/// The scope's worked heaps 1 to 7 and its wrong turn, for width 8.
+pub fn worked() -> Vec<Named> {
+    vec![
+        ("heap 1", vec![]),
+        ("heap 2", vec![1002]),
+        ("heap 3", vec![1003]),
+        ("heap 4", vec![1002, 1]),
+        ("heap 5", vec![1002, 0]),
+        ("heap 6", vec![65_514]),
+        ("heap 6, one more", vec![65_515]),
+        ("heap 7", vec![65_514; 5]),
+        ("passed slot", vec![1003, 1]),
     ]
-    .concat()
 }
 
-/// The same kinds at another width.
-fn shifted(w: u8) -> String {
+/// The same kinds for another width.
+pub fn shifted(w: u8) -> Vec<Named> {
     let (body, most) = (1024 - header(w), limit(w));
-    [
-        case("nothing", &[], w),
-        case("full block", &[body], w),
-        case("larger", &[body + 1], w),
-        case("full and 1", &[body, 1], w),
-        case("full and 0", &[body, 0], w),
-        case("passed slot", &[body + 1, 1], w),
-        case("largest", &[most], w),
-        case("too large", &[most + 1], w),
-        case("first too large", &[most + 1, most + 2], w),
-        case("second too large", &[0, most + 2], w),
-        case("five largest", &[most; 5], w),
+    vec![
+        ("nothing", vec![]),
+        ("full block", vec![body]),
+        ("larger", vec![body + 1]),
+        ("full and 1", vec![body, 1]),
+        ("full and 0", vec![body, 0]),
+        ("passed slot", vec![body + 1, 1]),
+        ("largest", vec![most]),
+        ("too large", vec![most + 1]),
+        ("first too large", vec![most + 1, most + 2]),
+        ("second too large", vec![0, most + 2]),
+        ("five largest", vec![most; 5]),
     ]
-    .concat()
 }
+
+/// Widths that are none.
+pub const NO_WIDTH: [(&[u64], u8); 4] = [(&[1, 2], 0), (&[1, 2], 1), (&[1, 65_536], 3), (&[], 255)];
 
 fn refusals() -> String {
     let sizes = [10, 65_536, 30];
     [
-        case("width", &[1, 2], 0),
-        case("width", &[1, 2], 1),
-        case("width", &[1, 65_536], 3),
-        case("width", &[], 255),
+        NO_WIDTH.map(|(sizes, w)| case("width", sizes, w)).concat(),
         case_in("short offsets", &sizes, (2, 3), 8),
         case_in("no places", &sizes, (0, 3), 2),
         case_in("short blocks", &sizes, (3, 1), 8),
@@ -212,9 +227,16 @@ fn long(w: u8) -> String {
     out + &case("250 largest", &[limit(w); 250], w)
 }
 
+/// A line for each of these lists.
+pub fn lines(lists: Vec<Named>, w: u8, line: fn(&str, &[u64], u8) -> String) -> String {
+    let lines = lists.iter().map(|(name, sizes)| line(name, sizes, w));
+    lines.collect()
+}
+
 pub fn heaps() -> String {
     let first = "The original Rust's answers (refusals 2, 11 and 13: by the scope's table), from compare/run --record\n";
-    let shifted = [2, 4].map(shifted).concat();
+    let worked = lines(worked(), 8, case);
+    let shifted = [2, 4].map(|w| lines(shifted(w), w, case)).concat();
     let long = [2, 4, 8].map(long).concat();
-    [first, &worked(), &shifted, &refusals(), &long].concat()
+    [first, &worked, &shifted, &refusals(), &long].concat()
 }
