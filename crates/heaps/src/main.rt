@@ -2,82 +2,17 @@
 // and prints a line for each: its width and sizes, then the eight totals or the refusal, then what the
 // two lists hold. The file stdout beside src/ holds what the original answers.
 ghost use Prim.Native.Nat.{_<_, _≤_};
-use libc::STDOUT_FILENO;
 use plan::ManagedPlan;
 use plan::Planned;
-use refusals::Answer;
-use refusals::refused;
+use plan_numbers::put_planned;
+use report::answer;
+use report::list;
+use report::lists;
+use report::number;
+use report::text;
 
 // What a lent place holds before a call.
 const MARK: u64 = 42_405;
-
-fn text(bytes: &[u8]) {
-    io::write_all(STDOUT_FILENO, bytes);
-}
-
-fn number(n: u64) {
-    text(b" ");
-    io::print_decimal(STDOUT_FILENO, n);
-}
-
-// The numbers of a list in their order, as one: s' = (31 s + number) mod 1,000,000,007.
-fn sum(numbers: &[u64]) -> u64 {
-    let mut s: u64 = 0;
-    let mut i: usize = 0;
-    while i < numbers.len() {
-        s = (s * 31 + numbers[i] % 1_000_000_007) % 1_000_000_007;
-        i = i + 1;
-    }
-    s
-}
-
-// The first `n` numbers.
-fn front(numbers: &[u64], n: usize) {
-    let mut i: usize = 0;
-    while i < numbers.len() {
-        if i < n {
-            number(numbers[i]);
-        }
-        i = i + 1;
-    }
-}
-
-fn least(x: usize, y: usize) -> usize {
-    if x < y { x } else { y }
-}
-
-// The first `n` numbers of a list, at most six, and the sum of its places, also of those past the `n`.
-fn list(name: &[u8], numbers: &[u64], n: usize) {
-    text(name);
-    front(numbers, least(n, 6));
-    text(b" sum");
-    number(sum(numbers));
-}
-
-fn totals(p: ManagedPlan) {
-    text(b"; accepted");
-    number(p.block_count);
-    number(p.region_size);
-    number(p.root_rows);
-    number(p.root_place);
-    number(p.managed_space);
-    number(p.allocated_space);
-    number(p.free_space);
-    number(p.allocation_iterator);
-}
-
-fn refusal(a: Answer) {
-    text(b"; refused");
-    number(a.number as u64);
-    number(a.first);
-    number(a.second);
-}
-
-fn lists(offsets: &[u64], n: usize, blocks: &[u64], count: usize) {
-    list(b"; offsets", offsets, n);
-    list(b"; blocks", blocks, count);
-    text(b"\n");
-}
 
 // Plans in these lists.
 fn case_in(name: &[u8], sizes: &[u64], offsets: &mut [u64], blocks: &mut [u64], width: u8) {
@@ -86,16 +21,13 @@ fn case_in(name: &[u8], sizes: &[u64], offsets: &mut [u64], blocks: &mut [u64], 
     number(width as u64);
     list(b", sizes", sizes, sizes.len());
     let planned = ManagedPlan::new(sizes, offsets, blocks, width);
+    let mut numbers = [0u64; 8];
+    answer(put_planned(&mut numbers, planned), &numbers);
     match planned {
-        Planned::Accepted(p) => {
-            totals(p);
-            lists(offsets, sizes.len(), blocks, p.block_count as usize);
-        }
-        Planned::Refused(e) => {
-            refusal(refused(e));
-            lists(offsets, 0, blocks, 0);
-        }
+        Planned::Accepted(p) => lists(offsets, sizes.len(), blocks, p.block_count as usize),
+        Planned::Refused(_) => lists(offsets, 0, blocks, 0),
     }
+    text(b"\n");
 }
 
 // Plans in lists that are long enough for every case.

@@ -8,8 +8,15 @@ use fractal_heap_write::serialize;
 use libc::STDOUT_FILENO;
 use plan::ManagedPlan;
 use plan::Planned;
-use refusals::Answer;
-use refusals::refused;
+use plan_numbers::put_planned;
+use report::answer;
+use report::dump;
+use report::fill;
+use report::least;
+use report::list;
+use report::lists;
+use report::number;
+use report::text;
 
 // What a place of a lent list holds before a call.
 const MARK: u64 = 42_405;
@@ -33,74 +40,17 @@ struct Call {
     width: u8,
 }
 
-fn text(bytes: &[u8]) {
-    io::write_all(STDOUT_FILENO, bytes);
-}
-
-fn number(n: u64) {
-    text(b" ");
-    io::print_decimal(STDOUT_FILENO, n);
-}
-
 fn address(n: u64) {
     text(b" at 0x");
     io::print_hex(STDOUT_FILENO, n, 1);
-}
-
-fn hex_byte(b: u8) {
-    io::print_hex(STDOUT_FILENO, b as u64, 2);
-}
-
-fn dump(bytes: &[u8]) {
-    let mut i: usize = 0;
-    while i < bytes.len() {
-        hex_byte(bytes[i]);
-        i = i + 1;
-    }
 }
 
 fn lookup3(bytes: &[u8]) {
     io::print_hex(STDOUT_FILENO, jenkins_lookup3(bytes) as u64, 8);
 }
 
-// The numbers of a list in their order, as one: s' = (31 s + number) mod 1,000,000,007.
-fn sum(numbers: &[u64]) -> u64 {
-    let mut s: u64 = 0;
-    let mut i: usize = 0;
-    while i < numbers.len() {
-        s = (s * 31 + numbers[i] % 1_000_000_007) % 1_000_000_007;
-        i = i + 1;
-    }
-    s
-}
-
-// The first `n` numbers.
-fn front(numbers: &[u64], n: usize) {
-    let mut i: usize = 0;
-    while i < numbers.len() {
-        if i < n {
-            number(numbers[i]);
-        }
-        i = i + 1;
-    }
-}
-
-fn least(x: usize, y: usize) -> usize
-    ensures { λ r. ⌜ (r ≤ x) × (r ≤ y) ⌝ }
-{
-    if x < y { x } else { y }
-}
-
 fn monus(x: u64, y: u64) -> u64 {
     if x < y { 0 } else { x - y }
-}
-
-// The first `n` numbers of a list, at most six, and the sum of its places, also of those past the `n`.
-fn list(name: &[u8], numbers: &[u64], n: usize) {
-    text(name);
-    front(numbers, least(n, 6));
-    text(b" sum");
-    number(sum(numbers));
 }
 
 fn heading(name: &[u8], sizes: &[u64], call: Call) {
@@ -115,30 +65,6 @@ fn heading(name: &[u8], sizes: &[u64], call: Call) {
     address(call.region_address);
     text(b", header");
     address(call.header_address);
-}
-
-fn totals(p: ManagedPlan) {
-    text(b"; accepted");
-    number(p.block_count);
-    number(p.region_size);
-    number(p.root_rows);
-    number(p.root_place);
-    number(p.managed_space);
-    number(p.allocated_space);
-    number(p.free_space);
-    number(p.allocation_iterator);
-}
-
-fn refusal(a: Answer) {
-    text(b"; refused");
-    number(a.number as u64);
-    number(a.first);
-    number(a.second);
-}
-
-fn lists(offsets: &[u64], n: usize, blocks: &[u64], count: usize) {
-    list(b"; offsets", offsets, n);
-    list(b"; blocks", blocks, count);
 }
 
 // The lookup3 of the bytes past a region of `size`, which keep their mark.
@@ -194,16 +120,16 @@ fn write(
         call.header_address,
         call.width,
     );
+    let mut numbers = [0u64; 8];
+    answer(put_planned(&mut numbers, planned), &numbers);
     match planned {
         Planned::Accepted(p) => {
-            totals(p);
             lists(offsets, sizes.len(), blocks, p.block_count as usize);
             untouched(region, p.region_size as usize);
             written(region, p.region_size as usize);
             root(region, p);
         }
-        Planned::Refused(e) => {
-            refusal(refused(e));
+        Planned::Refused(_) => {
             lists(offsets, 0, blocks, 0);
             untouched(region, 0);
         }
@@ -479,17 +405,6 @@ fn order_of_writing(objects: &[u8], call: Call) {
     case(b"right header address", &sizes, objects, call);
     call.region_address = 0;
     case(b"all right", &sizes, objects, call);
-}
-
-// The objects' bytes: bits 16 to 23 of x' = (1103515245 x + 12345) mod 2^32, from 1 on.
-fn fill(bytes: &mut [u8]) {
-    let mut x: u64 = 1;
-    let mut i: usize = 0;
-    while i < bytes.len() {
-        x = (x * 1_103_515_245 + 12_345) % 0x1_0000_0000;
-        bytes[i] = (x / 0x1_0000 % 256) as u8;
-        i = i + 1;
-    }
 }
 
 fn cases(objects: &[u8]) {

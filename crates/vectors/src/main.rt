@@ -11,10 +11,9 @@ use fields::bytes::write_undef_offset;
 use fields::convert::is_undefined_addr;
 use libc::STDOUT_FILENO;
 use refusals::Answer;
-
-fn text(bytes: &[u8]) {
-    io::write_all(STDOUT_FILENO, bytes);
-}
+use report::dump;
+use report::fill;
+use report::text;
 
 fn number(n: u64) {
     io::print_decimal(STDOUT_FILENO, n);
@@ -24,17 +23,6 @@ fn number(n: u64) {
 fn hex(n: u64) {
     io::print_hex(STDOUT_FILENO, n, 1);
     text(b" ");
-}
-
-// The bytes that are summed and read: bits 16 to 23 of x' = (1103515245 x + 12345) mod 2^32, from 1 on.
-fn fill(bytes: &mut [u8]) {
-    let mut x: u64 = 1;
-    let mut i: usize = 0;
-    while i < bytes.len() {
-        x = (x * 1_103_515_245 + 12_345) % 0x1_0000_0000;
-        bytes[i] = (x / 0x1_0000 % 256) as u8;
-        i = i + 1;
-    }
 }
 
 fn checksum_line(bytes: &[u8]) {
@@ -76,18 +64,6 @@ fn answer(a: Answer) {
     number(a.number as u64);
     hex(a.first);
     io::print_hex(STDOUT_FILENO, a.second, 1);
-}
-
-fn dump(bytes: &[u8]) {
-    let mut i: usize = 0;
-    while i < bytes.len() {
-        hex_byte(bytes[i]);
-        i = i + 1;
-    }
-}
-
-fn hex_byte(b: u8) {
-    io::print_hex(STDOUT_FILENO, b as u64, 2);
 }
 
 fn reads(bytes: &[u8], pos: u64, width: u8) {

@@ -2,8 +2,8 @@
 use borrow.Author.Needs.{needs}
 use Prim.Native.Nat.{_-_, _≤_}
 use lib.ListN.{length}
-use Rattle.vectors.proofs.dump.Statement.{statement}
-use Rattle.vectors.proofs.dump.Tie as tie
+use Rattle.report.proofs.dump.Statement.{statement}
+use Rattle.report.proofs.dump.Tie as tie
 
 abbrev Inv-loop : tie.InvT-loop
 Inv-loop bytes i₀ i = i ≤ length bytes

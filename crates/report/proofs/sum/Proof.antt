@@ -2,8 +2,8 @@
 use borrow.Author.Needs.{needs}
 use Prim.Native.Nat.{_-_, _≤_, _<_}
 use lib.ListN.{length}
-use Rattle.regions.proofs.sum.Statement.{statement}
-use Rattle.regions.proofs.sum.Tie as tie
+use Rattle.report.proofs.sum.Statement.{statement}
+use Rattle.report.proofs.sum.Tie as tie
 
 abbrev Inv-loop : tie.InvT-loop
 Inv-loop numbers s₀ i₀ s i = (i ≤ length numbers) × (s < 1000000007)

@@ -4,8 +4,8 @@ use mathlib.Core.Path.{_≡_}
 use Prim.Native.Nat.{_-_, _≤_, _<_, _^_}
 use borrow.Author.Needs.{needs}
 use native.Mathlib.Omega.{arith}
-use Rattle.regions.proofs.fill.Statement.{statement}
-use Rattle.regions.proofs.fill.Tie as tie
+use Rattle.report.proofs.fill.Statement.{statement}
+use Rattle.report.proofs.fill.Tie as tie
 
 abbrev Inv-loop : tie.InvT-loop
 Inv-loop bytes₀ x₀ i₀ bytes x i = (i ≤ length bytes) × (x < 2 ^ 32) × (length bytes ≡ length bytes₀)

@@ -2,8 +2,8 @@
 use borrow.Author.Needs.{needs}
 use Prim.Native.Nat.{_-_, _≤_}
 use lib.ListN.{length}
-use Rattle.regions.proofs.front.Statement.{statement}
-use Rattle.regions.proofs.front.Tie as tie
+use Rattle.report.proofs.front.Statement.{statement}
+use Rattle.report.proofs.front.Tie as tie
 
 abbrev Inv-loop : tie.InvT-loop
 Inv-loop numbers n i₀ i = i ≤ length numbers
