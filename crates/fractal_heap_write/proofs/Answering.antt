@@ -12,7 +12,6 @@ use Rattle.fields.specs.Fields.{legal}
 use Rattle.fields.proofs.Fields.{legal-small}
 use Rattle.fields.specs.declared.bytes.Checked.{Checked}
 use Rattle.fields.specs.declared.bytes.Checked.the-variants.{Passed, Refused as NotPassed}
-use Rattle.table.specs.Table.{fixed}
 use Rattle.table.specs.Capacity.{sum}
 use Rattle.plan_checks.specs.Checks.{placesChecked, thenChecked}
 use Rattle.plan.specs.declared.ManagedPlan.{ManagedPlan}

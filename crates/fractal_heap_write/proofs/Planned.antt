@@ -1,12 +1,11 @@
 -- Of every plan: the region of its objects is as long as planned, and its root stands at the planned place.
-use Prim.Native.Nat.{ℕ, _+_, _-_, _^_, _≤_, _<_}
-use mathlib.Core.Path.{_≡_, refl, sym, ap, _∙_}
+use Prim.Native.Nat.{ℕ, _+_, _-_}
+use mathlib.Core.Path.{_≡_, refl, sym, _∙_}
 use mathlib.Core.Bool.{Bool, true, false, cond}
 use mathlib.Core.List.{List}
 use native.Mathlib.Omega.{arith}
 use lib.Dec.{eqb}
 use lib.ListN.{length, take, drop}
-use Rattle.fields.specs.Fields.{legal}
 use Rattle.fields.proofs.Fields.{legal-small}
 use Rattle.table.specs.Table.{fixed}
 use Rattle.plan_steps.specs.Steps.{planOffsets, planStarts}

@@ -1,14 +1,13 @@
 -- What is known where the writer accepts: the plan and its region fit into what is lent.
-use Prim.Native.Nat.{ℕ, suc, _+_, _-_, _^_, _≤_, _<_, max}
+use Prim.Native.Nat.{ℕ, suc, _+_, _-_, _^_, _≤_, max}
 use mathlib.Core.Path.{_≡_, refl, sym, ap, _∙_, subst}
 use mathlib.Core.Logic.{⊎-elim}
-use mathlib.Core.List.{List, [], _++_}
+use mathlib.Core.List.{List, _++_}
 use native.Mathlib.Omega.{arith}
 use native.Mathlib.Decide.{decLe}
 use lib.ListN.{length, take, drop, length-append}
 use lib.Pow.{pow-mono}
 use lib.Seq.{take-at, length-take-le}
-use Rattle.fields.specs.Fields.{legal}
 use Rattle.fields.proofs.Fields.{legal-small}
 use Rattle.table.specs.Table.{fixed, rowOffset}
 use Rattle.table.specs.Sizes.{maxManaged}
@@ -24,9 +23,8 @@ use Rattle.plan.proofs.Answering.{Went, accepted}
 use Rattle.plan_laws.proofs.Tally.{tallied}
 use Rattle.plan_laws.proofs.Root.{Bare, Rowed, shape}
 use Rattle.region_blocks.specs.declared.Site.{Site}
-use Rattle.region_walk.specs.Walk.{block}
 use Rattle.region_laws.proofs.Indirect.{indirect-planned}
-use Rattle.fractal_heap_write.specs.Region.{indirects, indirectBytes, region}
+use Rattle.fractal_heap_write.specs.Region.{region}
 use Rattle.fractal_heap_write.specs.Requires.{Rooted, Writable}
 use Rattle.fractal_heap_write.specs.Serialize.{serialized}
 use Rattle.fractal_heap_write.proofs.Answering.{written, Fit, fit, below-undefined}

@@ -1,6 +1,6 @@
 -- What the stores of a whole region come to, and that they fit.
-use Prim.Native.Nat.{ℕ, _+_, _-_, _^_, _≤_, _<_}
-use mathlib.Core.Path.{_≡_, refl, sym, ap, _∙_, subst}
+use Prim.Native.Nat.{ℕ, _+_, _-_, _≤_}
+use mathlib.Core.Path.{_≡_, sym, ap, _∙_, subst}
 use mathlib.Core.List.{List, [], _++_, append-nil}
 use native.Mathlib.Omega.{arith}
 use native.Mathlib.Nat.{add-zero}
@@ -9,9 +9,8 @@ use Rattle.table.specs.Table.{fixed}
 use Rattle.region_blocks.specs.Storing.{stored}
 use Rattle.region_blocks.specs.declared.Site.{Site}
 use Rattle.region_blocks.proofs.Storing.{stored-nil, stored-then, stored-is}
-use Rattle.region_walk.specs.Walk.{Walked, block}
+use Rattle.region_walk.specs.Walk.{block}
 use Rattle.region_walk.specs.Requires.{Fits}
-use Rattle.region_walk.specs.declared.Cursor.{Cursor}
 use Rattle.plan_steps.specs.Steps.{planOffsets, planStarts}
 use Rattle.region_directs.specs.Directs.{directs}
 use Rattle.fractal_heap_write.specs.Region.{indirects, indirectBytes, region}

@@ -1,11 +1,11 @@
 -- Laws of `stored`: runs of stores, one after another, apart, over each other, and what is read back.
-use Prim.Native.Nat.{ℕ, zero, suc, _+_, _-_, _≤_, _<_}
+use Prim.Native.Nat.{ℕ, suc, _+_, _-_, _≤_, _<_}
 use mathlib.Core.Path.{_≡_, refl, sym, ap, _∙_}
 use mathlib.Core.List.{List, [], _∷_, _++_, append-assoc}
 use native.Mathlib.Omega.{arith}
 use native.Mathlib.Nat.{add-zero, add-suc, suc-add}
-use lib.ListN.{length, take, drop, set, getD, length-append, replicate}
-use lib.Seq.{sets, length-sets, sets-eq, set-comm, set-set, drop-at, take-at, length-take-le, drop-cons}
+use lib.ListN.{length, take, drop, set}
+use lib.Seq.{length-sets, sets-eq, set-comm, set-set, drop-at, take-at, length-take-le}
 use Rattle.fields.specs.LittleEndian.{put}
 use Rattle.fields.proofs.LittleEndian.{put-sets}
 use Rattle.region_blocks.specs.Storing.{stored}

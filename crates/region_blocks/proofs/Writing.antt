@@ -2,11 +2,11 @@
 -- block with its checksum stored last.
 use Prim.Native.Nat.{ℕ, zero, suc, _+_, _-_, _≤_, _<_}
 use mathlib.Core.Path.{_≡_, refl, sym, ap, _∙_}
-use mathlib.Core.List.{List, [], _∷_, _++_, append-assoc}
+use mathlib.Core.List.{List, [], _∷_, _++_}
 use native.Mathlib.Omega.{arith}
 use native.Mathlib.Numerals.{add-one}
-use lib.ListN.{length, take, drop, set, getD, length-append, length-drop, replicate, length-replicate}
-use lib.Seq.{drop-at, take-at, length-take-le, drop-cons, set-getD}
+use lib.ListN.{length, take, drop, set, getD, length-append, length-drop, replicate}
+use lib.Seq.{drop-at, length-take-le, drop-cons, set-getD}
 use Rattle.fields.specs.LittleEndian.{le}
 use Rattle.fields.proofs.LittleEndian.{length-le}
 use Rattle.checksum.specs.Lookup3.{hashlittle}
@@ -14,6 +14,7 @@ use Rattle.table.specs.Table.{fixed}
 use Rattle.table.specs.Sizes.{offsetBytes, directHeader}
 use Rattle.region_blocks.specs.Blocks.{indirectSignature, directSignature, blockHead, indirectBlock, directBody, directBlock}
 use Rattle.region_blocks.specs.Storing.{stored}
+use Rattle.region_blocks.proofs.Lengths.{body-length}
 use Rattle.region_blocks.proofs.Storing.{length-stored, stored-nil, stored-cons, stored-append, stored-then, stored-inside, stored-is, stored-read}
 
 -- ---- the loops
@@ -116,14 +117,6 @@ four-zeros : le 4 0 ≡ replicate 4 0
 unfolding le
 four-zeros = refl
 
-body-length : (w z : ℕ) (bs : List ℕ) → 14 + w + length bs ≤ z → length (directBody fixed w z bs) ≡ z - (14 + w)
-unfolding directBody directHeader offsetBytes
-body-length w z bs fits =
-    let n : ℕ = z - (directHeader fixed w + length bs) in
-    let Z : List ℕ = replicate n 0 in
-    let y : length Z ≡ n = length-replicate n 0 in
-    length-append bs Z ∙ (let q : length bs + length Z ≡ z - (14 + w) = omega arith in q)
-
 -- everything but the checksum
 pub filled : (l l₁ l₂ l₃ l₄ bs : List ℕ) (at w z h o : ℕ) → 14 + w + length bs ≤ z → l₁ ≡ stored l at (le 5 0x42444846 ++ (le w h ++ le 5 o))
     → l₂ ≡ stored l₁ (at + (14 + w) - 4) (le 4 0) → l₃ ≡ stored l₂ (at + (14 + w)) bs
@@ -155,7 +148,7 @@ summed l l₄ l₅ bs at w z h o sum room fits e4 e5 e6 =
     let H : List ℕ = blockHead fixed w directSignature h o in
     let B : List ℕ = directBody fixed w z bs in
     let k : length H ≡ 10 + w = ap length (direct-head w h o) ∙ head-length w 0x42444846 h o in
-    let m : length B ≡ z - (14 + w) = body-length w z bs fits in
+    let m : length B ≡ z - (14 + w) = (let f : directHeader fixed w + length bs ≤ z = omega (arith, header-is w) in body-length fixed w z bs f ∙ ap (λ (n : ℕ). z - n) (header-is w)) in
     let f : length (le 4 sum) ≡ 4 = length-le 4 sum in
     let q : length (H ++ (replicate 4 0 ++ B)) ≡ z = length-append H (replicate 4 0 ++ B) ∙ (let y = length-append (replicate 4 0) B in omega arith) in
     let g : at + z - at ≡ z = omega arith in

@@ -6,11 +6,8 @@ use mathlib.Core.Bool.{cond}
 use mathlib.Core.List.{List, [], _∷_, _++_, append-nil}
 use native.Mathlib.Omega.{arith}
 use lib.Dec.{eqb}
-use lib.ListN.{length, take, drop, length-append, replicate, length-replicate, length-take}
+use lib.ListN.{length, take, drop, length-append, length-take}
 use borrow.Author.Tests.{ne-eqb}
-use Rattle.fields.specs.LittleEndian.{le}
-use Rattle.fields.proofs.LittleEndian.{length-le}
-use Rattle.checksum.specs.Lookup3.{hashlittle}
 use Rattle.table.specs.Table.{Table, fixed, rowBits, rowOffset, rowIn, rowOf}
 use Rattle.table.specs.Slots.{slotIn, slotBits, slotAt}
 use Rattle.table.specs.Sizes.{offsetBytes, directHeader}
@@ -23,38 +20,12 @@ use Rattle.plan_steps.specs.declared.Step.the-variants.{Placed, Ends}
 use Rattle.plan_steps.specs.declared.Run.the-variants.{Done}
 use Rattle.plan_steps.proofs.Stepping.{Same, New}
 use Rattle.plan_steps.proofs.Running.{run-stops, run-goes, starts-go-same, starts-go-new}
-use Rattle.region_blocks.specs.Blocks.{directSignature, blockHead, directBody, directBlock}
+use Rattle.region_blocks.specs.Blocks.{directBlock}
+use Rattle.region_blocks.proofs.Lengths.{direct-length}
 use Rattle.region_directs.specs.Directs.{objectsIn, directs}
 use Rattle.region_directs.proofs.Holding.{Left, left-start, left-step, placed, held, held-fits}
 
 -- ---- a block
-
-pub head-length : (t : Table) (w h o : ℕ) → length (blockHead t w directSignature h o) ≡ 5 + w + offsetBytes t
-unfolding blockHead
-head-length t w h o = simp (length-append, length-le) (omega arith)
-
-pub body-length : (t : Table) (w z : ℕ) (bs : List ℕ) → directHeader t w + length bs ≤ z → length (directBody t w z bs) ≡ z - directHeader t w
-unfolding directBody
-body-length t w z bs l =
-    let n : ℕ = z - (directHeader t w + length bs) in
-    let Z : List ℕ = replicate n 0 in
-    let y : length Z ≡ n = length-replicate n 0 in
-    length-append bs Z ∙ (let q : length bs + length Z ≡ z - directHeader t w = omega arith in q)
-
-three : (a b c : List ℕ) → length (a ++ (b ++ c)) ≡ length a + (length b + length c)
-three a b c = length-append a (b ++ c) ∙ ap (λ (n : ℕ). length a + n) (length-append b c)
-
--- a block has the bytes that its slot has
-pub block-length : (t : Table) (w h o z : ℕ) (bs : List ℕ) → directHeader t w + length bs ≤ z → length (directBlock t w h o z bs) ≡ z
-unfolding directBlock directHeader
-block-length t w h o z bs l =
-    let H : List ℕ = blockHead t w directSignature h o in
-    let B : List ℕ = directBody t w z bs in
-    let S : List ℕ = le 4 (hashlittle (H ++ (replicate 4 0 ++ B))) in
-    let a = head-length t w h o in
-    let b = body-length t w z bs l in
-    let c : length S ≡ 4 = length-le 4 (hashlittle (H ++ (replicate 4 0 ++ B))) in
-    three H S B ∙ (let q : length H + (length S + length B) ≡ z = omega arith in q)
 
 pub take-short : (n : ℕ) (l : List ℕ) → length (take n l) ≤ n
 take-short n l = let e = length-take n l in omega arith
@@ -80,7 +51,7 @@ module _ (t : Table) (g : t .startBits ≤ t .directBits) (k : t .startBits ≤ 
         let a = ap length (held t g k w os xs js s y ys L s′ o e n) in
         let b = take-short (fillState s′ ys .used - s .used) (drop (s .used) js) in
         let c = held-fits t g k w os xs js s y ys L s′ o e n in
-        block-length t w h (s′ .start) (s′ .size) (objectsIn (s′ .start) (s′ .size) os xs js) (omega arith)
+        direct-length t w h (s′ .start) (s′ .size) (objectsIn (s′ .start) (s′ .size) os xs js) (omega arith)
 
     grown-new : (s″ : State) (ss : List ℕ) → Grown s′ s″ (length (directs t w h os xs js ss)) → Grown s s″ (length (directs t w h os xs js (s′ .start ∷ ss)))
     grown-new s″ ss G =
@@ -146,7 +117,7 @@ none-is w h js (x ∷ xs) e = absurd (omega arith)
 
 pub none-length : (w h : ℕ) (js xs : List ℕ) → w ≤ 255 → length xs ≡ 0 → length (directs fixed w h (planOffsets fixed w xs) xs js (planStarts fixed w xs)) ≡ 1024
 unfolding directHeader offsetBytes
-none-length w h js xs u e = ap length (none-is w h js xs e) ∙ block-length fixed w h 0 1024 [] (omega arith)
+none-length w h js xs u e = ap length (none-is w h js xs e) ∙ direct-length fixed w h 0 1024 [] (omega arith)
 
 no-bytes : (js xs : List ℕ) → length xs ≡ 0 → length js ≡ sum xs → [] ≡ js
 unfolding sum

@@ -23,9 +23,9 @@ use Rattle.plan_steps.specs.declared.Run.the-variants.{Done}
 use Rattle.plan_steps.proofs.Stepping.{Same, New, Placing}
 use Rattle.plan_steps.proofs.Running.{run-stops, run-goes, offsets-go}
 use Rattle.region_blocks.specs.Blocks.{directSignature, blockHead, directBody, directBlock}
+use Rattle.region_blocks.proofs.Lengths.{direct-head-length}
 use Rattle.region_directs.specs.Directs.{objectsIn}
 use Rattle.region_directs.proofs.Holding.{in-here, Left, left-start, left-step, placed, new-here, next-drop}
-use Rattle.region_directs.proofs.Lengths.{head-length}
 
 -- ---- a part of a block's objects
 
@@ -41,7 +41,7 @@ block-part t w h b z n all front part back e f =
     let R : List ℕ = part ++ (back ++ Z) in
     let a : all ++ Z ≡ front ++ R = ap (λ (y : List ℕ). y ++ Z) e ∙ append-assoc front (part ++ back) Z ∙ ap (λ (y : List ℕ). front ++ y) (append-assoc part back Z) in
     let d : H ++ (S ++ (all ++ Z)) ≡ F ++ R = ap (λ (y : List ℕ). H ++ (S ++ y)) a ∙ sym (append-assoc H (S ++ front) R ∙ ap (λ (y : List ℕ). H ++ y) (append-assoc S front R)) in
-    let hl = head-length t w h b in
+    let hl = direct-head-length t w h b in
     let sl : length S ≡ 4 = length-le 4 c in
     let k : length F ≡ n = length-append H (S ++ front) ∙ (let y = length-append S front in omega arith) in
     ap (λ (y : List ℕ). take (length part) (drop n y)) d ∙ ap (take (length part)) (drop-at F R n k) ∙ take-at part (back ++ Z) (length part) refl

@@ -25,9 +25,10 @@ use Rattle.plan_steps.proofs.Filling.{next-is, next-later, next-full, starts-fr
 use Rattle.region_blocks.specs.Blocks.{directBlock}
 use Rattle.region_blocks.specs.Storing.{stored}
 use Rattle.region_blocks.proofs.Storing.{length-stored, stored-nil, stored-then}
+use Rattle.region_blocks.proofs.Lengths.{direct-length}
 use Rattle.region_directs.specs.Directs.{objectsIn, directs}
 use Rattle.region_directs.proofs.Holding.{Left, left-start, left-step, left-fill, held, held-fits, Fills, fill-keeps}
-use Rattle.region_directs.proofs.Lengths.{block-length, take-short, directs-cons}
+use Rattle.region_directs.proofs.Lengths.{take-short, directs-cons}
 
 -- the blocks at ss of a whole list
 abbrev pub blocks : ℕ → ℕ → List ℕ → List ℕ → List ℕ → List ℕ
@@ -145,7 +146,7 @@ module _ (w h : ℕ) (xs js r₀ : List ℕ) (place : ℕ) (r : List ℕ) (s : S
         ∙ ap₂ (λ (b z : ℕ). directBlock fixed w h b z (take (f .state .used - s .used) (drop (s .used) js))) (sym (keeps .start-is)) (sym (keeps .size-is))
 
     long : length (blockOf w h js s (f .state)) ≡ f .state .size
-    long = block-length fixed w h (f .state .start) (f .state .size) (take (f .state .used - s .used) (drop (s .used) js)) fits
+    long = direct-length fixed w h (f .state .start) (f .state .size) (take (f .state .used - s .used) (drop (s .used) js)) fits
 
     -- it is the first of the blocks that are left
     blocks-are : blocks w h xs js (startsFrom fixed w s (drop next xs))

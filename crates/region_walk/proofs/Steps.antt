@@ -20,7 +20,7 @@ use Rattle.region_walk.specs.declared.Cursor.{Cursor}
 use Rattle.region_walk.specs.declared.Child.{Child}
 use Rattle.region_walk.specs.Walk.{Walked, beginsBefore, unplaced, direct, nothing, both, slots, finished, smaller, allSlots, block}
 use Rattle.region_walk.specs.Requires.{rowsLeft, blockOf, slotsOf, slotOf, Fits, Moved, Wrote, WroteSlots}
-use Rattle.region_walk.proofs.Walking.{begins-none, slot-unplaced, slot-direct, slot-inner, slots-step, slots-passed, slots-grow, block-entries, head-length, indirect-length, rows-none, rows-all, rows-row, rows-next}
+use Rattle.region_walk.proofs.Walking.{begins-none, slot-unplaced, slot-direct, slot-inner, slots-step, slots-passed, slots-grow, block-entries, head-length, block-length, rows-none, rows-all, rows-row, rows-next}
 
 -- ---- one slot
 
@@ -298,11 +298,11 @@ module _ (site : Site) (starts l : List ℕ) (n off : ℕ) (c : Cursor) where
   unfolding finished own
   block-bytes = ap (λ (o : Walked). o .bytes) block-is
 
-  block-length : length (B .bytes) ≡ length (A .bytes) + (14 + site .«offset_size» + 4 * n * site .«offset_size»)
+  whole-length : length (B .bytes) ≡ length (A .bytes) + (14 + site .«offset_size» + 4 * n * site .«offset_size»)
   unfolding own
-  block-length =
+  whole-length =
       ap length block-bytes ∙ length-append (A .bytes) own
-      ∙ ap (λ (k : ℕ). length (A .bytes) + k) (indirect-length (site .«offset_size») (site .«heap_header_address») off (A .entries) ∙ ap (λ (k : ℕ). 14 + site .«offset_size» + k) all-entries)
+      ∙ ap (λ (k : ℕ). length (A .bytes) + k) (block-length (site .«offset_size») (site .«heap_header_address») off (A .entries) ∙ ap (λ (k : ℕ). 14 + site .«offset_size» + k) all-entries)
 
   block-next : B .next ≡ A .next
   unfolding finished
@@ -314,7 +314,7 @@ module _ (site : Site) (starts l : List ℕ) (n off : ℕ) (c : Cursor) where
     all-fit = record {
       narrow = p .narrow;
       known = p .known;
-      room = omega (arith, p .room, block-length, all-entries);
+      room = omega (arith, p .room, whole-length, all-entries);
       addresses = p .addresses;
       direct = rw block-next at (p .direct);
     }
@@ -325,7 +325,7 @@ module _ (site : Site) (starts l : List ℕ) (n off : ℕ) (c : Cursor) where
 
       -- its own place
       pub own-fits : d .place + (14 + site .«offset_size» + 4 * n * site .«offset_size») ≤ length l₁
-      own-fits = omega (arith, p .room, block-length, length-a, s .moved .place)
+      own-fits = omega (arith, p .room, whole-length, length-a, s .moved .place)
 
       pub end-fits : site .«region_address» + (d .place + (14 + site .«offset_size» + 4 * n * site .«offset_size»)) < 2 ^ 64
       end-fits = omega (arith, p .addresses, own-fits, length-a)
@@ -351,7 +351,7 @@ module _ (site : Site) (starts l : List ℕ) (n off : ℕ) (c : Cursor) where
             moved = record {
               known = s .moved .known;
               rest = s .moved .rest ∙ sym (ap (λ (o : Walked). o .rest) block-is);
-              place = omega (arith, s .moved .place, block-length);
+              place = omega (arith, s .moved .place, whole-length);
               next = s .moved .next ∙ sym block-next;
             };
           }

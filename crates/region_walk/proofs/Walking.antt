@@ -15,8 +15,9 @@ use lib.Pow.{pow-mono}
 use borrow.Author.Tests.{leb-false, ltb-false, eqb-true, eqb-false, ne-eqb, lt-ltb, le-ltb}
 use Rattle.fields.proofs.LittleEndian.{length-le}
 use Rattle.table.specs.Table.{Table, fixed, rowBits}
+use Rattle.table.specs.Sizes.{offsetBytes}
 use Rattle.region_blocks.specs.Blocks.{indirectSignature, blockHead, indirectBlock}
-use Rattle.region_blocks.proofs.Writing.{indirect-head}
+use Rattle.region_blocks.proofs.Lengths.{indirect-head-length, indirect-length}
 use Rattle.region_walk.specs.Walk.{Walked, Walk, beginsBefore, slotRows, unplaced, direct, nothing, both, slot, slots, finished, smaller, allSlots, block}
 use Rattle.region_walk.specs.Requires.{rowsLeft}
 
@@ -181,12 +182,14 @@ module _ (t : Table) (w header : ℕ) where
   unfolding allSlots
   block-entries n at ss pos next = slots-sound (smaller t w header n) (smaller-sound n) (slotRows t n 0) at ss pos next .wide ∙ ap (λ (m : ℕ). m * w) (length-rows n 0)
 
+-- at the fixed table a heap offset has five bytes
 pub head-length : (w header at : ℕ) → length (blockHead fixed w indirectSignature header at) ≡ 10 + w
-head-length w header at = rw (indirect-head w header at) (simp (length-append, length-le) (omega arith))
+unfolding offsetBytes
+head-length w header at = indirect-head-length fixed w header at ∙ omega arith
 
-pub indirect-length : (w header at : ℕ) (es : List ℕ) → length (indirectBlock fixed w header at es) ≡ 14 + w + length es
-unfolding indirectBlock
-indirect-length w header at es = simp (length-append, length-le, head-length) (omega arith)
+pub block-length : (w header at : ℕ) (es : List ℕ) → length (indirectBlock fixed w header at es) ≡ 14 + w + length es
+unfolding offsetBytes
+block-length w header at es = indirect-length fixed w header at es ∙ omega arith
 
 -- ---- the rows of the slots that are left
 

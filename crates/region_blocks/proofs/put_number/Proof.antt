@@ -1,7 +1,5 @@
 -- `put_number` meets its contract. Assumes nothing.
 use mathlib.Core.Path.{_∙_}
-use Prim.Native.Nat.{_+_, _≤_}
-use lib.ListN.{length}
 use native.Mathlib.Omega.{arith}
 use Rattle.fields.specs.LittleEndian.{le}
 use Rattle.fields.proofs.LittleEndian.{length-le}

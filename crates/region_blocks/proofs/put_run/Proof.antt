@@ -1,7 +1,7 @@
 -- `put_run` meets its contract: the bytes left to store, stored from here, are all of them. Assumes nothing.
 use native.Mathlib.Omega.{arith}
 use mathlib.Core.Path.{_≡_, refl, sym, _∙_}
-use Prim.Native.Nat.{_+_, _-_, _≤_}
+use Prim.Native.Nat.{_-_, _≤_}
 use lib.ListN.{length, length-set, replicate}
 use Rattle.region_blocks.specs.Storing.{stored}
 use Rattle.region_blocks.proofs.Writing.{run-more, run-done}
