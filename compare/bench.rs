@@ -267,7 +267,7 @@ fn fitting(sizes: &[u64], bytes: u64) -> &[u64] {
 
 /// Planning and writing a region, again and again. The original allocates what it fills in every call; ours is
 /// lent memory that is allocated once, outside of the time, and in the second line in every call. The third
-/// line is the time of one checksum and one copy of the whole region.
+/// line is the time of one checksum and one copy of the whole region, and that of ours for planning alone.
 pub fn write() {
     let mut random = Random::new(12);
     for (name, bytes, most, n) in [
@@ -326,9 +326,14 @@ fn written(name: &str, writing: &Writing) {
         })
     };
     let (pass, ours) = best(rounds, pass, || again(&mut || lent.write(writing)));
+    let (offsets, blocks) = (&mut lent.offsets, &mut lent.blocks);
+    let plan = || again(&mut || plan_in(writing.sizes, offsets, blocks));
+    let (plan, _) = best(rounds, plan, || ());
+    let ns = |t: f64| t * 1e9 / calls as f64;
     println!(
-        "bench:   one checksum and one copy {:>10.1} ns, ours / that {:.2}",
-        pass * 1e9 / calls as f64,
-        ours / pass
+        "bench:   one checksum and one copy {:>10.1} ns, ours / that {:.2}; planning alone {:.1} ns",
+        ns(pass),
+        ours / pass,
+        ns(plan)
     );
 }
