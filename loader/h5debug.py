@@ -6,12 +6,22 @@ import subprocess
 from hdf5_format import expect
 
 
-def told(name, *numbers):
-    """What h5debug prints for an address, with the numbers that it needs to know a block there."""
+def run(name, *numbers):
+    """h5debug at an address, with the numbers that it needs to know a block there."""
     words = ["h5debug", name, *map(str, numbers)]
-    run = subprocess.run(words, text=True, stdout=subprocess.PIPE, stderr=subprocess.PIPE)
-    expect(run.returncode == 0, f"{' '.join(words)}: {run.stderr}")
-    return run.stdout
+    return subprocess.run(words, text=True, stdout=subprocess.PIPE, stderr=subprocess.PIPE)
+
+
+def told(name, *numbers):
+    """What h5debug prints for an address."""
+    ended = run(name, *numbers)
+    expect(ended.returncode == 0, f"{' '.join(ended.args)}: {ended.stderr}")
+    return ended.stdout
+
+
+def tells(name, *numbers):
+    """Whether h5debug reads what stands at an address."""
+    return run(name, *numbers).returncode == 0
 
 
 def hold(text, fields):

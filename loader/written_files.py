@@ -458,6 +458,15 @@ def h5dump_reads(name, dense, key):
     return dumped(name, "-a", dense.path.encode() + b"/" + key) is not None
 
 
+def h5debug_reads(name, dense, key):
+    """Whether h5debug reads the block that has an attribute, and all above it."""
+    heap = dense.heap
+    heap_id = next(heap_id for heap_id in dense.places if dense.name_of(heap_id) == key)
+    _, size, address, above = dense.block_of(heap_id)
+    blocks = [(address, size)] + [(at, rows) for at, _, rows, _ in heap.indirects if at in above]
+    return all(h5debug.tells(name, at, heap.address, number) for at, number in blocks)
+
+
 def some_places(dense):
     """Places in the blocks above one of the deepest objects: in each field of the indirect blocks; in each
     field, the object and the last byte of the direct one. Each with the object's ID."""
@@ -499,7 +508,7 @@ def check_damage(name, dense, places, draw, reads):
 
 
 def check_damages(name, dense, made, tools, counts):
-    """Damage at some places of a heap, for h5dump at fewer, and in one heap at each byte."""
+    """Damage at some places of a heap, for h5dump and h5debug at fewer, and in one heap at each byte."""
     if not dense.places:
         return
     each = dense.path == "/over" and made.widths == (8, 8) and made.order
@@ -508,6 +517,7 @@ def check_damages(name, dense, made, tools, counts):
     if tools:
         fewer = made.draw.sample(places, 4)
         counts["damaged for h5dump"] += check_damage(name, dense, fewer, made.draw, h5dump_reads)
+        counts["damaged for h5debug"] += check_damage(name, dense, fewer, made.draw, h5debug_reads)
 
 
 # Going on with a file
@@ -562,7 +572,8 @@ def report(counts, tools):
     heaps = ", ".join(f"{counts[kind]} {kind}" for kind in KINDS)
     print(f"written files: heaps: {heaps}; HDF5 went on with all files: {counts['went on']} attributes")
     if tools:
-        refusals = f"h5dump refuses {counts['damaged for h5dump']} of the damaged copies, too"
+        refusals = f"h5dump refuses {counts['damaged for h5dump']} of the damaged copies, too, "
+        refusals += f"and h5debug {counts['damaged for h5debug']}"
         print(f"written files: h5debug tells {counts['blocks']} blocks as we wrote them; {refusals}")
     else:
         print("written files: h5dump and h5debug are not at hand")
