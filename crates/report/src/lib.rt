@@ -1,6 +1,9 @@
 // What the programs print with: text, numbers, bytes, lists and answers; and the pseudo-random bytes that they
-// work on. It serves the programs alone: what is printed is held to a recorded file, and no contract speaks of it.
-ghost use Prim.Native.Nat.{_≤_};
+// work on. It serves the programs alone: what is printed is held to a recorded file, and no contract can speak of it.
+ghost use mathlib.Core.Path.{_≡_};
+ghost use Prim.Native.Nat.{min};
+ghost use lib.ListN.{length};
+ghost use Rattle.report.specs.Sequence.{bytesAfter};
 use libc::STDOUT_FILENO;
 
 pub fn text(bytes: &[u8]) {
@@ -26,7 +29,7 @@ pub fn dump(bytes: &[u8]) {
 }
 
 pub fn least(x: usize, y: usize) -> usize
-    ensures { λ r. ⌜ (r ≤ x) × (r ≤ y) ⌝ }
+    ensures { λ r. ⌜ r ≡ min x y ⌝ }
 {
     if x < y { x } else { y }
 }
@@ -80,7 +83,9 @@ pub fn answer(refusal: u32, numbers: &[u64]) {
 }
 
 // Pseudo-random bytes: bits 16 to 23 of x' = (1103515245 x + 12345) mod 2^32, from 1 on.
-pub fn fill(bytes: &mut [u8]) {
+pub fn fill(bytes: &mut [u8])
+    ensures { λ _. ⌜ now (bytes .exit) ≡ bytesAfter 1 (length (now (bytes .entry))) ⌝ }
+{
     let mut x: u64 = 1;
     let mut i: usize = 0;
     while i < bytes.len() {

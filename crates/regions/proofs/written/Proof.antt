@@ -16,7 +16,7 @@ text-requires : tie.Need-text-requires
 text-requires c κs = search needs
 
 slice-aggregate-lookup3 : tie.Need-slice-aggregate-lookup3
-slice-aggregate-lookup3 c = sym (length-take-le _ _ (c .before .before .before .least .ensures .1))
+slice-aggregate-lookup3 c = sym (length-take-le _ _ (omega (arith, c .before .before .before .least .ensures)))
 
 lookup3-requires : tie.Need-lookup3-requires
 lookup3-requires c κs = search needs
