@@ -173,6 +173,10 @@ module _ (t : Table) (w header : ℕ) where
   pub slots-grow : (n : ℕ) (rs : List ℕ) (at : ℕ) (ss : List ℕ) (pos next : ℕ) → next ≤ slots t w header (smaller t w header n) rs at ss pos next .next
   slots-grow n rs at ss pos next = slots-sound (smaller t w header n) (smaller-sound n) rs at ss pos next .grows
 
+  -- a slot has one entry
+  pub slot-entry : (n r at : ℕ) (ss : List ℕ) (pos next : ℕ) → length (slot t w header (smaller t w header n) r at ss pos next .entries) ≡ w
+  slot-entry n r at ss pos next = slot-sound (smaller t w header n) (smaller-sound n) r at ss pos next .wide ∙ omega arith
+
   length-rows : (m r : ℕ) → length (slotRows t m r) ≡ m * 2 ^ t .widthBits
   unfolding slotRows
   length-rows zero r = omega arith

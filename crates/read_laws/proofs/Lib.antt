@@ -1,0 +1,4 @@
+pub mod Holding
+pub mod Agreeing
+pub mod Entries
+pub mod Finding
