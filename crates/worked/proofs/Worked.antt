@@ -14,10 +14,11 @@ use Rattle.plan.specs.declared.ManagedPlan.{ManagedPlan}
 use Rattle.plan.specs.declared.Planned.the-variants.{Accepted}
 use Rattle.plan.specs.Answer.{closed, rootRows, totals, answer}
 use Rattle.plan_checks.specs.Checks.{sizesChecked, placesChecked, widthChecked, inputChecked}
-use Rattle.fields.specs.LittleEndian.{value, leAt}
+use Rattle.fields.specs.LittleEndian.{le, value, leAt}
 use lib.Count.{leadingZeros}
 use Rattle.heap_rows.specs.Rows.{log2, blockSize, directRows, sizeToRows, heapSize, slotSize}
 use Rattle.heap_ids.specs.Id.{typeOf, splitId, decodedId, tinyIn, tinyAt}
+use Rattle.managed_ids.specs.Ids.{managedId, idLength, idChecked}
 use Rattle.fractal_heap_write.proofs.Planned.{region-length, root-place}
 use Rattle.worked.specs.Cases.{Region, Both, All, cases}
 
@@ -28,7 +29,7 @@ planned : (w : ℕ) (xs : List ℕ) (p : ManagedPlan) → answer xs (length xs) 
 planned w xs p e = record { size = region-length xs (length xs) (max 1 (length xs)) w p e; root = root-place xs (length xs) (max 1 (length xs)) w p e }
 
 pub worked : All cases
-unfolding legal saturated value leAt leadingZeros log2 blockSize directRows sizeToRows heapSize slotSize typeOf splitId decodedId tinyIn tinyAt rowBits rowOffset rowIn rowOf maxRows coveringIn covering slotStart slotIn slotBits slotAt enteredIn entered offsetBytes directHeader maxManaged indirectSize sum blockCapacity capacities capacity openIn openAt stepOf runFrom offsetsFrom startsFrom run planOffsets planStarts closed rootRows totals sizesChecked placesChecked widthChecked inputChecked answer
+unfolding legal saturated le value leAt managedId idLength idChecked leadingZeros log2 blockSize directRows sizeToRows heapSize slotSize typeOf splitId decodedId tinyIn tinyAt rowBits rowOffset rowIn rowOf maxRows coveringIn covering slotStart slotIn slotBits slotAt enteredIn entered offsetBytes directHeader maxManaged indirectSize sum blockCapacity capacities capacity openIn openAt stepOf runFrom offsetsFrom startsFrom run planOffsets planStarts closed rootRows totals sizesChecked placesChecked widthChecked inputChecked answer
 worked =
     both (refl, refl, refl, planned _ _ _ refl)
     (both (refl, refl, refl, planned _ _ _ refl)
@@ -38,6 +39,7 @@ worked =
     (both (refl, refl, refl, planned _ _ _ refl)
     (both refl
     (both (refl, refl, refl, planned _ _ _ refl)
+    (both (refl, refl)
     (both refl
     (both (omega arith, omega arith, refl)
     (both (omega arith, refl, refl, omega arith, refl, refl)
@@ -47,4 +49,4 @@ worked =
     (both refl
     (both refl
     (both refl
-    refl))))))))))))))))
+    refl)))))))))))))))))

@@ -6,12 +6,14 @@ use mathlib.Core.List.{List, [], _∷_}
 use lib.ListN.{length, take, drop}
 use Rattle.refusals.specs.declared.FormatError.{FormatError}
 use Rattle.refusals.specs.declared.FormatError.the-variants.{UnexpectedEof, ObjectTooLarge}
+use Rattle.fields.specs.declared.bytes.Checked.the-variants.{Passed}
 use Rattle.table.specs.Table.{fixed, rowBits, rowOffset}
 use Rattle.plan.specs.declared.ManagedPlan.{ManagedPlan}
 use Rattle.plan.specs.declared.Planned.the-variants.{Accepted, Refused}
 use Rattle.plan_steps.specs.Steps.{planOffsets, planStarts}
 use Rattle.plan.specs.Answer.{answer}
 use Rattle.fractal_heap_write.specs.Region.{region, rootBytes}
+use Rattle.managed_ids.specs.Ids.{managedId, idChecked}
 use Rattle.heap_rows.specs.declared.DoublingTable.{DoublingTable}
 use Rattle.heap_rows.specs.Rows.{blockSize, directRows, sizeToRows, slotSize}
 use Rattle.heap_blocks.specs.declared.Found.{Found}
@@ -25,13 +27,14 @@ fixedTable =
     record { «table_width» = 4; «starting_block_size» = 1024; «max_direct_block_size» = 65536; «max_heap_size» = 40 }
 
 -- sizes with their offsets, block starts, plan and region; sizes that are refused; a direct row; the rows of an indirect
--- row's slots; a managed ID at some heap bits, with offset and length; a tiny ID of a heap with IDs of that
--- length, and where its object is
+-- row's slots; an offset and a length with their managed ID; a managed ID at some heap bits, with offset and length;
+-- a tiny ID of a heap with IDs of that length, and where its object is
 pub data Case : Type 0 where
   plans : ℕ → List ℕ → List ℕ → List ℕ → ManagedPlan → Case
   refuses : ℕ → List ℕ → FormatError → Case
   direct : ℕ → Case
   indirect : ℕ → ℕ → Case
+  writes : ℕ → ℕ → List ℕ → Case
   decodes : ℕ → List ℕ → ℕ → ℕ → Case
   tiny : ℕ → List ℕ → Found → Case
 
@@ -51,6 +54,7 @@ Holds (direct r) =
 Holds (indirect r n) =
     (fixed .directBits < rowBits fixed r) × (r - fixed .widthBits ≡ n) × (rowOffset fixed n ≡ 2 ^ rowBits fixed r)
     × (directRows fixedTable ≤ r) × (sizeToRows fixedTable (blockSize fixedTable r) ≡ n) × (slotSize fixedTable r ≡ 2 ^ rowBits fixed r)
+Holds (writes offset len id) = (managedId fixed offset len ≡ id) × (idChecked fixed offset len (length id) ≡ Passed)
 Holds (decodes bits id offset len) = decodedId bits id ≡ Decoded offset len
 Holds (tiny n id found) = tinyAt n id ≡ found
 
@@ -89,6 +93,7 @@ cases =
     ∷ refuses 8 (65515 ∷ []) (ObjectTooLarge 0 65515)
     ∷ plans 8 (65514 ∷ 65514 ∷ 65514 ∷ 65514 ∷ 65514 ∷ []) (262166 ∷ 327702 ∷ 393238 ∷ 458774 ∷ 2359318 ∷ [])
     (262144 ∷ 327680 ∷ 393216 ∷ 458752 ∷ 2359296 ∷ []) (of 5 328332 11 278 4194304 327680 3858638 2424832)
+    ∷ writes 8214 1003 (0x00 ∷ 0x16 ∷ 0x20 ∷ 0x00 ∷ 0x00 ∷ 0x00 ∷ 0xEB ∷ 0x03 ∷ [])
     ∷ decodes 40 (0x00 ∷ 0x16 ∷ 0x20 ∷ 0x00 ∷ 0x00 ∷ 0x00 ∷ 0xEB ∷ 0x03 ∷ []) 8214 1003
     ∷ direct 7
     ∷ indirect 8 6
