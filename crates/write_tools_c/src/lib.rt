@@ -1,12 +1,19 @@
-// Writing a region as a C function, for tests, comparisons and tools; no part of the loader's interface.
+// Writing a region and a managed ID as C functions, for tests, comparisons and tools; no part of the loader's
+// interface.
 ghost use mathlib.Core.Path.{_≡_};
+ghost use mathlib.Core.Bool.{cond};
 ghost use lib.ListN.{length};
+ghost use lib.Dec.{ltb};
+ghost use Rattle.fields.specs.Answers.{checkedAnswer, slotNumber, slotBytes};
 ghost use Rattle.table.specs.Table.{fixed};
 ghost use Rattle.plan_steps.specs.Steps.{planOffsets, planStarts};
 ghost use Rattle.plan.specs.Answer.{written};
 ghost use Rattle.plan_numbers.specs.PlanTools.{planNumber, planTotals, afterTotals};
 ghost use Rattle.fractal_heap_write.specs.Serialize.{serialized, regionWritten};
+ghost use Rattle.managed_ids.specs.Ids.{idChecked, idWritten};
+use fields::slot::put_answer;
 use fractal_heap_write::serialize;
+use managed_ids::write_managed_id;
 use plan_numbers::put_planned;
 
 // Plans and writes, and puts the plan's eight numbers, or a refusal's pair, into the first places of `totals`; a
@@ -43,4 +50,24 @@ pub extern "C" fn tools_serialize(
         offset_size,
     );
     put_planned(totals, written)
+}
+
+// Writes a managed ID, and puts a refusal's pair, or two zeros, into the first 16 bytes of `slot`; a shorter slot
+// gives 13 before all else, and nothing is written.
+#[no_mangle]
+pub extern "C" fn tools_write_managed_id(
+    offset: u64,
+    size: u64,
+    id: &mut [u8],
+    slot: &mut [u8],
+) -> u32
+    ensures { λ r. ⌜ r ≡ slotNumber (now (slot .entry)) (checkedAnswer (idChecked fixed offset size (length (now (id .entry))))) ⌝ }
+    ensures { λ _. ⌜ now (slot .exit) ≡ slotBytes (now (slot .entry)) (checkedAnswer (idChecked fixed offset size (length (now (id .entry))))) ⌝ }
+    ensures { λ _. ⌜ now (id .exit) ≡ cond (ltb (length (now (slot .entry))) 16) (now (id .entry)) (idWritten fixed offset size (now (id .entry))) ⌝ }
+{
+    if slot.len() < 16 {
+        return 13;
+    }
+    let done = write_managed_id(offset, size, id);
+    put_answer(slot, done.answer())
 }
