@@ -1,12 +1,13 @@
 -- Placed direct blocks in heap order, by their heap offsets, and how a heap offset parts them.
-use Prim.Native.Nat.{ℕ, _+_, _≤_, _<_}
-use mathlib.Core.Path.{_≡_, refl, sym, ap, _∙_}
+use Prim.Native.Nat.{ℕ, zero, suc, _+_, _≤_, _<_}
+use mathlib.Core.Path.{_≡_, refl, sym, ap, _∙_, subst}
 use mathlib.Core.Bool.{true, false}
 use mathlib.Core.List.{List, [], _∷_, _++_}
 use native.Mathlib.Omega.{arith}
 use native.Mathlib.Nat.{zero-add}
 use native.Mathlib.Decide.{decLt}
 use lib.Dec.{ltb}
+use lib.ListN.{length, drop, getD}
 use borrow.Author.Tests.{lt-ltb, le-ltb}
 use Rattle.table.specs.Table.{Table}
 use Rattle.table.specs.Slots.{slotAt}
@@ -124,3 +125,47 @@ module _ {t : Table} where
       let z = end-up P in
       let p = slot-some t s in
       from-yes s ss end (omega arith) ∙ from-none end P u
+
+-- both parts are all of them
+pub before-from : (end : ℕ) (ss : List ℕ) → before end ss ++ from end ss ≡ ss
+unfolding before from
+before-from end [] = refl
+before-from end (s ∷ ss) = go (decLt s end) (before-from end ss)
+  where
+    go : Dec (s < end) → before end ss ++ from end ss ≡ ss → before end (s ∷ ss) ++ from end (s ∷ ss) ≡ s ∷ ss
+    go (yes u) ih = rw (before-yes s ss end u, from-yes s ss end u) (ap (λ (v : List ℕ). s ∷ v) ih)
+    go (no u) ih = rw (before-no s ss end (omega arith), from-no s ss end (omega arith))
+
+module _ {t : Table} where
+  nth-after : {lo : ℕ} {ss : List ℕ} → Placed t lo ss → (n : ℕ) → n < length ss → lo ≤ getD ss n 0
+  nth-after none n l = absurd (omega arith)
+  nth-after (more u S P) zero l = u
+  nth-after (more u S P) (suc n) l = let z = nth-after P n (omega arith) in omega arith
+
+  -- those from the n-th on begin with it
+  pub nth-from : {lo : ℕ} {ss : List ℕ} → Placed t lo ss → (n : ℕ) → n < length ss → from (getD ss n 0) ss ≡ getD ss n 0 ∷ drop (suc n) ss
+  nth-from none n l = absurd (omega arith)
+  nth-from (more {s = s} {ss = ss} u S P) zero l = from-no s ss s (omega arith)
+  nth-from (more {s = s} {ss = ss} u S P) (suc n) l =
+      let z = nth-after P n (omega arith) in
+      let p = slot-some t s in
+      from-yes s ss (getD ss n 0) (omega arith) ∙ nth-from P n (omega arith)
+
+  -- one of them ends at or before the last end
+  pub end-reached : {lo b : ℕ} {ss bs : List ℕ} → Placed t lo ss → from b ss ≡ b ∷ bs → b + slotAt t b .size ≤ lastEnd t lo ss
+  unfolding lastEnd
+  end-reached {lo} {b} {ss} {bs} P e = after (subst (Placed t b) e (from-placed b P))
+    where
+      parts : lastEnd t lo ss ≡ lastEnd t (b + slotAt t b .size) bs
+      parts = ap (lastEnd t lo) (sym (before-from b ss)) ∙ end-append t lo (before b ss) (from b ss) ∙ ap (lastEnd t (lastEnd t lo (before b ss))) e
+
+      after : Placed t b (b ∷ bs) → b + slotAt t b .size ≤ lastEnd t lo ss
+      after (more u S Q) = let z = end-up Q in let q = parts in omega arith
+
+-- and has one of their sizes
+pub size-within : (t : Table) (ss : List ℕ) {b : ℕ} {bs : List ℕ} → from b ss ≡ b ∷ bs → sizesAt t (before b ss) + slotAt t b .size ≤ sizesAt t ss
+unfolding sizesAt
+size-within t ss {b} e =
+    let z = ap (sizesAt t) (sym (before-from b ss)) ∙ sizes-append t (before b ss) (from b ss) in
+    let q = ap (sizesAt t) e in
+    omega arith

@@ -1,0 +1,222 @@
+-- In a file that holds a written region, the reader comes from the root to the block of an object.
+use Prim.Native.Nat.{ℕ, zero, suc, _+_, _-_, _*_, _^_, _≤_, _<_}
+use mathlib.Core.Path.{_≡_, refl, sym, ap, ap₂, _∙_, subst}
+use mathlib.Core.Bool.{true}
+use mathlib.Core.List.{List, [], _∷_, _++_}
+use native.Mathlib.Omega.{arith}
+use native.Mathlib.Decide.{ℕ-discrete}
+use lib.ListN.{length, take, drop, getD, length-append}
+use lib.Seq.{take-at}
+use borrow.Author.Tests.{eq-eqb, ne-eqb}
+use Rattle.fields.specs.Fields.{legal, undefinedAddr}
+use Rattle.table.specs.Table.{fixed, rowBits, rowOffset}
+use Rattle.table.specs.Slots.{slotAt}
+use Rattle.table.specs.Capacity.{sum}
+use Rattle.table.proofs.Rows.{row-mono}
+use Rattle.table.proofs.Slots.{slot-some}
+use Rattle.table_laws.proofs.Format.{SlotOf, fixed-slot}
+use Rattle.plan_steps.specs.Steps.{planOffsets, planStarts}
+use Rattle.plan_lists.specs.Lists.{fronted}
+use Rattle.plan.specs.declared.ManagedPlan.{ManagedPlan}
+use Rattle.plan.specs.declared.Planned.the-variants.{Accepted}
+use Rattle.plan.specs.Answer.{answer}
+use Rattle.plan.proofs.Answering.{accepted}
+use Rattle.plan_laws.specs.Plans.{sizesAt, InPlacedBlock}
+use Rattle.plan_laws.proofs.Root.{no-root-rows}
+use Rattle.plan_laws.proofs.Tally.{tallied}
+use Rattle.region_walk.specs.Walk.{allSlots, block}
+use Rattle.region_directs.specs.Directs.{directs}
+use Rattle.region_laws.proofs.Starts.{Placed, none, more, before, from, before-none, nth-from, end-reached, size-within}
+use Rattle.region_laws.proofs.Geometry.{root-block}
+use Rattle.region_laws.proofs.Indirect.{rooted, indirect-planned, bare-planned}
+use Rattle.fractal_heap_write.specs.Region.{indirects, indirectBytes, region}
+use Rattle.fractal_heap_write.proofs.Lengths.{indirects-some}
+use Rattle.fractal_heap_write.proofs.Planned.{indirect-bytes, indirects-planned, region-length}
+use Rattle.fractal_heap_write.proofs.Answering.{written, Fit, fit}
+use Rattle.heap_rows.specs.declared.DoublingTable.{DoublingTable}
+use Rattle.heap_blocks.specs.declared.Found.{Found}
+use Rattle.heap_blocks.specs.Blocks.{directAt, walkFrom}
+use Rattle.fractal_heap.specs.declared.header.FractalHeapHeader.{FractalHeapHeader}
+use Rattle.fractal_heap.specs.Header.{tableOf}
+use Rattle.fractal_heap.specs.Read.{rootAt}
+use Rattle.read_laws.proofs.Holding.{Has, has-some, has-left, has-right}
+use Rattle.read_laws.proofs.Agreeing.{Agrees, numbersOf, agrees}
+use Rattle.read_laws.proofs.Entries.{defined}
+use Rattle.read_laws.proofs.Finding.{Coming, found}
+use Rattle.read_back.specs.ReadBack.{Written, HoldsRegion, HeaderOf}
+use Rattle.read_back.proofs.Directs.{blockAt, directs-has}
+
+-- ---- an accepted call
+
+module _ (xs : List ℕ) (o b : ℕ) (js lent : List ℕ) (address header w : ℕ) (p : ManagedPlan) (W : Written xs o b js lent address header w p) where
+  abbrev pub starts : List ℕ
+  starts = planStarts fixed w xs
+
+  abbrev pub offsets : List ℕ
+  offsets = planOffsets fixed w xs
+
+  -- the address of the first direct block
+  abbrev pub firstDirect : ℕ
+  firstDirect = address + indirectBytes w header (p .«root_rows») starts
+
+  abbrev indirectPart : List ℕ
+  indirectPart = indirects w header (p .«root_rows») starts address firstDirect
+
+  abbrev directPart : List ℕ
+  directPart = directs fixed w header offsets xs js starts
+
+  pub planned : answer xs o b w ≡ Accepted p
+  planned = written xs o b (length js) (length lent) address header w p (W .accepted) .0
+
+  pub tests : Fit w (sum xs) (length js) (p .«region_size») (length lent) header address
+  tests = fit w (sum xs) (length js) (p .«region_size») (length lent) header address (written xs o b (length js) (length lent) address header w p (W .accepted) .1)
+
+  pub width : legal w ≡ true
+  width = accepted xs o b w p planned .0 .width
+
+  indirect-length : length indirectPart ≡ indirectBytes w header (p .«root_rows») starts
+  indirect-length = let a = indirects-planned xs o b w p planned header address firstDirect in let c = indirect-bytes xs o b w p planned header in omega arith
+
+  direct-length : length directPart ≤ sizesAt fixed starts
+  unfolding region
+  direct-length =
+      let a = region-length xs o b w p planned header address js in
+      let c = length-append indirectPart directPart in
+      let d = indirects-planned xs o b w p planned header address firstDirect in
+      let e = tallied xs o b w p planned .allocated in
+      omega arith
+
+  -- the placed blocks in heap order
+  pub starts-placed : Placed fixed 0 starts
+  starts-placed = go (ℕ-discrete (p .«root_rows») 0)
+    where
+      go : Dec (p .«root_rows» ≡ 0) → Placed fixed 0 starts
+      go (yes z) =
+          let S = fixed-slot (no-root-rows xs o b w p planned z .slot) in
+          subst (Placed fixed 0) (sym (bare-planned xs o b w p planned z .blocks)) (more {lo = 0} {s = 0} (omega arith) (record { starts = S .starts; inside = S .inside; size-is = refl }) none)
+      go (no z) = rooted xs o b w p planned (omega arith) .placed
+
+  -- ---- a placed block, the n-th
+
+  module _ (n : ℕ) (l : n < length starts) where
+    abbrev pub start : ℕ
+    start = getD starts n 0
+
+    -- its address
+    abbrev pub placeOf : ℕ
+    placeOf = firstDirect + sizesAt fixed (before start starts)
+
+    there : from start starts ≡ start ∷ drop (suc n) starts
+    there = nth-from starts-placed n l
+
+    -- it ends in the region
+    pub in-region : placeOf + slotAt fixed start .size ≤ address + p .«region_size»
+    in-region =
+        let a = size-within fixed starts there in
+        let c = indirect-bytes xs o b w p planned header in
+        let e = tallied xs o b w p planned .allocated in
+        omega arith
+
+    coming : Coming fixed start placeOf (drop (suc n) starts) 0 starts firstDirect
+    coming = record { placed = starts-placed; ahead = omega arith; there = there; stands = refl }
+
+    -- ---- in the file
+
+    module _ (F : List ℕ) (H : HoldsRegion F xs js lent address header w p) where
+      region-has : Has F address (indirectPart ++ directPart)
+      unfolding region fronted
+      region-has =
+          let R : List ℕ = region w header address (p .«root_rows») xs js in
+          let m : length R ≡ p .«region_size» = region-length xs o b w p planned header address js in
+          let i = in-region in
+          let s = slot-some fixed start in
+          has-some F address R (omega arith) (ap (λ (k : ℕ). take k (drop address F)) m ∙ H .holds ∙ take-at R (drop (length R) lent) (p .«region_size») m)
+
+      -- the block stands there
+      pub block-has : Has F placeOf (blockAt fixed w header offsets xs js start)
+      block-has =
+          directs-has fixed w header offsets xs js F firstDirect start (drop (suc n) starts) starts direct-length there
+          (subst (λ (y : ℕ). Has F (address + y) directPart) indirect-length (has-right F address indirectPart directPart region-has))
+
+      -- ---- under a header
+
+      module _ (h : FractalHeapHeader) (T : HeaderOf h address p) (t len : ℕ) (lo : start ≤ t) (hi : t < start + slotAt fixed start .size) where
+        table-is : tableOf h ≡ numbersOf fixed
+        unfolding tableOf
+        table-is = λ i. record { «table_width» = T .width i; «starting_block_size» = T .start i; «max_direct_block_size» = T .largest i; «max_heap_size» = T .bits i }
+
+        below : placeOf < 2 ^ (8 * w) - 1
+        below = let i = in-region in let e = tests .end in let s = slot-some fixed start in omega arith
+
+        -- the one block
+        by-bare : p .«root_rows» ≡ 0 → rootAt h F t len w ≡ directAt F placeOf start t len
+        unfolding rootAt sizesAt
+        by-bare z =
+            let B = bare-planned xs o b w p planned z in
+            let r = B .region in
+            let a = B .allocated in
+            let c = indirect-bytes xs o b w p planned header in
+            let q = B .place in
+            let f : start ≡ 0 = one starts (B .blocks) n l in
+            let g = ap (sizesAt fixed) (before-none start (omega arith) starts-placed) in
+            let e = T .root in
+            let u = below in
+            let d : h .«root_block_address» ≡ placeOf = omega arith in
+            rw (defined (h .«root_block_address») w (omega arith), eq-eqb (h .«current_rows_in_root_indirect_block») 0 (T .rows ∙ z)) (ap₂ (λ (x y : ℕ). directAt F x y t len) d (sym f))
+          where
+            one : (ss : List ℕ) → ss ≡ 0 ∷ [] → (n : ℕ) → n < length ss → getD ss n 0 ≡ 0
+            one ss e zero l = ap (λ (v : List ℕ). getD v 0 0) e
+            one ss e (suc n) l = absurd (let z = ap length e in omega arith)
+
+        -- or the walk over the indirect blocks
+        module _ (some : 0 < p .«root_rows») where
+          abbrev root : ℕ
+          root = address + length (allSlots fixed w header (p .«root_rows») 0 starts address firstDirect .bytes)
+
+          walk : walkFrom (numbersOf fixed) F w t len 64 root (p .«root_rows») 0 ≡ directAt F placeOf start t len
+          unfolding rowOffset rowBits
+          walk =
+              let R = rooted xs o b w p planned some in
+              let few = R .few in
+              let m = row-mono fixed (p .«root_rows») 29 few in
+              let r = R .reaches in
+              let e = end-reached starts-placed there in
+              let s = slot-some fixed start in
+              let i = indirects-some w header (p .«root_rows») starts address firstDirect some in
+              let y = ap length i in
+              let x = indirects-planned xs o b w p planned header address firstDirect in
+              let u = tests .end in
+              found fixed (omega arith) (omega arith) w header (numbersOf fixed) 29 (agrees fixed (omega arith) (omega arith) (omega arith) 29 (λ r l. omega arith)) F width
+              t len start placeOf (drop (suc n) starts) lo hi below (p .«root_rows») 0 starts address firstDirect 64 few (omega arith) (omega arith)
+              (root-block fixed (omega arith) (omega arith) (p .«root_rows») (omega arith)) coming (omega arith)
+              (subst (Has F address) i (has-left F address indirectPart directPart region-has)) (omega arith)
+
+          root-is : h .«root_block_address» ≡ root
+          root-is = T .root ∙ ap (λ (y : ℕ). address + y) (sym (indirect-planned xs o b w p planned some header address firstDirect .children))
+
+          root-below : root < 2 ^ (8 * w) - 1
+          root-below =
+              let P = indirect-planned xs o b w p planned some header address firstDirect in
+              let c = P .children in
+              let u = below in
+              let i = P .bytes in
+              let s = ap length (indirects-some w header (p .«root_rows») starts address firstDirect some) in
+              let x = indirect-length in
+              omega arith
+
+          by-walk : rootAt h F t len w ≡ directAt F placeOf start t len
+          unfolding rootAt
+          by-walk =
+              let e = root-is in
+              let u = root-below in
+              let z = T .rows in
+              rw (defined (h .«root_block_address») w (omega arith), ne-eqb (h .«current_rows_in_root_indirect_block») 0 (λ y. omega arith))
+              ((λ i. walkFrom (table-is i) F w t len 64 (e i) (z i) 0) ∙ walk)
+
+        -- from the root to the block
+        pub root-finds : rootAt h F t len w ≡ directAt F placeOf start t len
+        root-finds = go (ℕ-discrete (p .«root_rows») 0)
+          where
+            go : Dec (p .«root_rows» ≡ 0) → rootAt h F t len w ≡ directAt F placeOf start t len
+            go (yes z) = by-bare z
+            go (no z) = by-walk (omega arith)

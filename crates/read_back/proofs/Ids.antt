@@ -1,0 +1,61 @@
+-- A written ID decodes to what was written, under every header of the fixed geometry.
+use Prim.Native.Nat.{ℕ, _+_, _-_, _*_, _^_, _/_, _%_, _≤_, _<_}
+use mathlib.Core.Path.{_≡_, refl, ap, ap₂, _∙_, subst}
+use mathlib.Core.List.{List, _++_}
+use native.Mathlib.Omega.{arith}
+use native.Mathlib.Nat.{mod-eq-of-lt}
+use lib.ListN.{length, take, drop, getD, length-append}
+use lib.Pow.{high, low}
+use lib.Seq.{take-all}
+use borrow.Author.Tests.{lt-ltb, le-leb, ne-eqb}
+use Rattle.fields.specs.LittleEndian.{le, value, leAt, put}
+use Rattle.fields.specs.Fields.{putIf}
+use Rattle.fields.specs.declared.bytes.Checked.{Checked}
+use Rattle.fields.specs.declared.bytes.Checked.the-variants.{Passed}
+use Rattle.fields.proofs.LittleEndian.{length-le, value-le, value-append, put-here}
+use Rattle.table.specs.Table.{fixed}
+use Rattle.table.specs.Sizes.{offsetBytes}
+use Rattle.heap_ids.specs.declared.ManagedId.{ManagedId}
+use Rattle.heap_ids.specs.declared.ManagedId.the-variants.{Decoded}
+use Rattle.heap_ids.specs.Id.{typeOf, splitId, decodedId}
+use Rattle.managed_ids.specs.Ids.{managedId, idLength, idChecked, idWritten}
+
+module _ (o x : ℕ) where
+  id-length : length (managedId fixed o x) ≡ 8
+  unfolding managedId offsetBytes
+  id-length = simp (length-append, length-le)
+
+  module _ (lo : o < 2 ^ 40) (hi : x < 2 ^ 16) where
+    -- the number after its first byte
+    id-number : leAt (managedId fixed o x) 1 8 ≡ x * 2 ^ 40 + o
+    unfolding managedId offsetBytes leAt le
+    id-number =
+        let T : List ℕ = le 5 o ++ le 2 x in
+        let n : length T ≡ 7 = length-append (le 5 o) (le 2 x) ∙ ap₂ (λ (a b : ℕ). a + b) (length-le 5 o) (length-le 2 x) in
+        let v = value-append (le 5 o) (le 2 x) in
+        let a = value-le 5 o ∙ mod-eq-of-lt lo in
+        let b = value-le 2 x ∙ mod-eq-of-lt hi in
+        let p = ap (λ (m : ℕ). value (le 2 x) * 2 ^ (8 * m)) (length-le 5 o) in
+        ap value (take-all 8 T (omega arith)) ∙ omega arith
+
+    pub decodes : decodedId 40 (managedId fixed o x) ≡ Decoded o x
+    unfolding decodedId splitId typeOf
+    decodes =
+        let l = id-length in
+        let first : typeOf (getD (managedId fixed o x) 0 0) ≡ 0 = (unfold managedId le in refl) in
+        let m : length (managedId fixed o x) - 1 ≡ 7 = omega arith in
+        let q : leAt (managedId fixed o x) 1 8 % 2 ^ 40 ≡ o = ap (λ (v : ℕ). v % 2 ^ 40) id-number ∙ low x 40 lo in
+        let r : leAt (managedId fixed o x) 1 8 / 2 ^ 40 % 2 ^ 16 ≡ x = ap (λ (v : ℕ). v / 2 ^ 40 % 2 ^ 16) id-number ∙ ap (λ (v : ℕ). v % 2 ^ 16) (high x 40 lo) ∙ mod-eq-of-lt hi in
+        rw (ne-eqb (length (managedId fixed o x)) 0 (λ z. omega arith), first, m) (ap₂ (λ (a b : ℕ). Decoded a b) q r)
+
+    -- the ID writer accepts them
+    pub id-passes : (id : List ℕ) → 8 ≤ length id → idChecked fixed o x (length id) ≡ Passed
+    unfolding idChecked idLength offsetBytes
+    id-passes id l = rw (lt-ltb o (2 ^ 40) lo, lt-ltb x (2 ^ 16) hi, le-leb 8 (length id) l)
+
+    -- and the first eight bytes are the ID then
+    pub id-is : (id : List ℕ) → 8 ≤ length id → take 8 (idWritten fixed o x id) ≡ managedId fixed o x
+    unfolding idWritten
+    id-is id l =
+        ap (λ (c : Checked). take 8 (putIf c id 0 (managedId fixed o x))) (id-passes id l)
+        ∙ subst (λ (n : ℕ). take n (put id 0 (managedId fixed o x)) ≡ managedId fixed o x) id-length (put-here id 0 (managedId fixed o x) (let n = id-length in omega arith))

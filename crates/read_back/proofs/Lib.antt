@@ -1,0 +1,4 @@
+pub mod Ids
+pub mod Directs
+pub mod Finding
+pub mod Theorem

@@ -1,0 +1,74 @@
+-- What it means that a heap keeps its objects: document 01, 'What demand 3 means', in its order.
+use Prim.Native.Nat.{ℕ, _+_, _≤_, _<_, max}
+use mathlib.Core.Path.{_≡_}
+use mathlib.Core.List.{List, _++_}
+use lib.ListN.{length, take, drop, getD}
+use Rattle.fields.specs.declared.bytes.Checked.the-variants.{Passed}
+use Rattle.table.specs.Table.{fixed}
+use Rattle.table.specs.Slots.{Direct}
+use Rattle.table.specs.Sizes.{directHeader}
+use Rattle.table.specs.Capacity.{sum}
+use Rattle.plan_steps.specs.Steps.{planOffsets}
+use Rattle.plan.specs.declared.ManagedPlan.{ManagedPlan}
+use Rattle.plan.specs.declared.Planned.the-variants.{Accepted}
+use Rattle.plan.specs.Answer.{answer}
+use Rattle.plan_laws.specs.Plans.{InObject, FrontPart, InPlacedBlock, FreeCounted}
+use Rattle.heap_blocks.specs.declared.Found.the-variants.{At}
+use Rattle.fractal_heap.specs.declared.header.FractalHeapHeader.{FractalHeapHeader}
+use Rattle.fractal_heap.specs.Read.{managedAt}
+use Rattle.fractal_heap_write.specs.Serialize.{serialized, regionWritten}
+use Rattle.managed_ids.specs.Ids.{idChecked, idWritten}
+
+-- a call of the writer: the sizes xs, lists of o and b places, the objects' joined bytes js, the lent region as it
+-- was before the call, the two addresses and their width w; and the plan p that it is accepted with
+pub record Written (xs : List ℕ) (o b : ℕ) (js lent : List ℕ) (address header w : ℕ) (p : ManagedPlan) : Type 0 where
+  pub accepted : serialized xs o b (length js) (length lent) address header w ≡ Accepted p
+
+-- the file holds the region of this call from the region address on; its other bytes may be anything
+pub record HoldsRegion (file xs js lent : List ℕ) (address header w : ℕ) (p : ManagedPlan) : Type 0 where
+  pub holds : take (p .«region_size») (drop address file) ≡ take (p .«region_size») (regionWritten (Accepted p) w header address xs js lent)
+
+-- the header has filter length 0, the root at the region address plus the root's place, the plan's root rows and
+-- the fixed geometry; its other fields may be anything
+pub record HeaderOf (h : FractalHeapHeader) (address : ℕ) (p : ManagedPlan) : Type 0 where
+  pub unfiltered : h .«io_filter_encoded_length» ≡ 0
+  pub root : h .«root_block_address» ≡ address + p .«root_place»
+  pub rows : h .«current_rows_in_root_indirect_block» ≡ p .«root_rows»
+  pub width : h .«table_width» ≡ 4
+  pub start : h .«starting_block_size» ≡ 1024
+  pub largest : h .«max_direct_block_size» ≡ 65536
+  pub bits : h .«max_heap_size» ≡ 40
+
+-- the ID writer accepts offset and size in every lent slice of at least eight bytes; by the eight bytes of this ID
+-- `read_managed_object` accepts, with the size as length, and from the answered position on the file has `bytes`
+pub record ComesBack (file : List ℕ) (h : FractalHeapHeader) (w offset size : ℕ) (bytes : List ℕ) : Type 0 where
+  pub id-accepted : (id : List ℕ) → 8 ≤ length id → idChecked fixed offset size (length id) ≡ Passed
+  pub position : ℕ
+  pub read : (id : List ℕ) → 8 ≤ length id → managedAt h file (take 8 (idWritten fixed offset size id)) w ≡ At position size
+  pub same : take size (drop position file) ≡ bytes
+
+-- the i-th object's part of the joined bytes, which begins at the sum of the sizes before it
+unfoldable pub partOf : List ℕ → List ℕ → ℕ → List ℕ
+partOf xs js i = take (getD xs i 0) (drop (sum (take i xs)) js)
+
+-- all of it, for one accepted call of the writer
+pub record HeapKept (xs : List ℕ) (o b : ℕ) (js lent : List ℕ) (address header w : ℕ) (p : ManagedPlan) : Type 0 where
+  -- each front part plans, with the same offsets, in any lists that 13 lets pass
+  pub front-parts : (k o′ b′ : ℕ) → length (take k xs) ≤ o′ → max 1 (length (take k xs)) ≤ b′ → FrontPart xs w k o′ b′
+  -- no heap offset is a byte of two objects
+  pub no-shared-byte : (i j x : ℕ) → InObject (planOffsets fixed w xs) xs i x → InObject (planOffsets fixed w xs) xs j x → i ≡ j
+  -- each object lies in the body of a placed block
+  pub in-a-body : (i : ℕ) → i < length xs → InPlacedBlock w xs i
+  -- none has a byte in a block header
+  pub no-header-touched : (i x : ℕ) → InObject (planOffsets fixed w xs) xs i x → (s z : ℕ) → Direct fixed 29 s z → s ≤ x → x < s + directHeader fixed w → ⊥
+  -- the free space is the number of heap offsets in bodies and in no object
+  pub free-space : FreeCounted w xs p
+  -- every nonempty object's ID finds exactly its bytes
+  pub comes-back : (file : List ℕ) → HoldsRegion file xs js lent address header w p → (h : FractalHeapHeader) → HeaderOf h address p
+      → (i : ℕ) → i < length xs → 0 < getD xs i 0 → ComesBack file h w (getD (planOffsets fixed w xs) i 0) (getD xs i 0) (partOf xs js i)
+
+-- an ID given when the run had the sizes ys and the joined bytes ks: in the longer run ys ++ zs its object has the
+-- same ID, and by it the file of the longer run gives the bytes that the object had then
+pub record EarlyIdHolds (ys zs ks file : List ℕ) (h : FractalHeapHeader) (w i : ℕ) : Type 0 where
+  pub same-id : (id : List ℕ) → idWritten fixed (getD (planOffsets fixed w ys) i 0) (getD ys i 0) id ≡ idWritten fixed (getD (planOffsets fixed w (ys ++ zs)) i 0) (getD (ys ++ zs) i 0) id
+  pub comes-back : ComesBack file h w (getD (planOffsets fixed w ys) i 0) (getD ys i 0) (partOf ys ks i)
