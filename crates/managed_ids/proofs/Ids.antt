@@ -1,5 +1,5 @@
 -- Laws of the ID writer: its stores are one store, and a test that passed leaves room for them.
-use Prim.Native.Nat.{ℕ, suc, _+_, _^_, _≤_}
+use Prim.Native.Nat.{ℕ, suc, _+_, _^_, _≤_, _<_}
 use mathlib.Core.Path.{_≡_, refl, sym, ap, _∙_}
 use mathlib.Core.Bool.{Bool, true, false, cond, _&&_}
 use mathlib.Core.List.{List, [], _∷_, _++_}
@@ -8,7 +8,7 @@ use native.Mathlib.Nat.{add-zero, add-suc, suc-add}
 use lib.ListN.{length, length-append, set}
 use lib.Seq.{sets}
 use lib.Dec.{leb, ltb}
-use borrow.Author.Tests.{leb-true}
+use borrow.Author.Tests.{leb-true, ltb-true}
 use Rattle.fields.specs.LittleEndian.{le, put}
 use Rattle.fields.specs.Fields.{putIf}
 use Rattle.fields.specs.declared.bytes.Checked.{Checked}
@@ -45,15 +45,22 @@ id-stores s s₁ s₂ s₃ o n room e f g =
     g ∙ rw (f, e) (put-then (put s 0 (le 1 0)) 1 6 (le 5 o) (le 2 n) (omega arith) (omega arith))
     ∙ put-then s 0 1 (le 1 0) (le 5 o ++ le 2 n) (omega arith) rest
 
-room-of : (b r : Bool) (lent o n : ℕ) → cond b (cond r Passed (NotPassed (SliceTooShort 8 lent))) (NotPassed (HeapIdTooLarge o n)) ≡ Passed → r ≡ true
-room-of true true lent o n h = refl
-room-of true false lent o n h = let z : _≡_ {A = ℕ} 0 1 = cc in absurd (omega arith)
-room-of false r lent o n h = let z : _≡_ {A = ℕ} 0 1 = cc in absurd (omega arith)
+-- what is known of an ID that is not refused
+pub record Held (o x lent : ℕ) : Type 0 where
+  pub offset : o < 2 ^ 40
+  pub size : x < 2 ^ 16
+  pub room : 8 ≤ lent
 
--- an ID that is not refused has its room
-pub id-room : (o n lent : ℕ) → idChecked fixed o n lent ≡ Passed → 8 ≤ lent
+pub held : (o x lent : ℕ) → idChecked fixed o x lent ≡ Passed → Held o x lent
 unfolding idChecked idLength offsetBytes
-id-room o n lent h = leb-true 8 lent (room-of (ltb o (2 ^ 40) && ltb n (2 ^ 16)) (leb 8 lent) lent o n h)
+held o x lent e = go (ltb o (2 ^ 40)) refl (ltb x (2 ^ 16)) refl (leb 8 lent) refl e
+  where
+    go : (u : Bool) → ltb o (2 ^ 40) ≡ u → (v : Bool) → ltb x (2 ^ 16) ≡ v → (r : Bool) → leb 8 lent ≡ r
+        → cond (u && v) (cond r Passed (NotPassed (SliceTooShort 8 lent))) (NotPassed (HeapIdTooLarge o x)) ≡ Passed → Held o x lent
+    go true a true b true c e = record { offset = ltb-true o (2 ^ 40) a; size = ltb-true x (2 ^ 16) b; room = leb-true 8 lent c }
+    go true a true b false c e = absurd (let z : _≡_ {A = ℕ} 0 1 = cc in omega arith)
+    go true a false b r c e = absurd (let z : _≡_ {A = ℕ} 0 1 = cc in omega arith)
+    go false a v b r c e = absurd (let z : _≡_ {A = ℕ} 0 1 = cc in omega arith)
 
 -- what the test's answer makes of the lent bytes
 pub id-passed : (t : Table) (o n : ℕ) (s : List ℕ) → idChecked t o n (length s) ≡ Passed → idWritten t o n s ≡ put s 0 (managedId t o n)

@@ -27,7 +27,7 @@ use Rattle.plan_laws.proofs.Tally.{tallied}
 use Rattle.region_walk.specs.Walk.{allSlots, block}
 use Rattle.region_directs.specs.Directs.{directs}
 use Rattle.region_laws.proofs.Starts.{Placed, none, more, before, from, before-none, nth-from, end-reached, size-within}
-use Rattle.region_laws.proofs.Geometry.{root-block}
+use Rattle.region_laws.proofs.Geometry.{BlockAt, root-block}
 use Rattle.region_laws.proofs.Indirect.{rooted, indirect-planned, bare-planned}
 use Rattle.fractal_heap_write.specs.Region.{indirects, indirectBytes, region}
 use Rattle.fractal_heap_write.proofs.Lengths.{indirects-some}
@@ -42,7 +42,9 @@ use Rattle.fractal_heap.specs.Read.{rootAt}
 use Rattle.read_laws.proofs.Holding.{Has, has-some, has-left, has-right}
 use Rattle.read_laws.proofs.Agreeing.{Agrees, numbersOf, agrees}
 use Rattle.read_laws.proofs.Entries.{defined}
+use Rattle.read_laws.proofs.Standing.{missed}
 use Rattle.read_laws.proofs.Finding.{Coming, found}
+use Rattle.read_laws.proofs.Missing.{Clear, not-found}
 use Rattle.read_back.specs.ReadBack.{Written, HoldsRegion, HeaderOf}
 use Rattle.read_back.proofs.Directs.{blockAt, directs-has}
 
@@ -140,7 +142,7 @@ module _ (xs : List ℕ) (o b : ℕ) (js lent : List ℕ) (address header w : �
 
       -- ---- under a header
 
-      module _ (h : FractalHeapHeader) (T : HeaderOf h address p) (t len : ℕ) (lo : start ≤ t) (hi : t < start + slotAt fixed start .size) where
+      module _ (h : FractalHeapHeader) (T : HeaderOf h address p) (t len : ℕ) where
         table-is : tableOf h ≡ numbersOf fixed
         unfolding tableOf
         table-is = λ i. record { «table_width» = T .width i; «starting_block_size» = T .start i; «max_direct_block_size» = T .largest i; «max_heap_size» = T .bits i }
@@ -148,8 +150,8 @@ module _ (xs : List ℕ) (o b : ℕ) (js lent : List ℕ) (address header w : �
         below : placeOf < 2 ^ (8 * w) - 1
         below = let i = in-region in let e = tests .end in let s = slot-some fixed start in omega arith
 
-        -- the one block
-        by-bare : p .«root_rows» ≡ 0 → rootAt h F t len w ≡ directAt F placeOf start t len
+        -- a root of no rows is the one block
+        pub by-bare : p .«root_rows» ≡ 0 → rootAt h F t len w ≡ directAt F placeOf start t len
         unfolding rootAt sizesAt
         by-bare z =
             let B = bare-planned xs o b w p planned z in
@@ -168,28 +170,33 @@ module _ (xs : List ℕ) (o b : ℕ) (js lent : List ℕ) (address header w : �
             one ss e zero l = ap (λ (v : List ℕ). getD v 0 0) e
             one ss e (suc n) l = absurd (let z = ap length e in omega arith)
 
-        -- or the walk over the indirect blocks
+        -- from a root of some rows the walk goes over the indirect blocks
         module _ (some : 0 < p .«root_rows») where
           abbrev root : ℕ
           root = address + length (allSlots fixed w header (p .«root_rows») 0 starts address firstDirect .bytes)
 
-          walk : walkFrom (numbersOf fixed) F w t len 64 root (p .«root_rows») 0 ≡ directAt F placeOf start t len
-          unfolding rowOffset rowBits
-          walk =
-              let R = rooted xs o b w p planned some in
-              let few = R .few in
-              let m = row-mono fixed (p .«root_rows») 29 few in
-              let r = R .reaches in
-              let e = end-reached starts-placed there in
-              let s = slot-some fixed start in
-              let i = indirects-some w header (p .«root_rows») starts address firstDirect some in
-              let y = ap length i in
-              let x = indirects-planned xs o b w p planned header address firstDirect in
-              let u = tests .end in
-              found fixed (omega arith) (omega arith) w header (numbersOf fixed) 29 (agrees fixed (omega arith) (omega arith) (omega arith) 29 (λ r l. omega arith)) F width
-              t len start placeOf (drop (suc n) starts) lo hi below (p .«root_rows») 0 starts address firstDirect 64 few (omega arith) (omega arith)
-              (root-block fixed (omega arith) (omega arith) (p .«root_rows») (omega arith)) coming (omega arith)
-              (subst (Has F address) i (has-left F address indirectPart directPart region-has)) (omega arith)
+          few : p .«root_rows» ≤ 29
+          few = rooted xs o b w p planned some .few
+
+          span-small : 0 + rowOffset fixed (p .«root_rows») < 2 ^ 64
+          unfolding rowOffset
+          span-small = let m = row-mono fixed (p .«root_rows») 29 few in omega arith
+
+          agree : Agrees (numbersOf fixed) fixed 29
+          unfolding rowBits
+          agree = agrees fixed (omega arith) (omega arith) (omega arith) 29 (λ r l. omega arith)
+
+          is-block : BlockAt fixed (p .«root_rows») 0
+          is-block = root-block fixed (omega arith) (omega arith) (p .«root_rows») (omega arith)
+
+          blocks-are : indirectPart ≡ block fixed w header (p .«root_rows») 0 starts address firstDirect .bytes
+          blocks-are = indirects-some w header (p .«root_rows») starts address firstDirect some
+
+          blocks-have : Has F address (block fixed w header (p .«root_rows») 0 starts address firstDirect .bytes)
+          blocks-have = subst (Has F address) blocks-are (has-left F address indirectPart directPart region-has)
+
+          blocks-below : address + length (block fixed w header (p .«root_rows») 0 starts address firstDirect .bytes) ≤ 2 ^ (8 * w) - 1
+          blocks-below = let y = ap length blocks-are in let x = indirects-planned xs o b w p planned header address firstDirect in let u = tests .end in omega arith
 
           root-is : h .«root_block_address» ≡ root
           root-is = T .root ∙ ap (λ (y : ℕ). address + y) (sym (indirect-planned xs o b w p planned some header address firstDirect .children))
@@ -200,23 +207,39 @@ module _ (xs : List ℕ) (o b : ℕ) (js lent : List ℕ) (address header w : �
               let c = P .children in
               let u = below in
               let i = P .bytes in
-              let s = ap length (indirects-some w header (p .«root_rows») starts address firstDirect some) in
+              let s = ap length blocks-are in
               let x = indirect-length in
               omega arith
 
-          by-walk : rootAt h F t len w ≡ directAt F placeOf start t len
+          by-walk : (x : Found) → walkFrom (numbersOf fixed) F w t len 64 root (p .«root_rows») 0 ≡ x → rootAt h F t len w ≡ x
           unfolding rootAt
-          by-walk =
+          by-walk x q =
               let e = root-is in
               let u = root-below in
               let z = T .rows in
               rw (defined (h .«root_block_address») w (omega arith), ne-eqb (h .«current_rows_in_root_indirect_block») 0 (λ y. omega arith))
-              ((λ i. walkFrom (table-is i) F w t len 64 (e i) (z i) 0) ∙ walk)
+              ((λ i. walkFrom (table-is i) F w t len 64 (e i) (z i) 0) ∙ q)
+
+          by-found : start ≤ t → t < start + slotAt fixed start .size → rootAt h F t len w ≡ directAt F placeOf start t len
+          by-found lo hi =
+              let r = rooted xs o b w p planned some .reaches in
+              let e = end-reached starts-placed there in
+              let s = slot-some fixed start in
+              let f = few in
+              by-walk (directAt F placeOf start t len)
+              (found fixed (omega arith) (omega arith) w header (numbersOf fixed) 29 agree F width t len start placeOf (drop (suc n) starts) lo hi below (p .«root_rows») 0 starts address firstDirect 64 few (omega arith) span-small is-block coming (omega arith) blocks-have blocks-below)
+
+          -- where no placed block holds the offset
+          pub by-missing : Clear fixed t starts → rootAt h F t len w ≡ missed F t len
+          by-missing X =
+              let f = few in
+              by-walk (missed F t len)
+              (not-found fixed (omega arith) (omega arith) w header (numbersOf fixed) 29 agree F width t len (p .«root_rows») 0 starts address firstDirect 64 few (omega arith) span-small is-block starts-placed X blocks-have blocks-below)
 
         -- from the root to the block
-        pub root-finds : rootAt h F t len w ≡ directAt F placeOf start t len
-        root-finds = go (ℕ-discrete (p .«root_rows») 0)
+        pub root-finds : start ≤ t → t < start + slotAt fixed start .size → rootAt h F t len w ≡ directAt F placeOf start t len
+        root-finds lo hi = go (ℕ-discrete (p .«root_rows») 0)
           where
             go : Dec (p .«root_rows» ≡ 0) → rootAt h F t len w ≡ directAt F placeOf start t len
             go (yes z) = by-bare z
-            go (no z) = by-walk (omega arith)
+            go (no z) = by-found (omega arith) lo hi

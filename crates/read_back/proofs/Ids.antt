@@ -9,8 +9,6 @@ use lib.Pow.{high, low}
 use lib.Seq.{take-all}
 use borrow.Author.Tests.{lt-ltb, le-leb, ne-eqb}
 use Rattle.fields.specs.LittleEndian.{le, value, leAt, put}
-use Rattle.fields.specs.Fields.{putIf}
-use Rattle.fields.specs.declared.bytes.Checked.{Checked}
 use Rattle.fields.specs.declared.bytes.Checked.the-variants.{Passed}
 use Rattle.fields.proofs.LittleEndian.{length-le, value-le, value-append, put-here}
 use Rattle.table.specs.Table.{fixed}
@@ -18,7 +16,9 @@ use Rattle.table.specs.Sizes.{offsetBytes}
 use Rattle.heap_ids.specs.declared.ManagedId.{ManagedId}
 use Rattle.heap_ids.specs.declared.ManagedId.the-variants.{Decoded}
 use Rattle.heap_ids.specs.Id.{typeOf, splitId, decodedId}
+use Rattle.fractal_heap.specs.declared.header.FractalHeapHeader.{FractalHeapHeader}
 use Rattle.managed_ids.specs.Ids.{managedId, idLength, idChecked, idWritten}
+use Rattle.managed_ids.proofs.Ids.{held, id-passed}
 
 module _ (o x : ℕ) where
   id-length : length (managedId fixed o x) ≡ 8
@@ -55,7 +55,13 @@ module _ (o x : ℕ) where
 
     -- and the first eight bytes are the ID then
     pub id-is : (id : List ℕ) → 8 ≤ length id → take 8 (idWritten fixed o x id) ≡ managedId fixed o x
-    unfolding idWritten
     id-is id l =
-        ap (λ (c : Checked). take 8 (putIf c id 0 (managedId fixed o x))) (id-passes id l)
+        ap (take 8) (id-passed fixed o x id (id-passes id l))
         ∙ subst (λ (n : ℕ). take n (put id 0 (managedId fixed o x)) ≡ managedId fixed o x) id-length (put-here id 0 (managedId fixed o x) (let n = id-length in omega arith))
+
+-- what the ID writer accepts decodes to its pair, under every header of the fixed geometry
+pub id-round-trip : (o x : ℕ) (id : List ℕ) → idChecked fixed o x (length id) ≡ Passed → (h : FractalHeapHeader) → h .«max_heap_size» ≡ 40
+    → decodedId (h .«max_heap_size») (take 8 (idWritten fixed o x id)) ≡ Decoded o x
+id-round-trip o x id e h bits =
+    let H = held o x (length id) e in
+    ap₂ decodedId bits (id-is o x (H .offset) (H .size) id (H .room)) ∙ decodes o x (H .offset) (H .size)

@@ -2,3 +2,4 @@ pub mod Ids
 pub mod Directs
 pub mod Finding
 pub mod Theorem
+pub mod Empty

@@ -19,6 +19,8 @@ use Rattle.table.proofs.Capacity.{sum-take-suc, sum-take-le}
 use Rattle.table_laws.proofs.Format.{SlotOf, direct-local, fixed-slot}
 use Rattle.plan_steps.specs.Steps.{planOffsets, planStarts}
 use Rattle.plan.specs.declared.ManagedPlan.{ManagedPlan}
+use Rattle.plan.specs.declared.Planned.the-variants.{Accepted}
+use Rattle.plan.specs.Answer.{answer}
 use Rattle.plan.proofs.Answering.{accepted}
 use Rattle.plan_checks.proofs.Checking.{all-small}
 use Rattle.plan_laws.specs.Plans.{InPlacedBlock}
@@ -37,7 +39,7 @@ use Rattle.fractal_heap.specs.declared.header.FractalHeapHeader.{FractalHeapHea
 use Rattle.fractal_heap.specs.Read.{rootAt, afterId, managedAt}
 use Rattle.managed_ids.specs.Ids.{managedId, idWritten}
 use Rattle.read_laws.proofs.Holding.{Has, has-part}
-use Rattle.read_back.specs.ReadBack.{Written, HoldsRegion, HeaderOf, ComesBack, partOf, HeapKept, EarlyIdHolds}
+use Rattle.read_back.specs.ReadBack.{Written, HoldsRegion, HeaderOf, ComesBack, partOf, PlanKept, HeapKept, EarlyIdHolds}
 use Rattle.read_back.proofs.Ids.{decodes, id-passes, id-is}
 use Rattle.read_back.proofs.Directs.{block-least, blockAt}
 use Rattle.read_back.proofs.Finding.{planned, tests, start, placeOf, in-region, block-has, root-finds}
@@ -45,7 +47,7 @@ use Rattle.read_back.proofs.Finding.{planned, tests, start, placeOf, in
 -- ---- the reader by an ID
 
 -- by a written ID the reader looks for what it was written for
-by-id : (h : FractalHeapHeader) (F : List ℕ) (w o x address : ℕ) (p : ManagedPlan) → HeaderOf h address p → o < 2 ^ 40 → x < 2 ^ 16 → (id : List ℕ) → 8 ≤ length id
+pub by-id : (h : FractalHeapHeader) (F : List ℕ) (w o x address : ℕ) (p : ManagedPlan) → HeaderOf h address p → o < 2 ^ 40 → x < 2 ^ 16 → (id : List ℕ) → 8 ≤ length id
     → managedAt h F (take 8 (idWritten fixed o x id)) w ≡ rootAt h F o x w
 unfolding managedAt
 by-id h F w o x address p T lo hi id l =
@@ -54,7 +56,7 @@ by-id h F w o x address p T lo hi id l =
     rw (le-ltb 0 (h .«io_filter_encoded_length») (omega arith)) (ap (λ (y : ManagedId). afterId y (λ t len. rootAt h F t len w)) (e ∙ decodes o x lo hi))
 
 -- len bytes in a block that the file holds
-in-block : (F : List ℕ) (a b t len : ℕ) → a + (t - b) ≤ 2 ^ 64 - 1 → a + (t - b) + len ≤ length F → directAt F a b t len ≡ At (a + (t - b)) len
+pub in-block : (F : List ℕ) (a b t len : ℕ) → a + (t - b) ≤ 2 ^ 64 - 1 → a + (t - b) + len ≤ length F → directAt F a b t len ≡ At (a + (t - b)) len
 unfolding directAt lenChecked
 in-block F a b t len u v = rw (le-leb (t - b) (2 ^ 64 - 1 - a) (omega arith), le-leb (a + (t - b) + len) (length F) v)
 
@@ -143,18 +145,19 @@ module _ (xs : List ℕ) (o b : ℕ) (js lent : List ℕ) (address header w : �
 
 -- ---- the theorem
 
--- what the writer accepts is kept, all of it
-pub heap-kept : (xs : List ℕ) (o b : ℕ) (js lent : List ℕ) (address header w : ℕ) (p : ManagedPlan) → Written xs o b js lent address header w p → HeapKept xs o b js lent address header w p
-heap-kept xs o b js lent address header w p W =
-    let e = planned xs o b js lent address header w p W in
+pub plan-kept : (xs : List ℕ) (o b w : ℕ) (p : ManagedPlan) → answer xs o b w ≡ Accepted p → PlanKept xs w p
+plan-kept xs o b w p e =
     record {
       front-parts = front-part xs o b w p e;
       no-shared-byte = no-shared-byte xs o b w p e;
       in-a-body = in-one-body xs o b w p e;
       no-header-touched = no-header-touched xs o b w p e;
       free-space = free-is-count xs o b w p e;
-      comes-back = nonempty-back xs o b js lent address header w p W;
     }
+
+-- demand 3
+pub heap-kept : HeapKept
+heap-kept = record { planned = plan-kept; comes-back = nonempty-back }
 
 -- ---- an ID that was given early
 

@@ -1,9 +1,10 @@
 -- What it means that a heap keeps its objects: document 01, 'What demand 3 means', in its order.
-use Prim.Native.Nat.{ℕ, _+_, _≤_, _<_, max}
+use Prim.Native.Nat.{ℕ, _+_, _^_, _≤_, _<_, max}
 use mathlib.Core.Path.{_≡_}
 use mathlib.Core.List.{List, _++_}
 use lib.ListN.{length, take, drop, getD}
-use Rattle.fields.specs.declared.bytes.Checked.the-variants.{Passed}
+use Rattle.refusals.specs.declared.FormatError.the-variants.{UnexpectedEof, HeapIdTooLarge}
+use Rattle.fields.specs.declared.bytes.Checked.the-variants.{Passed, Refused as NotPassed}
 use Rattle.table.specs.Table.{fixed}
 use Rattle.table.specs.Slots.{Direct}
 use Rattle.table.specs.Sizes.{directHeader}
@@ -13,7 +14,7 @@ use Rattle.plan.specs.declared.ManagedPlan.{ManagedPlan}
 use Rattle.plan.specs.declared.Planned.the-variants.{Accepted}
 use Rattle.plan.specs.Answer.{answer}
 use Rattle.plan_laws.specs.Plans.{InObject, FrontPart, InPlacedBlock, FreeCounted}
-use Rattle.heap_blocks.specs.declared.Found.the-variants.{At}
+use Rattle.heap_blocks.specs.declared.Found.the-variants.{At, Refused}
 use Rattle.fractal_heap.specs.declared.header.FractalHeapHeader.{FractalHeapHeader}
 use Rattle.fractal_heap.specs.Read.{managedAt}
 use Rattle.fractal_heap_write.specs.Serialize.{serialized, regionWritten}
@@ -51,10 +52,10 @@ pub record ComesBack (file : List ℕ) (h : FractalHeapHeader) (w offset size : 
 unfoldable pub partOf : List ℕ → List ℕ → ℕ → List ℕ
 partOf xs js i = take (getD xs i 0) (drop (sum (take i xs)) js)
 
--- all of it, for one accepted call of the writer
-pub record HeapKept (xs : List ℕ) (o b : ℕ) (js lent : List ℕ) (address header w : ℕ) (p : ManagedPlan) : Type 0 where
+-- of a plan that is accepted
+pub record PlanKept (xs : List ℕ) (w : ℕ) (p : ManagedPlan) : Type 0 where
   -- each front part plans, with the same offsets, in any lists that 13 lets pass
-  pub front-parts : (k o′ b′ : ℕ) → length (take k xs) ≤ o′ → max 1 (length (take k xs)) ≤ b′ → FrontPart xs w k o′ b′
+  pub front-parts : (k o b : ℕ) → length (take k xs) ≤ o → max 1 (length (take k xs)) ≤ b → FrontPart xs w k o b
   -- no heap offset is a byte of two objects
   pub no-shared-byte : (i j x : ℕ) → InObject (planOffsets fixed w xs) xs i x → InObject (planOffsets fixed w xs) xs j x → i ≡ j
   -- each object lies in the body of a placed block
@@ -63,8 +64,13 @@ pub record HeapKept (xs : List ℕ) (o b : ℕ) (js lent : List ℕ) (address he
   pub no-header-touched : (i x : ℕ) → InObject (planOffsets fixed w xs) xs i x → (s z : ℕ) → Direct fixed 29 s z → s ≤ x → x < s + directHeader fixed w → ⊥
   -- the free space is the number of heap offsets in bodies and in no object
   pub free-space : FreeCounted w xs p
-  -- every nonempty object's ID finds exactly its bytes
-  pub comes-back : (file : List ℕ) → HoldsRegion file xs js lent address header w p → (h : FractalHeapHeader) → HeaderOf h address p
+
+-- demand 3: what planning accepts is kept apart, and by its ID every nonempty object of what the writer accepts is
+-- found in the file, with exactly its bytes
+pub record HeapKept : Type 0 where
+  pub planned : (xs : List ℕ) (o b w : ℕ) (p : ManagedPlan) → answer xs o b w ≡ Accepted p → PlanKept xs w p
+  pub comes-back : (xs : List ℕ) (o b : ℕ) (js lent : List ℕ) (address header w : ℕ) (p : ManagedPlan) → Written xs o b js lent address header w p
+      → (file : List ℕ) → HoldsRegion file xs js lent address header w p → (h : FractalHeapHeader) → HeaderOf h address p
       → (i : ℕ) → i < length xs → 0 < getD xs i 0 → ComesBack file h w (getD (planOffsets fixed w xs) i 0) (getD xs i 0) (partOf xs js i)
 
 -- an ID given when the run had the sizes ys and the joined bytes ks: in the longer run ys ++ zs its object has the
@@ -72,3 +78,16 @@ pub record HeapKept (xs : List ℕ) (o b : ℕ) (js lent : List ℕ) (address he
 pub record EarlyIdHolds (ys zs ks file : List ℕ) (h : FractalHeapHeader) (w i : ℕ) : Type 0 where
   pub same-id : (id : List ℕ) → idWritten fixed (getD (planOffsets fixed w ys) i 0) (getD ys i 0) id ≡ idWritten fixed (getD (planOffsets fixed w (ys ++ zs)) i 0) (getD (ys ++ zs) i 0) id
   pub comes-back : ComesBack file h w (getD (planOffsets fixed w ys) i 0) (getD ys i 0) (partOf ys ks i)
+
+-- What document 01 leaves free: by the ID of an empty object the reader accepts, with length 0 at a place of the
+-- file, or, under an indirect root alone, it refuses by 1 with the object's offset and the file's length
+pub data EmptyRead (file : List ℕ) (h : FractalHeapHeader) (w offset rows : ℕ) : Type 0 where
+  accepts : (position : ℕ) → position ≤ length file → ((id : List ℕ) → 8 ≤ length id → managedAt h file (take 8 (idWritten fixed offset 0 id)) w ≡ At position 0) → EmptyRead file h w offset rows
+  refuses : 0 < rows → ((id : List ℕ) → 8 ≤ length id → managedAt h file (take 8 (idWritten fixed offset 0 id)) w ≡ Refused (UnexpectedEof offset (length file))) → EmptyRead file h w offset rows
+
+-- its offset is at most the heap's end, and there alone it has no ID
+pub record EmptyAnswered (file : List ℕ) (h : FractalHeapHeader) (w offset rows : ℕ) : Type 0 where
+  pub within : offset ≤ 2 ^ 40
+  pub id-accepted : offset < 2 ^ 40 → (id : List ℕ) → 8 ≤ length id → idChecked fixed offset 0 (length id) ≡ Passed
+  pub id-refused : offset ≡ 2 ^ 40 → (id : List ℕ) → idChecked fixed offset 0 (length id) ≡ NotPassed (HeapIdTooLarge offset 0)
+  pub read : offset < 2 ^ 40 → EmptyRead file h w offset rows

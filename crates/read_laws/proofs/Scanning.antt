@@ -47,8 +47,8 @@ leads-inside t w header d N A F s target len depth r at ss pos next e ok l dr fi
 
 module _ (t : Table) (w header : ℕ) (d : DoublingTable) (N : ℕ) (A : Agrees d t N) (F s : List ℕ) (target : ℕ) (n base : ℕ) (few : n ≤ N) (then : HeapChild → Found) (answer : Found) (Holds : ℕ → List ℕ → ℕ → Type 0)
     (law : (r at : ℕ) (ss : List ℕ) (pos next e : ℕ) → SlotAt t n base r at → Holds at ss next → Stands F s w pos e (slot t w header (smaller t w header n) r at ss pos next)
-        → Settled d then answer s w (2 ^ rowBits t r) target r e at
-        ⊎ (Passed s w (2 ^ rowBits t r) target e at × Holds (at + 2 ^ rowBits t r) (slot t w header (smaller t w header n) r at ss pos next .rest) (slot t w header (smaller t w header n) r at ss pos next .next)))
+    → Settled d then answer s w (2 ^ rowBits t r) target r e at
+    ⊎ (Passed s w (2 ^ rowBits t r) target e at × Holds (at + 2 ^ rowBits t r) (slot t w header (smaller t w header n) r at ss pos next .rest) (slot t w header (smaller t w header n) r at ss pos next .next)))
     (ends : (ss : List ℕ) (next : ℕ) → Holds (base + rowOffset t n) ss next → then Missing ≡ answer) where
   -- k rows from row r on
   abbrev InRows : ℕ → ℕ → Type 0

@@ -1,7 +1,7 @@
 -- `write_managed_id` meets its contract: the test decides both the answer and the bytes. Assumes nothing.
 use mathlib.Core.Path.{sym, _∙_}
 use borrow.Author.Needs.{needs}
-use Rattle.managed_ids.proofs.Ids.{id-room, id-passed, id-refused}
+use Rattle.managed_ids.proofs.Ids.{held, id-passed, id-refused}
 use Rattle.managed_ids.proofs.write_managed_id.Statement.{statement}
 use Rattle.managed_ids.proofs.write_managed_id.Tie as tie
 
@@ -12,7 +12,7 @@ enum-told : tie.Need-enum-told
 enum-told c = search needs
 
 put-id-requires : tie.Need-put-id-requires
-put-id-requires c κs = id-room _ _ _ (sym (c .before .before .before .check-id .ensures) ∙ c .before .enum-told .given .1)
+put-id-requires c κs = held _ _ _ (sym (c .before .before .before .check-id .ensures) ∙ c .before .enum-told .given .1) .room
 
 enum-known-e : tie.Need-enum-known-e
 enum-known-e c = search needs

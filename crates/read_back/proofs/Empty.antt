@@ -1,0 +1,120 @@
+-- An empty object: where the reader finds it, and where it answers 1.
+use Prim.Native.Nat.{ℕ, zero, suc, _+_, _-_, _*_, _^_, _≤_, _<_}
+use mathlib.Core.Path.{_≡_, refl, sym, ap, _∙_, subst}
+use mathlib.Core.Logic.{_⊎_, inl, inr}
+use mathlib.Core.Bool.{Bool, true, false, _&&_}
+use mathlib.Core.List.{List, [], _∷_}
+use native.Mathlib.Omega.{arith}
+use native.Mathlib.Decide.{ℕ-discrete, decLe, decLt}
+use lib.ListN.{length, getD}
+use lib.Pow.{pow-mono}
+use borrow.Author.Tests.{le-ltb}
+use Rattle.fields.specs.Fields.{saturated}
+use Rattle.fields.proofs.Fields.{legal-small}
+use Rattle.refusals.specs.declared.FormatError.the-variants.{UnexpectedEof, HeapIdTooLarge}
+use Rattle.fields.specs.declared.bytes.Checked.the-variants.{Refused as NotPassed}
+use Rattle.table.specs.Table.{Table, fixed, rowOffset}
+use Rattle.table.specs.Slots.{slotAt}
+use Rattle.table_laws.proofs.Format.{direct-local, fixed-slot}
+use Rattle.plan_steps.specs.Steps.{planOffsets, planStarts}
+use Rattle.plan.specs.declared.ManagedPlan.{ManagedPlan}
+use Rattle.plan_laws.specs.Plans.{InPlacedBlock}
+use Rattle.plan_laws.proofs.Objects.{in-one-body}
+use Rattle.region_directs.specs.Directs.{objectsIn}
+use Rattle.heap_rows.proofs.Saturating.{sat-fits}
+use Rattle.heap_blocks.specs.declared.Found.{Found}
+use Rattle.heap_blocks.specs.declared.Found.the-variants.{At, Refused}
+use Rattle.heap_blocks.specs.Blocks.{directAt}
+use Rattle.fractal_heap.specs.declared.header.FractalHeapHeader.{FractalHeapHeader}
+use Rattle.fractal_heap.specs.Read.{rootAt}
+use Rattle.managed_ids.specs.Ids.{idChecked}
+use Rattle.read_laws.proofs.Missing.{Clear, none, more}
+use Rattle.read_back.specs.ReadBack.{Written, HoldsRegion, HeaderOf, EmptyRead, accepts, refuses, EmptyAnswered}
+use Rattle.read_back.proofs.Ids.{id-passes}
+use Rattle.read_back.proofs.Directs.{block-least}
+use Rattle.read_back.proofs.Finding.{planned, tests, width, start, placeOf, in-region, block-has, by-bare, by-missing, root-finds}
+use Rattle.read_back.proofs.Theorem.{by-id, in-block}
+
+-- the n-th of the blocks ss holds x
+record Holder (t : Table) (x : ℕ) (ss : List ℕ) : Type 0 where
+  n : ℕ
+  placed : n < length ss
+  from : getD ss n 0 ≤ x
+  to : x < getD ss n 0 + slotAt t (getD ss n 0) .size
+
+-- one of them does, or none
+holder : (t : Table) (x : ℕ) (ss : List ℕ) → Holder t x ss ⊎ Clear t x ss
+holder t x [] = inr none
+holder t x (s ∷ ss) = go (decLe s x) (decLt x (s + slotAt t s .size)) (holder t x ss)
+  where
+    go : Dec (s ≤ x) → Dec (x < s + slotAt t s .size) → Holder t x ss ⊎ Clear t x ss → Holder t x (s ∷ ss) ⊎ Clear t x (s ∷ ss)
+    go (yes l) (yes u) r = inl (record { n = 0; placed = omega arith; from = l; to = u })
+    go l (no u) (inl H) = inl (record { n = suc (H .n); placed = (let p = H .placed in omega arith); from = H .from; to = H .to })
+    go l (no u) (inr C) = inr (more {s = s} (λ _. omega arith) C)
+    go (no l) (yes u) (inl H) = inl (record { n = suc (H .n); placed = (let p = H .placed in omega arith); from = H .from; to = H .to })
+    go (no l) (yes u) (inr C) = inr (more (λ k. absurd (l k)) C)
+
+-- at the heap's end there is no ID
+no-id : (o : ℕ) → o ≡ 2 ^ 40 → (id : List ℕ) → idChecked fixed o 0 (length id) ≡ NotPassed (HeapIdTooLarge o 0)
+unfolding idChecked
+no-id o e id = rw (le-ltb o (2 ^ 40) (omega arith))
+
+module _ (xs : List ℕ) (o b : ℕ) (js lent : List ℕ) (address header w : ℕ) (p : ManagedPlan) (W : Written xs o b js lent address header w p)
+    (F : List ℕ) (H : HoldsRegion F xs js lent address header w p) (h : FractalHeapHeader) (T : HeaderOf h address p) (x : ℕ) where
+  abbrev its : (n : ℕ) → n < length (planStarts fixed w xs) → ℕ
+  its n l = start xs o b js lent address header w p W n l
+
+  abbrev place : (n : ℕ) → n < length (planStarts fixed w xs) → ℕ
+  place n l = placeOf xs o b js lent address header w p W n l
+
+  -- what is read of the n-th block, as far as its end
+  module _ (n : ℕ) (l : n < length (planStarts fixed w xs)) (hi : x ≤ its n l + slotAt fixed (its n l) .size) where
+    in-file : place n l + (x - its n l) ≤ length F
+    in-file =
+        let k = block-has xs o b js lent address header w p W n l F H .within in
+        let m = block-least fixed w header (its n l) (slotAt fixed (its n l) .size) (objectsIn (its n l) (slotAt fixed (its n l) .size) (planOffsets fixed w xs) xs js) in
+        omega arith
+
+    nothing-read : directAt F (place n l) (its n l) x 0 ≡ At (place n l + (x - its n l)) 0
+    nothing-read =
+        let f = in-file in
+        let r = in-region xs o b js lent address header w p W n l in
+        let e = tests xs o b js lent address header w p W .end in
+        let k = legal-small w (width xs o b js lent address header w p W) in
+        let q : 2 ^ (8 * w) ≤ 2 ^ 64 = pow-mono {i = 8 * w} {j = 64} (omega arith) in
+        in-block F (place n l) (its n l) x 0 (omega arith) (omega arith)
+
+    found-there : x < 2 ^ 40 → rootAt h F x 0 w ≡ directAt F (place n l) (its n l) x 0 → EmptyRead F h w x (p .«root_rows»)
+    found-there s e = accepts (place n l + (x - its n l)) in-file (λ id k. by-id h F w x 0 address p T s (omega arith) id k ∙ e ∙ nothing-read)
+
+  -- at an offset that lies at or before the end of the n-th block
+  read-empty : (n : ℕ) (l : n < length (planStarts fixed w xs)) → x ≤ its n l + slotAt fixed (its n l) .size → x < 2 ^ 40 → EmptyRead F h w x (p .«root_rows»)
+  read-empty n l hi s = go (ℕ-discrete (p .«root_rows») 0) (holder fixed x (planStarts fixed w xs))
+    where
+      go : Dec (p .«root_rows» ≡ 0) → Holder fixed x (planStarts fixed w xs) ⊎ Clear fixed x (planStarts fixed w xs) → EmptyRead F h w x (p .«root_rows»)
+      go (yes z) k = found-there n l hi s (by-bare xs o b js lent address header w p W n l F H h T x 0 z)
+      go (no z) (inl K) =
+          let u = K .to in
+          found-there (K .n) (K .placed) (omega arith) s (root-finds xs o b js lent address header w p W (K .n) (K .placed) F H h T x 0 (K .from) (K .to))
+      go (no z) (inr C) =
+          refuses (omega arith)
+          (λ id k. by-id h F w x 0 address p T s (omega arith) id k ∙ by-missing xs o b js lent address header w p W n l F H h T x 0 (omega arith) C
+          ∙ ap (λ (y : ℕ). Refused (UnexpectedEof y (length F))) (sat-fits (x + 0) (omega arith) ∙ (let e : x + 0 ≡ x = omega arith in e)))
+
+-- every empty object
+pub empty-answered : (xs : List ℕ) (o b : ℕ) (js lent : List ℕ) (address header w : ℕ) (p : ManagedPlan) → Written xs o b js lent address header w p
+    → (file : List ℕ) → HoldsRegion file xs js lent address header w p → (h : FractalHeapHeader) → HeaderOf h address p
+    → (i : ℕ) → i < length xs → getD xs i 0 ≡ 0 → EmptyAnswered file h w (getD (planOffsets fixed w xs) i 0) (p .«root_rows»)
+unfolding rowOffset
+empty-answered xs o b js lent address header w p W file H h T i l e =
+    let x = getD (planOffsets fixed w xs) i 0 in
+    let B = in-one-body xs o b w p (planned xs o b js lent address header w p W) i l in
+    let z = fixed-slot (B .slot) .size-is in
+    let t = B .to in
+    let d = direct-local fixed (omega arith) (omega arith) (B .slot) .inside in
+    record {
+      within = omega arith;
+      id-accepted = λ s id k. id-passes x 0 s (omega arith) id k;
+      id-refused = λ s id. no-id x s id;
+      read = λ s. read-empty xs o b js lent address header w p W file H h T x (B .n) (B .placed) (omega arith) s;
+    }
