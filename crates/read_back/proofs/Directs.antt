@@ -4,7 +4,6 @@ use mathlib.Core.Path.{_≡_, refl, sym, ap, _∙_, subst}
 use mathlib.Core.List.{List, [], _∷_, _++_}
 use native.Mathlib.Omega.{arith}
 use native.Mathlib.Decide.{decLt}
-use native.Mathlib.Nat.{add-zero, add-assoc}
 use lib.ListN.{length, length-append, replicate, length-replicate}
 use Rattle.fields.specs.LittleEndian.{le}
 use Rattle.fields.proofs.LittleEndian.{length-le}

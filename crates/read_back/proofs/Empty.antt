@@ -1,15 +1,13 @@
 -- An empty object: where the reader finds it, and where it answers 1.
-use Prim.Native.Nat.{ℕ, zero, suc, _+_, _-_, _*_, _^_, _≤_, _<_}
-use mathlib.Core.Path.{_≡_, refl, sym, ap, _∙_, subst}
+use Prim.Native.Nat.{ℕ, suc, _+_, _-_, _*_, _^_, _≤_, _<_}
+use mathlib.Core.Path.{_≡_, ap, _∙_}
 use mathlib.Core.Logic.{_⊎_, inl, inr}
-use mathlib.Core.Bool.{Bool, true, false, _&&_}
 use mathlib.Core.List.{List, [], _∷_}
 use native.Mathlib.Omega.{arith}
 use native.Mathlib.Decide.{ℕ-discrete, decLe, decLt}
 use lib.ListN.{length, getD}
 use lib.Pow.{pow-mono}
 use borrow.Author.Tests.{le-ltb}
-use Rattle.fields.specs.Fields.{saturated}
 use Rattle.fields.proofs.Fields.{legal-small}
 use Rattle.refusals.specs.declared.FormatError.the-variants.{UnexpectedEof, HeapIdTooLarge}
 use Rattle.fields.specs.declared.bytes.Checked.the-variants.{Refused as NotPassed}
@@ -18,11 +16,9 @@ use Rattle.table.specs.Slots.{slotAt}
 use Rattle.table_laws.proofs.Format.{direct-local, fixed-slot}
 use Rattle.plan_steps.specs.Steps.{planOffsets, planStarts}
 use Rattle.plan.specs.declared.ManagedPlan.{ManagedPlan}
-use Rattle.plan_laws.specs.Plans.{InPlacedBlock}
 use Rattle.plan_laws.proofs.Objects.{in-one-body}
 use Rattle.region_directs.specs.Directs.{objectsIn}
 use Rattle.heap_rows.proofs.Saturating.{sat-fits}
-use Rattle.heap_blocks.specs.declared.Found.{Found}
 use Rattle.heap_blocks.specs.declared.Found.the-variants.{At, Refused}
 use Rattle.heap_blocks.specs.Blocks.{directAt}
 use Rattle.fractal_heap.specs.declared.header.FractalHeapHeader.{FractalHeapHeader}

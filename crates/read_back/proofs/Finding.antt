@@ -8,20 +8,20 @@ use native.Mathlib.Decide.{ℕ-discrete}
 use lib.ListN.{length, take, drop, getD, length-append}
 use lib.Seq.{take-at}
 use borrow.Author.Tests.{eq-eqb, ne-eqb}
-use Rattle.fields.specs.Fields.{legal, undefinedAddr}
+use Rattle.fields.specs.Fields.{legal}
 use Rattle.table.specs.Table.{fixed, rowBits, rowOffset}
 use Rattle.table.specs.Slots.{slotAt}
 use Rattle.table.specs.Capacity.{sum}
 use Rattle.table.proofs.Rows.{row-mono}
 use Rattle.table.proofs.Slots.{slot-some}
-use Rattle.table_laws.proofs.Format.{SlotOf, fixed-slot}
+use Rattle.table_laws.proofs.Format.{fixed-slot}
 use Rattle.plan_steps.specs.Steps.{planOffsets, planStarts}
 use Rattle.plan_lists.specs.Lists.{fronted}
 use Rattle.plan.specs.declared.ManagedPlan.{ManagedPlan}
 use Rattle.plan.specs.declared.Planned.the-variants.{Accepted}
 use Rattle.plan.specs.Answer.{answer}
 use Rattle.plan.proofs.Answering.{accepted}
-use Rattle.plan_laws.specs.Plans.{sizesAt, InPlacedBlock}
+use Rattle.plan_laws.specs.Plans.{sizesAt}
 use Rattle.plan_laws.proofs.Root.{no-root-rows}
 use Rattle.plan_laws.proofs.Tally.{tallied}
 use Rattle.region_walk.specs.Walk.{allSlots, block}
@@ -33,7 +33,6 @@ use Rattle.fractal_heap_write.specs.Region.{indirects, indirectBytes, region}
 use Rattle.fractal_heap_write.proofs.Lengths.{indirects-some}
 use Rattle.fractal_heap_write.proofs.Planned.{indirect-bytes, indirects-planned, region-length}
 use Rattle.fractal_heap_write.proofs.Answering.{written, Fit, fit}
-use Rattle.heap_rows.specs.declared.DoublingTable.{DoublingTable}
 use Rattle.heap_blocks.specs.declared.Found.{Found}
 use Rattle.heap_blocks.specs.Blocks.{directAt, walkFrom}
 use Rattle.fractal_heap.specs.declared.header.FractalHeapHeader.{FractalHeapHeader}

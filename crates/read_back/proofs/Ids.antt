@@ -4,7 +4,7 @@ use mathlib.Core.Path.{_≡_, refl, ap, ap₂, _∙_, subst}
 use mathlib.Core.List.{List, _++_}
 use native.Mathlib.Omega.{arith}
 use native.Mathlib.Nat.{mod-eq-of-lt}
-use lib.ListN.{length, take, drop, getD, length-append}
+use lib.ListN.{length, take, getD, length-append}
 use lib.Pow.{high, low}
 use lib.Seq.{take-all}
 use borrow.Author.Tests.{lt-ltb, le-leb, ne-eqb}
@@ -13,7 +13,6 @@ use Rattle.fields.specs.declared.bytes.Checked.the-variants.{Passed}
 use Rattle.fields.proofs.LittleEndian.{length-le, value-le, value-append, put-here}
 use Rattle.table.specs.Table.{fixed}
 use Rattle.table.specs.Sizes.{offsetBytes}
-use Rattle.heap_ids.specs.declared.ManagedId.{ManagedId}
 use Rattle.heap_ids.specs.declared.ManagedId.the-variants.{Decoded}
 use Rattle.heap_ids.specs.Id.{typeOf, splitId, decodedId}
 use Rattle.fractal_heap.specs.declared.header.FractalHeapHeader.{FractalHeapHeader}

@@ -1,7 +1,6 @@
 -- Every object comes back: document 01's demand 3, and what it means for an ID that was given early.
-use Prim.Native.Nat.{ℕ, zero, suc, _+_, _-_, _*_, _^_, _≤_, _<_, max}
+use Prim.Native.Nat.{ℕ, _+_, _-_, _*_, _^_, _≤_, _<_, max}
 use mathlib.Core.Path.{_≡_, refl, sym, ap, ap₂, _∙_, subst, subst₂}
-use mathlib.Core.Bool.{cond}
 use mathlib.Core.List.{List, _++_}
 use native.Mathlib.Omega.{arith}
 use native.Mathlib.Decide.{ℕ-discrete}
@@ -13,11 +12,11 @@ use Rattle.fields.specs.Fields.{lenChecked}
 use Rattle.fields.proofs.Fields.{legal-small}
 use Rattle.table.specs.Table.{fixed, rowOffset}
 use Rattle.table.specs.Slots.{slotAt}
-use Rattle.table.specs.Sizes.{directHeader, offsetBytes, maxManaged}
+use Rattle.table.specs.Sizes.{directHeader, maxManaged}
 use Rattle.table.specs.Capacity.{sum}
 use Rattle.table.proofs.Capacity.{sum-take-suc, sum-take-le}
-use Rattle.table_laws.proofs.Format.{SlotOf, direct-local, fixed-slot}
-use Rattle.plan_steps.specs.Steps.{planOffsets, planStarts}
+use Rattle.table_laws.proofs.Format.{direct-local, fixed-slot}
+use Rattle.plan_steps.specs.Steps.{planOffsets}
 use Rattle.plan.specs.declared.ManagedPlan.{ManagedPlan}
 use Rattle.plan.specs.declared.Planned.the-variants.{Accepted}
 use Rattle.plan.specs.Answer.{answer}
@@ -27,10 +26,8 @@ use Rattle.plan_laws.specs.Plans.{InPlacedBlock}
 use Rattle.plan_laws.proofs.Front.{front-part}
 use Rattle.plan_laws.proofs.Objects.{no-shared-byte, in-one-body, no-header-touched}
 use Rattle.plan_laws.proofs.Free.{free-is-count}
-use Rattle.plan_laws.proofs.Tally.{tallied}
 use Rattle.region_directs.specs.Directs.{objectsIn}
 use Rattle.region_directs.proofs.Objects.{objects-at}
-use Rattle.heap_blocks.specs.declared.Found.{Found}
 use Rattle.heap_blocks.specs.declared.Found.the-variants.{At}
 use Rattle.heap_blocks.specs.Blocks.{directAt}
 use Rattle.heap_ids.specs.declared.ManagedId.{ManagedId}
@@ -38,7 +35,7 @@ use Rattle.heap_ids.specs.Id.{decodedId}
 use Rattle.fractal_heap.specs.declared.header.FractalHeapHeader.{FractalHeapHeader}
 use Rattle.fractal_heap.specs.Read.{rootAt, afterId, managedAt}
 use Rattle.managed_ids.specs.Ids.{managedId, idWritten}
-use Rattle.read_laws.proofs.Holding.{Has, has-part}
+use Rattle.read_laws.proofs.Holding.{has-part}
 use Rattle.read_back.specs.ReadBack.{Written, HoldsRegion, HeaderOf, ComesBack, partOf, PlanKept, HeapKept, EarlyIdHolds}
 use Rattle.read_back.proofs.Ids.{decodes, id-passes, id-is}
 use Rattle.read_back.proofs.Directs.{block-least, blockAt}

@@ -12,7 +12,6 @@ use Rattle.heap_rows.specs.declared.DoublingTable.{DoublingTable}
 use Rattle.heap_rows.specs.Rows.{log2, blockSize, directRows, sizeToRows, heapSize, slotSize}
 use Rattle.heap_rows.proofs.Rows.{block-size, span}
 use Rattle.heap_rows.proofs.Saturating.{sat-fits}
-use Rattle.heap_blocks.specs.declared.HeapChild.{HeapChild}
 use Rattle.heap_blocks.specs.declared.HeapChild.the-variants.{Direct, Indirect}
 use Rattle.heap_blocks.specs.Blocks.{childOf}
 

@@ -24,7 +24,7 @@ use Rattle.heap_rows.specs.declared.DoublingTable.{DoublingTable}
 use Rattle.heap_blocks.specs.declared.RowScan.{RowScan}
 use Rattle.heap_blocks.specs.declared.HeapChild.{HeapChild}
 use Rattle.heap_blocks.specs.declared.Found.{Found}
-use Rattle.heap_blocks.specs.Blocks.{rowScan, childOf, afterRow, directAt, walkFrom}
+use Rattle.heap_blocks.specs.Blocks.{childOf, afterRow, directAt, walkFrom}
 use Rattle.read_laws.proofs.Holding.{Has}
 use Rattle.read_laws.proofs.Agreeing.{Agrees}
 use Rattle.read_laws.proofs.Entries.{entry-passed, entry-taken}

@@ -1,14 +1,13 @@
 -- At any table: where no placed block holds the wanted heap offset, the reader's walk over written indirect blocks
 -- ends with 1.
 use Prim.Native.Nat.{ℕ, zero, suc, _+_, _-_, _*_, _^_, _≤_, _<_}
-use mathlib.Core.Path.{_≡_, refl, sym, ap, _∙_, subst}
+use mathlib.Core.Path.{_≡_, refl, sym, _∙_, subst}
 use mathlib.Core.Logic.{_⊎_, inl, inr}
-use mathlib.Core.Bool.{true, false}
+use mathlib.Core.Bool.{true}
 use mathlib.Core.List.{List, [], _∷_}
 use native.Mathlib.Omega.{arith}
 use native.Mathlib.Decide.{decLe, decLt}
-use lib.Dec.{ltb}
-use lib.ListN.{length, drop, replicate}
+use lib.ListN.{length, drop}
 use Rattle.fields.specs.Fields.{legal}
 use Rattle.table.specs.Table.{Table, rowBits, rowOffset}
 use Rattle.table.specs.Sizes.{offsetBytes}
@@ -19,8 +18,6 @@ use Rattle.region_laws.proofs.Starts.{Placed, from, from-yes, from-no}
 use Rattle.region_laws.proofs.Geometry.{SlotAt, slot-end, BlockAt, inner-span, inner-block}
 use Rattle.region_laws.proofs.Walking.{by-smaller, Way, empty, placed, deeper, way, cut-placed, slot-cut}
 use Rattle.heap_rows.specs.declared.DoublingTable.{DoublingTable}
-use Rattle.heap_blocks.specs.declared.HeapChild.{HeapChild}
-use Rattle.heap_blocks.specs.declared.Found.{Found}
 use Rattle.heap_blocks.specs.Blocks.{walkFrom}
 use Rattle.read_laws.proofs.Holding.{Has}
 use Rattle.read_laws.proofs.Agreeing.{Agrees}
