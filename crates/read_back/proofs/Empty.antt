@@ -25,10 +25,10 @@ use Rattle.fractal_heap.specs.declared.header.FractalHeapHeader.{FractalHeapHea
 use Rattle.fractal_heap.specs.Read.{rootAt}
 use Rattle.managed_ids.specs.Ids.{idChecked}
 use Rattle.read_laws.proofs.Missing.{Clear, none, more}
-use Rattle.read_back.specs.ReadBack.{Written, HoldsRegion, HeaderOf, EmptyRead, accepts, refuses, EmptyAnswered}
+use Rattle.read_back.specs.ReadBack.{Call, Written, HoldsRegion, HeaderOf, offsetOf, EmptyRead, accepts, refuses, EmptyAnswered}
 use Rattle.read_back.proofs.Ids.{id-passes}
 use Rattle.read_back.proofs.Directs.{block-least}
-use Rattle.read_back.proofs.Finding.{planned, tests, width, start, placeOf, in-region, block-has, by-bare, by-missing, root-finds}
+use Rattle.read_back.proofs.Finding.{planned, tests, width-legal, start, placeOf, in-region, block-has, by-bare, by-missing, root-finds}
 use Rattle.read_back.proofs.Theorem.{by-id, in-block}
 
 -- the n-th of the blocks ss holds x
@@ -55,56 +55,67 @@ no-id : (o : ℕ) → o ≡ 2 ^ 40 → (id : List ℕ) → idChecked fixed o 0 (
 unfolding idChecked
 no-id o e id = rw (le-ltb o (2 ^ 40) (omega arith))
 
-module _ (xs : List ℕ) (o b : ℕ) (js lent : List ℕ) (address header w : ℕ) (p : ManagedPlan) (W : Written xs o b js lent address header w p)
-    (F : List ℕ) (H : HoldsRegion F xs js lent address header w p) (h : FractalHeapHeader) (T : HeaderOf h address p) (x : ℕ) where
+module _ (c : Call) (p : ManagedPlan) (W : Written c p)
+    (F : List ℕ) (H : HoldsRegion F c p) (h : FractalHeapHeader) (T : HeaderOf h c p) (x : ℕ) where
+  abbrev xs : List ℕ
+  xs = c .sizes
+
+  abbrev js : List ℕ
+  js = c .objects
+
+  abbrev header : ℕ
+  header = c .header-address
+
+  abbrev w : ℕ
+  w = c .width
+
   abbrev its : (n : ℕ) → n < length (planStarts fixed w xs) → ℕ
-  its n l = start xs o b js lent address header w p W n l
+  its n l = start c p W n l
 
   abbrev place : (n : ℕ) → n < length (planStarts fixed w xs) → ℕ
-  place n l = placeOf xs o b js lent address header w p W n l
+  place n l = placeOf c p W n l
 
   -- what is read of the n-th block, as far as its end
   module _ (n : ℕ) (l : n < length (planStarts fixed w xs)) (hi : x ≤ its n l + slotAt fixed (its n l) .size) where
     in-file : place n l + (x - its n l) ≤ length F
     in-file =
-        let k = block-has xs o b js lent address header w p W n l F H .within in
+        let k = block-has c p W n l F H .within in
         let m = block-least fixed w header (its n l) (slotAt fixed (its n l) .size) (objectsIn (its n l) (slotAt fixed (its n l) .size) (planOffsets fixed w xs) xs js) in
         omega arith
 
     nothing-read : directAt F (place n l) (its n l) x 0 ≡ At (place n l + (x - its n l)) 0
     nothing-read =
         let f = in-file in
-        let r = in-region xs o b js lent address header w p W n l in
-        let e = tests xs o b js lent address header w p W .end in
-        let k = legal-small w (width xs o b js lent address header w p W) in
+        let r = in-region c p W n l in
+        let e = tests c p W .end in
+        let k = legal-small w (width-legal c p W) in
         let q : 2 ^ (8 * w) ≤ 2 ^ 64 = pow-mono {i = 8 * w} {j = 64} (omega arith) in
         in-block F (place n l) (its n l) x 0 (omega arith) (omega arith)
 
     found-there : x < 2 ^ 40 → rootAt h F x 0 w ≡ directAt F (place n l) (its n l) x 0 → EmptyRead F h w x (p .«root_rows»)
-    found-there s e = accepts (place n l + (x - its n l)) in-file (λ id k. by-id h F w x 0 address p T s (omega arith) id k ∙ e ∙ nothing-read)
+    found-there s e = accepts (place n l + (x - its n l)) in-file (λ id k. by-id h F w x 0 c p T s (omega arith) id k ∙ e ∙ nothing-read)
 
   -- at an offset that lies at or before the end of the n-th block
   read-empty : (n : ℕ) (l : n < length (planStarts fixed w xs)) → x ≤ its n l + slotAt fixed (its n l) .size → x < 2 ^ 40 → EmptyRead F h w x (p .«root_rows»)
   read-empty n l hi s = go (ℕ-discrete (p .«root_rows») 0) (holder fixed x (planStarts fixed w xs))
     where
       go : Dec (p .«root_rows» ≡ 0) → Holder fixed x (planStarts fixed w xs) ⊎ Clear fixed x (planStarts fixed w xs) → EmptyRead F h w x (p .«root_rows»)
-      go (yes z) k = found-there n l hi s (by-bare xs o b js lent address header w p W n l F H h T x 0 z)
+      go (yes z) k = found-there n l hi s (by-bare c p W n l F H h T x 0 z)
       go (no z) (inl K) =
           let u = K .to in
-          found-there (K .n) (K .placed) (omega arith) s (root-finds xs o b js lent address header w p W (K .n) (K .placed) F H h T x 0 (K .from) (K .to))
+          found-there (K .n) (K .placed) (omega arith) s (root-finds c p W (K .n) (K .placed) F H h T x 0 (K .from) (K .to))
       go (no z) (inr C) =
           refuses (omega arith)
-          (λ id k. by-id h F w x 0 address p T s (omega arith) id k ∙ by-missing xs o b js lent address header w p W n l F H h T x 0 (omega arith) C
+          (λ id k. by-id h F w x 0 c p T s (omega arith) id k ∙ by-missing c p W n l F H h T x 0 (omega arith) C
           ∙ ap (λ (y : ℕ). Refused (UnexpectedEof y (length F))) (sat-fits (x + 0) (omega arith) ∙ (let e : x + 0 ≡ x = omega arith in e)))
 
 -- every empty object
-pub empty-answered : (xs : List ℕ) (o b : ℕ) (js lent : List ℕ) (address header w : ℕ) (p : ManagedPlan) → Written xs o b js lent address header w p
-    → (file : List ℕ) → HoldsRegion file xs js lent address header w p → (h : FractalHeapHeader) → HeaderOf h address p
-    → (i : ℕ) → i < length xs → getD xs i 0 ≡ 0 → EmptyAnswered file h w (getD (planOffsets fixed w xs) i 0) (p .«root_rows»)
+pub empty-answered : (c : Call) (p : ManagedPlan) → Written c p → (file : List ℕ) → HoldsRegion file c p → (h : FractalHeapHeader) → HeaderOf h c p
+    → (i : ℕ) → i < length (c .sizes) → getD (c .sizes) i 0 ≡ 0 → EmptyAnswered file h (c .width) (offsetOf (c .width) (c .sizes) i) (p .«root_rows»)
 unfolding rowOffset
-empty-answered xs o b js lent address header w p W file H h T i l e =
-    let x = getD (planOffsets fixed w xs) i 0 in
-    let B = in-one-body xs o b w p (planned xs o b js lent address header w p W) i l in
+empty-answered c p W file H h T i l e =
+    let x = offsetOf (c .width) (c .sizes) i in
+    let B = in-one-body (c .sizes) (c .offset-places) (c .block-places) (c .width) p (planned c p W) i l in
     let z = fixed-slot (B .slot) .size-is in
     let t = B .to in
     let d = direct-local fixed (omega arith) (omega arith) (B .slot) .inside in
@@ -112,5 +123,5 @@ empty-answered xs o b js lent address header w p W file H h T i l e =
       within = omega arith;
       id-accepted = λ s id k. id-passes x 0 s (omega arith) id k;
       id-refused = λ s id. no-id x s id;
-      read = λ s. read-empty xs o b js lent address header w p W file H h T x (B .n) (B .placed) (omega arith) s;
+      read = λ s. read-empty c p W file H h T x (B .n) (B .placed) (omega arith) s;
     }

@@ -44,12 +44,33 @@ use Rattle.read_laws.proofs.Entries.{defined}
 use Rattle.read_laws.proofs.Standing.{missed}
 use Rattle.read_laws.proofs.Finding.{Coming, found}
 use Rattle.read_laws.proofs.Missing.{Clear, not-found}
-use Rattle.read_back.specs.ReadBack.{Written, HoldsRegion, HeaderOf}
+use Rattle.read_back.specs.ReadBack.{Call, Written, HoldsRegion, HeaderOf}
 use Rattle.read_back.proofs.Directs.{blockAt, directs-has}
 
 -- ---- an accepted call
 
-module _ (xs : List ℕ) (o b : ℕ) (js lent : List ℕ) (address header w : ℕ) (p : ManagedPlan) (W : Written xs o b js lent address header w p) where
+module _ (c : Call) (p : ManagedPlan) (W : Written c p) where
+  abbrev xs : List ℕ
+  xs = c .sizes
+
+  abbrev o : ℕ
+  o = c .offset-places
+
+  abbrev b : ℕ
+  b = c .block-places
+
+  abbrev js : List ℕ
+  js = c .objects
+
+  abbrev address : ℕ
+  address = c .region-address
+
+  abbrev header : ℕ
+  header = c .header-address
+
+  abbrev w : ℕ
+  w = c .width
+
   abbrev pub starts : List ℕ
   starts = planStarts fixed w xs
 
@@ -67,13 +88,13 @@ module _ (xs : List ℕ) (o b : ℕ) (js lent : List ℕ) (address header w : �
   directPart = directs fixed w header offsets xs js starts
 
   pub planned : answer xs o b w ≡ Accepted p
-  planned = written xs o b (length js) (length lent) address header w p (W .accepted) .0
+  planned = written xs o b (length js) (length (c .lent)) address header w p (W .accepted) .0
 
-  pub tests : Fit w (sum xs) (length js) (p .«region_size») (length lent) header address
-  tests = fit w (sum xs) (length js) (p .«region_size») (length lent) header address (written xs o b (length js) (length lent) address header w p (W .accepted) .1)
+  pub tests : Fit w (sum xs) (length js) (p .«region_size») (length (c .lent)) header address
+  tests = fit w (sum xs) (length js) (p .«region_size») (length (c .lent)) header address (written xs o b (length js) (length (c .lent)) address header w p (W .accepted) .1)
 
-  pub width : legal w ≡ true
-  width = accepted xs o b w p planned .0 .width
+  pub width-legal : legal w ≡ true
+  width-legal = accepted xs o b w p planned .0 .width
 
   indirect-length : length indirectPart ≡ indirectBytes w header (p .«root_rows») starts
   indirect-length = let a = indirects-planned xs o b w p planned header address firstDirect in let c = indirect-bytes xs o b w p planned header in omega arith
@@ -123,7 +144,7 @@ module _ (xs : List ℕ) (o b : ℕ) (js lent : List ℕ) (address header w : �
 
     -- ---- in the file
 
-    module _ (F : List ℕ) (H : HoldsRegion F xs js lent address header w p) where
+    module _ (F : List ℕ) (H : HoldsRegion F c p) where
       region-has : Has F address (indirectPart ++ directPart)
       unfolding region fronted
       region-has =
@@ -131,7 +152,7 @@ module _ (xs : List ℕ) (o b : ℕ) (js lent : List ℕ) (address header w : �
           let m : length R ≡ p .«region_size» = region-length xs o b w p planned header address js in
           let i = in-region in
           let s = slot-some fixed start in
-          has-some F address R (omega arith) (ap (λ (k : ℕ). take k (drop address F)) m ∙ H .holds ∙ take-at R (drop (length R) lent) (p .«region_size») m)
+          has-some F address R (omega arith) (ap (λ (k : ℕ). take k (drop address F)) m ∙ H .holds ∙ take-at R (drop (length R) (c .lent)) (p .«region_size») m)
 
       -- the block stands there
       pub block-has : Has F placeOf (blockAt fixed w header offsets xs js start)
@@ -141,10 +162,10 @@ module _ (xs : List ℕ) (o b : ℕ) (js lent : List ℕ) (address header w : �
 
       -- ---- under a header
 
-      module _ (h : FractalHeapHeader) (T : HeaderOf h address p) (t len : ℕ) where
+      module _ (h : FractalHeapHeader) (T : HeaderOf h c p) (t len : ℕ) where
         table-is : tableOf h ≡ numbersOf fixed
         unfolding tableOf
-        table-is = λ i. record { «table_width» = T .width i; «starting_block_size» = T .start i; «max_direct_block_size» = T .largest i; «max_heap_size» = T .bits i }
+        table-is = λ i. record { «table_width» = T .table-width i; «starting_block_size» = T .starting-block i; «max_direct_block_size» = T .largest-direct i; «max_heap_size» = T .heap-bits i }
 
         below : placeOf < 2 ^ (8 * w) - 1
         below = let i = in-region in let e = tests .end in let s = slot-some fixed start in omega arith
@@ -226,14 +247,14 @@ module _ (xs : List ℕ) (o b : ℕ) (js lent : List ℕ) (address header w : �
               let s = slot-some fixed start in
               let f = few in
               by-walk (directAt F placeOf start t len)
-              (found fixed (omega arith) (omega arith) w header (numbersOf fixed) 29 agree F width t len start placeOf (drop (suc n) starts) lo hi below (p .«root_rows») 0 starts address firstDirect 64 few (omega arith) span-small is-block coming (omega arith) blocks-have blocks-below)
+              (found fixed (omega arith) (omega arith) w header (numbersOf fixed) 29 agree F width-legal t len start placeOf (drop (suc n) starts) lo hi below (p .«root_rows») 0 starts address firstDirect 64 few (omega arith) span-small is-block coming (omega arith) blocks-have blocks-below)
 
           -- where no placed block holds the offset
           pub by-missing : Clear fixed t starts → rootAt h F t len w ≡ missed F t len
           by-missing X =
               let f = few in
               by-walk (missed F t len)
-              (not-found fixed (omega arith) (omega arith) w header (numbersOf fixed) 29 agree F width t len (p .«root_rows») 0 starts address firstDirect 64 few (omega arith) span-small is-block starts-placed X blocks-have blocks-below)
+              (not-found fixed (omega arith) (omega arith) w header (numbersOf fixed) 29 agree F width-legal t len (p .«root_rows») 0 starts address firstDirect 64 few (omega arith) span-small is-block starts-placed X blocks-have blocks-below)
 
         -- from the root to the block
         pub root-finds : start ≤ t → t < start + slotAt fixed start .size → rootAt h F t len w ≡ directAt F placeOf start t len

@@ -1,12 +1,12 @@
 -- Every object comes back: document 01's demand 3, and what it means for an ID that was given early.
 use Prim.Native.Nat.{ℕ, _+_, _-_, _*_, _^_, _≤_, _<_, max}
 use mathlib.Core.Path.{_≡_, refl, sym, ap, ap₂, _∙_, subst, subst₂}
-use mathlib.Core.List.{List, _++_}
+use mathlib.Core.List.{List}
 use native.Mathlib.Omega.{arith}
 use native.Mathlib.Decide.{ℕ-discrete}
-use lib.ListN.{length, take, drop, getD, length-append, length-drop, List·getD-append}
+use lib.ListN.{length, take, drop, getD, length-drop, take-append-drop}
 use lib.Pow.{pow-mono}
-use lib.Seq.{take-append-le, take-append-seam, drop-append-le, take-length, getD-take}
+use lib.Seq.{take-append-le, drop-append-le, take-take, take-all, length-take-le, getD-take}
 use borrow.Author.Tests.{le-ltb, le-leb}
 use Rattle.fields.specs.Fields.{lenChecked}
 use Rattle.fields.proofs.Fields.{legal-small}
@@ -36,7 +36,7 @@ use Rattle.fractal_heap.specs.declared.header.FractalHeapHeader.{FractalHeapHea
 use Rattle.fractal_heap.specs.Read.{rootAt, afterId, managedAt}
 use Rattle.managed_ids.specs.Ids.{managedId, idWritten}
 use Rattle.read_laws.proofs.Holding.{has-part}
-use Rattle.read_back.specs.ReadBack.{Written, HoldsRegion, HeaderOf, ComesBack, partOf, PlanKept, HeapKept, EarlyIdHolds}
+use Rattle.read_back.specs.ReadBack.{Call, Written, HoldsRegion, HeaderOf, offsetOf, ComesBack, partOf, PlanKept, HeapKept, EarlyIdHolds}
 use Rattle.read_back.proofs.Ids.{decodes, id-passes, id-is}
 use Rattle.read_back.proofs.Directs.{block-least, blockAt}
 use Rattle.read_back.proofs.Finding.{planned, tests, start, placeOf, in-region, block-has, root-finds}
@@ -44,12 +44,12 @@ use Rattle.read_back.proofs.Finding.{planned, tests, start, placeOf, in
 -- ---- the reader by an ID
 
 -- by a written ID the reader looks for what it was written for
-pub by-id : (h : FractalHeapHeader) (F : List ℕ) (w o x address : ℕ) (p : ManagedPlan) → HeaderOf h address p → o < 2 ^ 40 → x < 2 ^ 16 → (id : List ℕ) → 8 ≤ length id
+pub by-id : (h : FractalHeapHeader) (F : List ℕ) (w o x : ℕ) (c : Call) (p : ManagedPlan) → HeaderOf h c p → o < 2 ^ 40 → x < 2 ^ 16 → (id : List ℕ) → 8 ≤ length id
     → managedAt h F (take 8 (idWritten fixed o x id)) w ≡ rootAt h F o x w
 unfolding managedAt
-by-id h F w o x address p T lo hi id l =
+by-id h F w o x c p T lo hi id l =
     let f = T .unfiltered in
-    let e : decodedId (h .«max_heap_size») (take 8 (idWritten fixed o x id)) ≡ decodedId 40 (managedId fixed o x) = ap₂ decodedId (T .bits) (id-is o x lo hi id l) in
+    let e : decodedId (h .«max_heap_size») (take 8 (idWritten fixed o x id)) ≡ decodedId 40 (managedId fixed o x) = ap₂ decodedId (T .heap-bits) (id-is o x lo hi id l) in
     rw (le-ltb 0 (h .«io_filter_encoded_length») (omega arith)) (ap (λ (y : ManagedId). afterId y (λ t len. rootAt h F t len w)) (e ∙ decodes o x lo hi))
 
 -- len bytes in a block that the file holds
@@ -59,30 +59,48 @@ in-block F a b t len u v = rw (le-leb (t - b) (2 ^ 64 - 1 - a) (omega arith), le
 
 -- ---- an object
 
-module _ (xs : List ℕ) (o b : ℕ) (js lent : List ℕ) (address header w : ℕ) (p : ManagedPlan) (W : Written xs o b js lent address header w p)
-    (F : List ℕ) (H : HoldsRegion F xs js lent address header w p) (h : FractalHeapHeader) (T : HeaderOf h address p) (i : ℕ) (l : i < length xs) where
+module _ (c : Call) (p : ManagedPlan) (W : Written c p)
+    (F : List ℕ) (H : HoldsRegion F c p) (h : FractalHeapHeader) (T : HeaderOf h c p) (i : ℕ) (l : i < length (c .sizes)) where
+  abbrev xs : List ℕ
+  xs = c .sizes
+
+  abbrev o : ℕ
+  o = c .offset-places
+
+  abbrev b : ℕ
+  b = c .block-places
+
+  abbrev js : List ℕ
+  js = c .objects
+
+  abbrev header : ℕ
+  header = c .header-address
+
+  abbrev w : ℕ
+  w = c .width
+
   abbrev offset : ℕ
-  offset = getD (planOffsets fixed w xs) i 0
+  offset = offsetOf w xs i
 
   abbrev size : ℕ
   size = getD xs i 0
 
   -- the block that it lies in
   B : InPlacedBlock w xs i
-  B = in-one-body xs o b w p (planned xs o b js lent address header w p W) i l
+  B = in-one-body xs o b w p (planned c p W) i l
 
   abbrev its : ℕ
-  its = start xs o b js lent address header w p W (B .n) (B .placed)
+  its = start c p W (B .n) (B .placed)
 
   abbrev place : ℕ
-  place = placeOf xs o b js lent address header w p W (B .n) (B .placed)
+  place = placeOf c p W (B .n) (B .placed)
 
   slot-size : B .size ≡ slotAt fixed its .size
   slot-size = fixed-slot (B .slot) .size-is
 
   size-small : size < 2 ^ 16
   unfolding maxManaged directHeader
-  size-small = let z = all-small (maxManaged fixed w) 0 xs (accepted xs o b w p (planned xs o b js lent address header w p W) .0 .sizes) i l in omega arith
+  size-small = let z = all-small (maxManaged fixed w) 0 xs (accepted xs o b w p (planned c p W) .0 .sizes) i l in omega arith
 
   -- where its offset lies in the block, and so not at the block's end
   module _ (u : offset < its + B .size) where
@@ -95,13 +113,13 @@ module _ (xs : List ℕ) (o b : ℕ) (js lent : List ℕ) (address header w : �
         let f = B .from in
         let t = B .to in
         let z = slot-size in
-        let r = in-region xs o b js lent address header w p W (B .n) (B .placed) in
-        let e = tests xs o b js lent address header w p W .end in
-        let k = block-has xs o b js lent address header w p W (B .n) (B .placed) F H .within in
+        let r = in-region c p W (B .n) (B .placed) in
+        let e = tests c p W .end in
+        let k = block-has c p W (B .n) (B .placed) F H .within in
         let m = block-least fixed w header its (slotAt fixed its .size) (objectsIn its (slotAt fixed its .size) (planOffsets fixed w xs) xs js) in
-        let n = legal-small w (accepted xs o b w p (planned xs o b js lent address header w p W) .0 .width) in
+        let n = legal-small w (accepted xs o b w p (planned c p W) .0 .width) in
         let q : 2 ^ (8 * w) ≤ 2 ^ 64 = pow-mono {i = 8 * w} {j = 64} (omega arith) in
-        root-finds xs o b js lent address header w p W (B .n) (B .placed) F H h T offset size (omega arith) (omega arith)
+        root-finds c p W (B .n) (B .placed) F H h T offset size (omega arith) (omega arith)
         ∙ in-block F place its offset size (omega arith) (omega arith)
 
     bytes : take size (drop (place + (offset - its)) F) ≡ partOf xs js i
@@ -114,17 +132,17 @@ module _ (xs : List ℕ) (o b : ℕ) (js lent : List ℕ) (address header w : �
             let t = B .to in
             let z = slot-size in
             let m = block-least fixed w header its (slotAt fixed its .size) (objectsIn its (slotAt fixed its .size) (planOffsets fixed w xs) xs js) in
-            has-part F place (blockAt fixed w header (planOffsets fixed w xs) xs js its) (offset - its) size (block-has xs o b js lent address header w p W (B .n) (B .placed) F H) (omega arith)
+            has-part F place (blockAt fixed w header (planOffsets fixed w xs) xs js its) (offset - its) size (block-has c p W (B .n) (B .placed) F H) (omega arith)
 
         go : Dec (size ≡ 0) → take size (drop (place + (offset - its)) F) ≡ take size (drop (sum (take i xs)) js)
         go (yes e) = ap (λ (n : ℕ). take n (drop (place + (offset - its)) F)) e ∙ sym (ap (λ (n : ℕ). take n (drop (sum (take i xs)) js)) e)
         go (no e) =
-            let G = accepted xs o b w p (planned xs o b js lent address header w p W) .1 in
+            let G = accepted xs o b w p (planned c p W) .1 in
             let S = fixed-slot (B .slot) in
             let f = B .from in
             let z = slot-size in
             from-block
-            ∙ objects-at fixed (omega arith) (omega arith) w xs js (sym (tests xs o b js lent address header w p W .bytes)) (G .state) (G .ran) header its (slotAt fixed its .size) i l (omega arith)
+            ∙ objects-at fixed (omega arith) (omega arith) w xs js (sym (tests c p W .bytes)) (G .state) (G .ran) header its (slotAt fixed its .size) i l (omega arith)
             (record { starts = S .starts; inside = S .inside; size-is = refl }) (omega arith) (omega arith)
 
     back : ComesBack F h w offset size (partOf xs js i)
@@ -132,7 +150,7 @@ module _ (xs : List ℕ) (o b : ℕ) (js lent : List ℕ) (address header w : �
         record {
           id-accepted = id-passes offset size offset-small size-small;
           position = place + (offset - its);
-          read = λ id n. by-id h F w offset size address p T offset-small size-small id n ∙ read;
+          read = λ id n. by-id h F w offset size c p T offset-small size-small id n ∙ read;
           same = bytes;
         }
 
@@ -159,44 +177,45 @@ heap-kept = record { planned = plan-kept; comes-back = nonempty-back }
 -- ---- an ID that was given early
 
 -- an object's part of the joined bytes is among those of any longer run
-part-early : (ys zs ks ls : List ℕ) (i : ℕ) → length ks ≡ sum ys → i < length ys → partOf (ys ++ zs) (ks ++ ls) i ≡ partOf ys ks i
+part-early : (xs js : List ℕ) (k i : ℕ) → length js ≡ sum xs → i < k → i < length xs → partOf (take k xs) (take (sum (take k xs)) js) i ≡ partOf xs js i
 unfolding partOf
-part-early ys zs ks ls i e l =
-    let x : getD (ys ++ zs) i 0 ≡ getD ys i 0 = List·getD-append ys zs 0 i l in
-    let f : sum (take i (ys ++ zs)) ≡ sum (take i ys) = ap sum (take-append-le i ys zs (omega arith)) in
-    let a = sum-take-suc ys i l in
-    let c = sum-take-le ys (i + 1) (length ys) (omega arith) in
-    let d = ap sum (take-length ys) in
-    let g = length-drop (sum (take i ys)) ks in
-    ap₂ (λ (m n : ℕ). take m (drop n (ks ++ ls))) x f ∙ ap (take (getD ys i 0)) (drop-append-le (sum (take i ys)) ks ls (omega arith))
-    ∙ take-append-le (getD ys i 0) (drop (sum (take i ys)) ks) ls (omega arith)
+part-early xs js k i e l m =
+    let s : ℕ = sum (take i xs) in
+    let S : ℕ = sum (take k xs) in
+    let x : getD (take k xs) i 0 ≡ getD xs i 0 = getD-take k xs i 0 l in
+    let f : sum (take i (take k xs)) ≡ s = ap sum (take-take i k xs (omega arith)) in
+    let a = sum-take-suc xs i m in
+    let c = sum-take-le xs (i + 1) k (omega arith) in
+    let d : S ≤ length js = (let z = sum-take-le xs k (k + length xs) (omega arith) in let y = ap sum (take-all (k + length xs) xs (omega arith)) in omega arith) in
+    let n : length (take S js) ≡ S = length-take-le S js d in
+    let g = length-drop s (take S js) in
+    ap₂ (λ (u v : ℕ). take u (drop v (take S js))) x f
+    ∙ sym (ap (λ (v : List ℕ). take (getD xs i 0) (drop s v)) (sym (take-append-drop S js)) ∙ ap (take (getD xs i 0)) (drop-append-le s (take S js) (drop S js) (omega arith))
+    ∙ take-append-le (getD xs i 0) (drop s (take S js)) (drop S js) (omega arith))
 
--- the ID of the i-th object of a run is its ID in every longer run, and reads the same bytes there
-pub early-id-holds : (ys zs ks ls : List ℕ) (o b : ℕ) (lent : List ℕ) (address header w : ℕ) (p : ManagedPlan) → length ks ≡ sum ys → Written (ys ++ zs) o b (ks ++ ls) lent address header w p
-    → (file : List ℕ) → HoldsRegion file (ys ++ zs) (ks ++ ls) lent address header w p → (h : FractalHeapHeader) → HeaderOf h address p
-    → (i : ℕ) → i < length ys → 0 < getD ys i 0 → EarlyIdHolds ys zs ks file h w i
-early-id-holds ys zs ks ls o b lent address header w p n W file H h T i l s =
+-- an ID given when the run had k objects is the object's ID in the whole run, and reads the same bytes there
+pub early-id-holds : (c : Call) (p : ManagedPlan) → Written c p → (file : List ℕ) → HoldsRegion file c p → (h : FractalHeapHeader) → HeaderOf h c p
+    → (k i : ℕ) → i < k → i < length (c .sizes) → 0 < getD (c .sizes) i 0 → EarlyIdHolds c k file h i
+early-id-holds c p W file H h T k i l m s =
     record {
-      same-id = λ id. ap₂ (λ (u v : ℕ). idWritten fixed u v id) same-offset (sym same-size);
-      comes-back = subst (λ (u : ℕ). ComesBack file h w u (getD ys i 0) (partOf ys ks i)) (sym same-offset) (subst₂ (λ (v : ℕ) (c : List ℕ). ComesBack file h w (getD (planOffsets fixed w xs) i 0) v c) same-size (part-early ys zs ks ls i n l) there);
+      same-id = λ id. ap₂ (λ (u v : ℕ). idWritten fixed u v id) same-offset same-size;
+      comes-back = subst (λ (u : ℕ). ComesBack file h w u (getD (take k xs) i 0) early) (sym same-offset)
+          (subst₂ (λ (v : ℕ) (bytes : List ℕ). ComesBack file h w (offsetOf w xs i) v bytes) (sym same-size) (sym (part-early xs (c .objects) k i (sym (tests c p W .bytes)) l m)) (nonempty-back c p W file H h T i m s));
     }
   where
     xs : List ℕ
-    xs = ys ++ zs
+    xs = c .sizes
 
-    same-size : getD xs i 0 ≡ getD ys i 0
-    same-size = List·getD-append ys zs 0 i l
+    w : ℕ
+    w = c .width
 
-    long : i < length xs
-    long = let a = length-append ys zs in omega arith
+    early : List ℕ
+    early = partOf (take k xs) (take (sum (take k xs)) (c .objects)) i
 
-    same-offset : getD (planOffsets fixed w ys) i 0 ≡ getD (planOffsets fixed w xs) i 0
+    same-size : getD (take k xs) i 0 ≡ getD xs i 0
+    same-size = getD-take k xs i 0 l
+
+    same-offset : offsetOf w (take k xs) i ≡ offsetOf w xs i
     same-offset =
-        let k : take (length ys) xs ≡ ys = take-append-seam ys zs in
-        let m = ap length k in
-        let e = planned xs o b (ks ++ ls) lent address header w p W in
-        let F = front-part xs o b w p e (length ys) (length ys) (max 1 (length ys)) (omega arith) (omega arith) in
-        ap (λ (v : List ℕ). getD (planOffsets fixed w v) i 0) (sym k) ∙ ap (λ (v : List ℕ). getD v i 0) (F .same-offsets) ∙ getD-take (length ys) (planOffsets fixed w xs) i 0 l
-
-    there : ComesBack file h w (getD (planOffsets fixed w xs) i 0) (getD xs i 0) (partOf xs (ks ++ ls) i)
-    there = nonempty-back xs o b (ks ++ ls) lent address header w p W file H h T i long (subst (λ (v : ℕ). 0 < v) (sym same-size) s)
+        let F = front-part xs (c .offset-places) (c .block-places) w p (planned c p W) k (length (take k xs)) (max 1 (length (take k xs))) (omega arith) (omega arith) in
+        ap (λ (v : List ℕ). getD v i 0) (F .same-offsets) ∙ getD-take k (planOffsets fixed w xs) i 0 l

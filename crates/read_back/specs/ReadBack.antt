@@ -1,7 +1,7 @@
 -- What it means that a heap keeps its objects: document 01, 'What demand 3 means', in its order.
 use Prim.Native.Nat.{ℕ, _+_, _^_, _≤_, _<_, max}
 use mathlib.Core.Path.{_≡_}
-use mathlib.Core.List.{List, _++_}
+use mathlib.Core.List.{List}
 use lib.ListN.{length, take, drop, getD}
 use Rattle.refusals.specs.declared.FormatError.the-variants.{UnexpectedEof, HeapIdTooLarge}
 use Rattle.fields.specs.declared.bytes.Checked.the-variants.{Passed, Refused as NotPassed}
@@ -20,25 +20,40 @@ use Rattle.fractal_heap.specs.Read.{managedAt}
 use Rattle.fractal_heap_write.specs.Serialize.{serialized, regionWritten}
 use Rattle.managed_ids.specs.Ids.{idChecked, idWritten}
 
--- a call of the writer: the sizes xs, lists of o and b places, the objects' joined bytes js, the lent region as it
--- was before the call, the two addresses and their width w; and the plan p that it is accepted with
-pub record Written (xs : List ℕ) (o b : ℕ) (js lent : List ℕ) (address header w : ℕ) (p : ManagedPlan) : Type 0 where
-  pub accepted : serialized xs o b (length js) (length lent) address header w ≡ Accepted p
+-- a call of the writer: the sizes, how many places the two lists have, the objects' joined bytes, the lent region as
+-- it is before the call, the two addresses and their width
+pub record Call : Type 0 where
+  pub sizes : List ℕ
+  pub offset-places : ℕ
+  pub block-places : ℕ
+  pub objects : List ℕ
+  pub lent : List ℕ
+  pub region-address : ℕ
+  pub header-address : ℕ
+  pub width : ℕ
 
--- the file holds the region of this call from the region address on; its other bytes may be anything
-pub record HoldsRegion (file xs js lent : List ℕ) (address header w : ℕ) (p : ManagedPlan) : Type 0 where
-  pub holds : take (p .«region_size») (drop address file) ≡ take (p .«region_size») (regionWritten (Accepted p) w header address xs js lent)
+-- the writer accepts it, with the plan p
+pub record Written (c : Call) (p : ManagedPlan) : Type 0 where
+  pub accepted : serialized (c .sizes) (c .offset-places) (c .block-places) (length (c .objects)) (length (c .lent)) (c .region-address) (c .header-address) (c .width) ≡ Accepted p
+
+-- the file holds the written region from the region address on; its other bytes may be anything
+pub record HoldsRegion (file : List ℕ) (c : Call) (p : ManagedPlan) : Type 0 where
+  pub holds : take (p .«region_size») (drop (c .region-address) file) ≡ take (p .«region_size») (regionWritten (Accepted p) (c .width) (c .header-address) (c .region-address) (c .sizes) (c .objects) (c .lent))
 
 -- the header has filter length 0, the root at the region address plus the root's place, the plan's root rows and
 -- the fixed geometry; its other fields may be anything
-pub record HeaderOf (h : FractalHeapHeader) (address : ℕ) (p : ManagedPlan) : Type 0 where
+pub record HeaderOf (h : FractalHeapHeader) (c : Call) (p : ManagedPlan) : Type 0 where
   pub unfiltered : h .«io_filter_encoded_length» ≡ 0
-  pub root : h .«root_block_address» ≡ address + p .«root_place»
+  pub root : h .«root_block_address» ≡ c .region-address + p .«root_place»
   pub rows : h .«current_rows_in_root_indirect_block» ≡ p .«root_rows»
-  pub width : h .«table_width» ≡ 4
-  pub start : h .«starting_block_size» ≡ 1024
-  pub largest : h .«max_direct_block_size» ≡ 65536
-  pub bits : h .«max_heap_size» ≡ 40
+  pub table-width : h .«table_width» ≡ 4
+  pub starting-block : h .«starting_block_size» ≡ 1024
+  pub largest-direct : h .«max_direct_block_size» ≡ 65536
+  pub heap-bits : h .«max_heap_size» ≡ 40
+
+-- the heap offset of the i-th of the sizes xs
+abbrev pub offsetOf : ℕ → List ℕ → ℕ → ℕ
+offsetOf w xs i = getD (planOffsets fixed w xs) i 0
 
 -- the ID writer accepts offset and size in every lent slice of at least eight bytes; by the eight bytes of this ID
 -- `read_managed_object` accepts, with the size as length, and from the answered position on the file has `bytes`
@@ -69,15 +84,15 @@ pub record PlanKept (xs : List ℕ) (w : ℕ) (p : ManagedPlan) : Type 0 where
 -- found in the file, with exactly its bytes
 pub record HeapKept : Type 0 where
   pub planned : (xs : List ℕ) (o b w : ℕ) (p : ManagedPlan) → answer xs o b w ≡ Accepted p → PlanKept xs w p
-  pub comes-back : (xs : List ℕ) (o b : ℕ) (js lent : List ℕ) (address header w : ℕ) (p : ManagedPlan) → Written xs o b js lent address header w p
-      → (file : List ℕ) → HoldsRegion file xs js lent address header w p → (h : FractalHeapHeader) → HeaderOf h address p
-      → (i : ℕ) → i < length xs → 0 < getD xs i 0 → ComesBack file h w (getD (planOffsets fixed w xs) i 0) (getD xs i 0) (partOf xs js i)
+  pub comes-back : (c : Call) (p : ManagedPlan) → Written c p → (file : List ℕ) → HoldsRegion file c p → (h : FractalHeapHeader) → HeaderOf h c p
+      → (i : ℕ) → i < length (c .sizes) → 0 < getD (c .sizes) i 0
+      → ComesBack file h (c .width) (offsetOf (c .width) (c .sizes) i) (getD (c .sizes) i 0) (partOf (c .sizes) (c .objects) i)
 
--- an ID given when the run had the sizes ys and the joined bytes ks: in the longer run ys ++ zs its object has the
--- same ID, and by it the file of the longer run gives the bytes that the object had then
-pub record EarlyIdHolds (ys zs ks file : List ℕ) (h : FractalHeapHeader) (w i : ℕ) : Type 0 where
-  pub same-id : (id : List ℕ) → idWritten fixed (getD (planOffsets fixed w ys) i 0) (getD ys i 0) id ≡ idWritten fixed (getD (planOffsets fixed w (ys ++ zs)) i 0) (getD (ys ++ zs) i 0) id
-  pub comes-back : ComesBack file h w (getD (planOffsets fixed w ys) i 0) (getD ys i 0) (partOf ys ks i)
+-- an ID that the i-th object was given when the run had k objects: it is the object's ID in the whole run, and by it
+-- the file of the whole run gives the bytes that the object had then
+pub record EarlyIdHolds (c : Call) (k : ℕ) (file : List ℕ) (h : FractalHeapHeader) (i : ℕ) : Type 0 where
+  pub same-id : (id : List ℕ) → idWritten fixed (offsetOf (c .width) (take k (c .sizes)) i) (getD (take k (c .sizes)) i 0) id ≡ idWritten fixed (offsetOf (c .width) (c .sizes) i) (getD (c .sizes) i 0) id
+  pub comes-back : ComesBack file h (c .width) (offsetOf (c .width) (take k (c .sizes)) i) (getD (take k (c .sizes)) i 0) (partOf (take k (c .sizes)) (take (sum (take k (c .sizes))) (c .objects)) i)
 
 -- What document 01 leaves free: by the ID of an empty object the reader accepts, with length 0 at a place of the
 -- file, or, under an indirect root alone, it refuses by 1 with the object's offset and the file's length
