@@ -3,7 +3,7 @@ use Prim.Native.Nat.{ℕ, _+_, _-_, _≤_, _<_, min}
 use mathlib.Core.Path.{_≡_, refl, sym, ap, ap₂, _∙_}
 use mathlib.Core.Bool.{Bool, true, false, cond, _&&_}
 use mathlib.Core.Logic.{dite}
-use mathlib.Core.List.{List, [], _∷_, _++_, append-nil}
+use mathlib.Core.List.{List, [], _∷_, append-nil}
 use native.Mathlib.Omega.{arith}
 use native.Mathlib.Decide.{decLe}
 use native.Mathlib.Numerals.{add-one}
@@ -126,13 +126,13 @@ back-most h s w o n bs = by (ltb 0 n && comesBack h s w o n bs)
     by false = omega arith
 
 -- more than all is all
-take-min : (n : ℕ) (l : List ℕ) → take (min n (length l)) l ≡ take n l
+pub take-min : (n : ℕ) (l : List ℕ) → take (min n (length l)) l ≡ take n l
 take-min n l =
     dite (decLe n (length l))
     (λ h. let e : min n (length l) ≡ n = omega arith in rw e)
     (λ h. take-all (min n (length l)) l (omega arith) ∙ sym (take-all n l (omega arith)))
 
-drop-min : (n : ℕ) (l : List ℕ) → drop (min n (length l)) l ≡ drop n l
+pub drop-min : (n : ℕ) (l : List ℕ) → drop (min n (length l)) l ≡ drop n l
 drop-min n l =
     dite (decLe n (length l))
     (λ h. let e : min n (length l) ≡ n = omega arith in rw e)

@@ -1,0 +1,126 @@
+-- Whatever the writer accepts comes back, all of it: the count of what comes back is that of the nonempty objects.
+use Prim.Native.Nat.{ℕ, suc, _+_, _^_, _≤_, _<_}
+use mathlib.Core.Path.{_≡_, refl, sym, ap, ap₂, _∙_, subst}
+use mathlib.Core.Bool.{Bool, true, cond}
+use mathlib.Core.List.{List, [], _∷_, _++_}
+use native.Mathlib.Omega.{arith}
+use native.Mathlib.Decide.{ℕ-discrete, decLe}
+use lib.ListN.{length, take, drop, getD, replicate, length-append, length-drop, List·getD-append}
+use lib.Seq.{drop-at, drop-drop, length-take-le}
+use lib.Dec.{ltb}
+use borrow.Author.Tests.{lt-ltb, le-ltb, le-leb}
+use Rattle.table.specs.Table.{fixed}
+use Rattle.table.specs.Capacity.{sum}
+use Rattle.plan_steps.specs.Steps.{planOffsets}
+use Rattle.plan_lists.specs.Lists.{fronted}
+use Rattle.plan.specs.declared.ManagedPlan.{ManagedPlan}
+use Rattle.plan.specs.declared.Planned.the-variants.{Accepted}
+use Rattle.plan_laws.proofs.Tally.{tallied}
+use Rattle.region_laws.proofs.Indirect.{rooted, region-planned, bare-planned}
+use Rattle.fractal_heap_write.specs.Serialize.{regionWritten}
+use Rattle.fractal_heap_write.proofs.Answering.{below-undefined}
+use Rattle.heap_blocks.specs.declared.Found.the-variants.{At}
+use Rattle.fractal_heap.specs.declared.header.FractalHeapHeader.{FractalHeapHeader}
+use Rattle.fractal_heap.specs.Read.{managedAt}
+use Rattle.heap_laws.proofs.Reading.{read-in-file}
+use Rattle.managed_ids.specs.Ids.{managedId}
+use Rattle.managed_ids.proofs.Ids.{held}
+use Rattle.whole_way.specs.Back.{holdsAt, backOne, backs}
+use Rattle.whole_way.proofs.Back.{same-refl, object-read, back-found, one-empty, one-nonempty}
+use Rattle.read_back.specs.ReadBack.{Call, Written, HoldsRegion, HeaderOf, ComesBack, partOf}
+use Rattle.read_back.proofs.Ids.{id-is}
+use Rattle.read_back.proofs.Finding.{planned, tests, width-legal}
+use Rattle.read_back.proofs.Theorem.{heap-kept}
+use Rattle.round_trip.specs.RoundTrip.{nonempty}
+
+-- ---- one object
+
+module _ (h : FractalHeapHeader) (F : List ℕ) (w o x : ℕ) (bs : List ℕ) (C : ComesBack F h w o x bs) where
+  abbrev zeros : List ℕ
+  zeros = replicate 8 0
+
+  by-id : managedAt h F (managedId fixed o x) w ≡ At (C .position) x
+  by-id =
+      let H = held o x 8 (C .id-accepted zeros (omega arith)) in
+      ap (λ (id : List ℕ). managedAt h F id w) (sym (id-is o x (H .offset) (H .size) zeros (omega arith))) ∙ C .read zeros (omega arith)
+
+  same-there : holdsAt F (C .position) x bs ≡ true
+  unfolding holdsAt
+  same-there = rw (le-leb (C .position + x) (length F) (read-in-file h F (managedId fixed o x) w (C .position) x by-id), C .same, same-refl bs)
+
+  one-back : 0 < x → backOne h F w o x bs ≡ 1
+  one-back s = one-nonempty h F w o x bs true (λ e. omega arith) (back-found h F w o x bs (C .position) x (object-read h F w o x (C .id-accepted zeros (omega arith)) ∙ by-id) refl ∙ same-there)
+
+-- ---- all of them
+
+module _ (h : FractalHeapHeader) (F : List ℕ) (w : ℕ) where
+  -- the first, and those after it
+  part-next : (y : ℕ) (ys ks : List ℕ) (n : ℕ) → partOf (y ∷ ys) ks (suc n) ≡ partOf ys (drop y ks) n
+  unfolding partOf sum
+  part-next y ys ks n = ap (take (getD ys n 0)) (sym (drop-drop (sum (take n ys)) y ks))
+
+  first-back : (o y : ℕ) (ks : List ℕ) → (0 < y → ComesBack F h w o y (take y ks)) → backOne h F w o y (take y ks) ≡ cond (ltb 0 y) 1 0
+  first-back o y ks C = go (ℕ-discrete y 0)
+    where
+      go : Dec (y ≡ 0) → backOne h F w o y (take y ks) ≡ cond (ltb 0 y) 1 0
+      go (yes e) = one-empty h F w o y (take y ks) e ∙ sym (ap (λ (t : Bool). cond t 1 0) (le-ltb 0 y (omega arith)))
+      go (no e) = one-back h F w o y (take y ks) (C (omega arith)) (omega arith) ∙ sym (ap (λ (t : Bool). cond t 1 0) (lt-ltb 0 y (omega arith)))
+
+  all-back : (ys os ks : List ℕ) → length ys ≤ length os → ((n : ℕ) → n < length ys → 0 < getD ys n 0 → ComesBack F h w (getD os n 0) (getD ys n 0) (partOf ys ks n)) → backs h F w ys os ks ≡ nonempty ys
+  unfolding backs nonempty partOf sum
+  all-back [] os ks l C = refl
+  all-back (y ∷ ys) [] ks l C = absurd (omega arith)
+  all-back (y ∷ ys) (o ∷ os) ks l C =
+      ap₂ (λ (a b : ℕ). a + b) (first-back o y ks (C 0 (omega arith)))
+      (all-back ys os (drop y ks) (omega arith) (λ n m s. subst (ComesBack F h w (getD os n 0) (getD ys n 0)) (part-next y ys ks n) (C (suc n) (omega arith) s)))
+
+-- ---- a call of the writer
+
+module _ (c : Call) (p : ManagedPlan) (W : Written c p) where
+  -- by the offsets that it leaves all nonempty objects come back
+  pub written-back : (F : List ℕ) → HoldsRegion F c p → (h : FractalHeapHeader) → HeaderOf h c p → (old : List ℕ)
+      → backs h F (c .width) (c .sizes) (fronted (planOffsets fixed (c .width) (c .sizes)) old) (c .objects) ≡ nonempty (c .sizes)
+  unfolding fronted
+  written-back F H h T old =
+      let os : List ℕ = planOffsets fixed (c .width) (c .sizes) in
+      let n : length os ≡ length (c .sizes) = tallied (c .sizes) (c .offset-places) (c .block-places) (c .width) p (planned c p W) .offsets in
+      let m = length-append os (drop (length os) old) in
+      all-back h F (c .width) (c .sizes) (os ++ drop (length os) old) (c .objects) (omega arith)
+      (λ i l s. subst (λ (o : ℕ). ComesBack F h (c .width) o (getD (c .sizes) i 0) (partOf (c .sizes) (c .objects) i)) (sym (List·getD-append os (drop (length os) old) 0 i (omega arith))) (heap-kept .comes-back c p W F H h T i l s))
+
+  -- the root stands in the region
+  root-inside : p .«root_place» ≤ p .«region_size»
+  root-inside = go (ℕ-discrete (p .«root_rows») 0)
+    where
+      go : Dec (p .«root_rows» ≡ 0) → p .«root_place» ≤ p .«region_size»
+      go (yes z) = let e = bare-planned (c .sizes) (c .offset-places) (c .block-places) (c .width) p (planned c p W) z .place in omega arith
+      go (no z) = let e = region-planned (c .sizes) (c .offset-places) (c .block-places) (c .width) p (planned c p W) (omega arith) in omega arith
+
+  pub root-fits : c .region-address + p .«root_place» < 2 ^ 64
+  root-fits =
+      let a = root-inside in
+      let e = tests c p W .end in
+      below-undefined (c .width) (c .region-address + p .«root_place») (width-legal c p W) (omega arith)
+
+  pub rows-fit : p .«root_rows» < 2 ^ 16
+  rows-fit = go (ℕ-discrete (p .«root_rows») 0)
+    where
+      go : Dec (p .«root_rows» ≡ 0) → p .«root_rows» < 2 ^ 16
+      go (yes z) = omega arith
+      go (no z) = let e = rooted (c .sizes) (c .offset-places) (c .block-places) (c .width) p (planned c p W) (omega arith) .few in omega arith
+
+  -- a file whose part from the region's address on was lent
+  pub holds-there : (F : List ℕ) → c .lent ≡ drop (c .region-address) F
+      → HoldsRegion (take (c .region-address) F ++ regionWritten (Accepted p) (c .width) (c .header-address) (c .region-address) (c .sizes) (c .objects) (c .lent)) c p
+  holds-there F e = record { holds = go (decLe (c .region-address) (length F)) }
+    where
+      X : List ℕ
+      X = regionWritten (Accepted p) (c .width) (c .header-address) (c .region-address) (c .sizes) (c .objects) (c .lent)
+
+      go : Dec (c .region-address ≤ length F) → take (p .«region_size») (drop (c .region-address) (take (c .region-address) F ++ X)) ≡ take (p .«region_size») X
+      go (yes l) = ap (take (p .«region_size»)) (drop-at (take (c .region-address) F) X (c .region-address) (length-take-le (c .region-address) F l))
+      go (no l) =
+          let r = tests c p W .room in
+          let n = ap length e ∙ length-drop (c .region-address) F in
+          let z : p .«region_size» ≡ 0 = omega arith in
+          ap (λ (m : ℕ). take m (drop (c .region-address) (take (c .region-address) F ++ X))) z ∙ sym (ap (λ (m : ℕ). take m X) z)
