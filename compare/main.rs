@@ -14,18 +14,52 @@ mod regions;
 mod write;
 
 use std::io::Write;
+use std::sync::Mutex;
+use std::time::Instant;
+
+/// A part of the comparison.
+type Part = (&'static str, fn());
+
+/// All parts, the longest first.
+const PARTS: [Part; 8] = [
+    ("write", || write::compare(40_000)),
+    ("heap space 8", || plan::heap_space(8)),
+    ("heap", || heap::compare(1_000_000)),
+    ("heap space 4", || plan::heap_space(4)),
+    ("heap space 2", || plan::heap_space(2)),
+    ("plan", || plan::compare(100_000)),
+    ("fields", || fields::compare(1_000_000)),
+    ("checksum", || checksum::compare(1_000_000)),
+];
+
+/// Two parts at a time, each followed by the next that is left; their seconds in the end.
+fn compare(parts: &[Part]) {
+    let (left, seconds) = (Mutex::new(parts.iter()), Mutex::new(String::new()));
+    let next = || left.lock().unwrap().next();
+    let work = || {
+        while let Some((name, part)) = next() {
+            let start = Instant::now();
+            part();
+            let took = start.elapsed().as_secs_f64();
+            *seconds.lock().unwrap() += &format!(" {name} {took:.1},");
+        }
+    };
+    std::thread::scope(|both| {
+        both.spawn(work);
+        work();
+    });
+    let seconds = seconds.into_inner().unwrap();
+    println!("compare: seconds:{}", seconds.trim_end_matches(','));
+}
 
 fn main() {
     let words: Vec<String> = std::env::args().skip(1).collect();
     match words.iter().map(String::as_str).collect::<Vec<_>>()[..] {
-        ["compare"] => {
-            std::thread::scope(|both| {
-                both.spawn(|| plan::compare(100_000)); // the longest, beside all others
-                fields::compare(1_000_000);
-                checksum::compare(1_000_000);
-                heap::compare(1_000_000);
-                write::compare(40_000);
-            });
+        ["compare"] => compare(&PARTS),
+        ["compare", name] => {
+            let part = PARTS.iter().position(|part| part.0 == name);
+            let part = part.expect("the name of a part");
+            compare(&PARTS[part..=part]);
         }
         ["record", "vectors"] => print!("{}", record::vectors()),
         ["record", "heaps"] => print!("{}", record::heaps()),
@@ -45,7 +79,7 @@ fn main() {
         }
         ["bench", "write"] => bench::write(),
         _ => panic!(
-            "compare, record vectors, record heaps, record regions, record reads [stdin], bench [write]"
+            "compare [PART], record vectors, record heaps, record regions, record reads [stdin], bench [write]"
         ),
     }
 }

@@ -401,25 +401,24 @@ fn before_heap_ends(mut sizes: Vec<u64>, w: u8) {
     refused(&sizes, [n, n - 1, 8], w, (13, n as u64, n as u64 - 1));
 }
 
-/// The end of the heap space: a byte in place of the empty object is refused, and at width 2 a byte more
-/// in the last block. The original takes seconds for each of these lists.
-fn heap_space() {
-    for w in [8, 4] {
-        let mut sizes = heap_filled(w, &[limit(w)]);
-        sizes[FULL] = 1;
-        heap_ends(&sizes, w, FULL);
-        if w == 8 {
-            accepted(&sizes[..FULL], [FULL, FULL, 8], w);
-        }
-        before_heap_ends(sizes, w);
+/// The end of the heap space: a byte in place of the empty object is refused, and at width 2, without the
+/// empty one, a byte more in the last block. The original takes seconds for each of these lists.
+pub fn heap_space(w: u8) {
+    let mut sizes = match w {
+        2 => heap_filled(w, &[40_000, limit(w) - 40_000]),
+        _ => heap_filled(w, &[limit(w)]),
+    };
+    if w == 2 {
+        sizes.pop();
     }
-    let mut sizes = heap_filled(2, &[40_000, limit(2) - 40_000]);
-    sizes.pop();
     sizes[FULL] += 1;
-    heap_ends(&sizes, 2, FULL);
-    before_heap_ends(sizes, 2);
+    heap_ends(&sizes, w, FULL);
+    if w == 8 {
+        accepted(&sizes[..FULL], [FULL, FULL, 8], w);
+    }
+    before_heap_ends(sizes, w);
     println!(
-        "compare: plan to the end of the heap space at widths 2, 4, 8, {FULL} blocks of the largest objects, an empty one at 2^40, and 12 at its index: equal"
+        "compare: plan to the end of the heap space at width {w}, {FULL} blocks of the largest objects, an empty one at 2^40, and 12 at its index: equal"
     );
 }
 
@@ -428,5 +427,4 @@ pub fn compare(n: u64) {
     worked();
     lists(&mut random, n);
     refusals(&mut random, n);
-    heap_space();
 }
