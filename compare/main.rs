@@ -1,8 +1,10 @@
 //! Holds our static libraries against the original Rust: `compare`, `record` or `bench` (see `run`).
+mod back;
 mod bench;
 mod checksum;
 mod fields;
 mod heap;
+mod image;
 mod made;
 mod ours;
 mod panics;
@@ -21,7 +23,8 @@ use std::time::Instant;
 type Part = (&'static str, fn());
 
 /// All parts, the longest first.
-const PARTS: [Part; 8] = [
+const PARTS: [Part; 9] = [
+    ("back", || back::compare(150_000)),
     ("write", || write::compare(40_000)),
     ("heap space 8", || plan::heap_space(8)),
     ("heap", || heap::compare(1_000_000)),

@@ -85,6 +85,14 @@ unsafe extern "C" {
         totals: *mut u64,
         totals_len: usize,
     ) -> u32;
+    fn tools_write_managed_id(
+        offset: u64,
+        size: u64,
+        id: *mut u8,
+        id_len: usize,
+        slot: *mut u8,
+        slot_len: usize,
+    ) -> u32;
 }
 
 #[link(name = "fractal_heap_c", kind = "static")]
@@ -276,6 +284,12 @@ pub fn serialize(
     }
 }
 
+/// The refusal's number, or 0; the two numbers of the answer are put into the slot.
+pub fn write_managed_id(offset: u64, size: u64, id: &mut [u8], slot: &mut [u8]) -> u32 {
+    let (i, k, s, n) = (id.as_mut_ptr(), id.len(), slot.as_mut_ptr(), slot.len());
+    unsafe { tools_write_managed_id(offset, size, i, k, s, n) }
+}
+
 /// Every function with a slot, lent one of fewer than 16 bytes: nothing is written anywhere.
 pub fn short_slot(len: usize, bytes: &mut [u8]) {
     let before = bytes.to_vec();
@@ -312,16 +326,34 @@ pub fn parse(heap: &Heap, fields: &mut [u64]) -> u32 {
     }
 }
 
-fn decode_into(heap: &Heap, id: &[u8], slot: *mut u8, len: usize) -> u32 {
-    let (file, w, l) = (&heap.file, heap.offset_size, heap.length_size);
-    let (f, n, i, k) = (file.as_ptr(), file.len(), id.as_ptr(), id.len());
-    unsafe { fractal_heap_decode_managed_id(f, n, heap.at, w, l, i, k, slot, len) }
+/// A file that is lent, a header's place in it, and the two widths.
+#[derive(Clone, Copy)]
+pub struct View<'a> {
+    pub file: &'a [u8],
+    pub at: u64,
+    pub offset_size: u8,
+    pub length_size: u8,
 }
 
-fn read_into(heap: &Heap, id: &[u8], slot: *mut u8, len: usize) -> u32 {
-    let (file, w, l) = (&heap.file, heap.offset_size, heap.length_size);
+fn view_of(heap: &Heap) -> View<'_> {
+    View {
+        file: &heap.file,
+        at: heap.at,
+        offset_size: heap.offset_size,
+        length_size: heap.length_size,
+    }
+}
+
+fn decode_into(view: View, id: &[u8], slot: *mut u8, len: usize) -> u32 {
+    let (file, w, l) = (view.file, view.offset_size, view.length_size);
     let (f, n, i, k) = (file.as_ptr(), file.len(), id.as_ptr(), id.len());
-    unsafe { fractal_heap_read_managed_object(f, n, heap.at, w, l, i, k, slot, len) }
+    unsafe { fractal_heap_decode_managed_id(f, n, view.at, w, l, i, k, slot, len) }
+}
+
+fn read_into(view: View, id: &[u8], slot: *mut u8, len: usize) -> u32 {
+    let (file, w, l) = (view.file, view.offset_size, view.length_size);
+    let (f, n, i, k) = (file.as_ptr(), file.len(), id.as_ptr(), id.len());
+    unsafe { fractal_heap_read_managed_object(f, n, view.at, w, l, i, k, slot, len) }
 }
 
 fn sized_into(heap: &Heap, read_size: u8, id: &[u8], slot: *mut u8, len: usize) -> u32 {
@@ -339,13 +371,21 @@ fn type_into(id: &[u8], slot: *mut u8, len: usize) -> u32 {
 }
 
 /// The loader's: parses, then decodes.
+pub fn decode_in(view: View, id: &[u8]) -> Answer {
+    with_slot(|s, n| decode_into(view, id, s, n))
+}
+
 pub fn decode(heap: &Heap, id: &[u8]) -> Answer {
-    with_slot(|s, n| decode_into(heap, id, s, n))
+    decode_in(view_of(heap), id)
 }
 
 /// The loader's: parses, then reads at the offset size of the parse.
+pub fn read_in(view: View, id: &[u8]) -> Answer {
+    with_slot(|s, n| read_into(view, id, s, n))
+}
+
 pub fn read(heap: &Heap, id: &[u8]) -> Answer {
-    with_slot(|s, n| read_into(heap, id, s, n))
+    read_in(view_of(heap), id)
 }
 
 /// Parses, then reads at any offset size.
@@ -381,8 +421,8 @@ pub fn read_each(heap: &Heap, ids: &[u8], found: &mut [u64]) -> u32 {
 
 /// The functions over a heap with a slot, lent one of fewer than 16 bytes.
 pub fn short_heap_slot(len: usize, heap: &Heap, id: &[u8]) {
-    with_short_slot(len, |s, k| decode_into(heap, id, s, k));
-    with_short_slot(len, |s, k| read_into(heap, id, s, k));
+    with_short_slot(len, |s, k| decode_into(view_of(heap), id, s, k));
+    with_short_slot(len, |s, k| read_into(view_of(heap), id, s, k));
     with_short_slot(len, |s, k| sized_into(heap, 8, id, s, k));
     with_short_slot(len, |s, k| tiny_into(8, id, s, k));
     with_short_slot(len, |s, k| type_into(id, s, k));

@@ -101,7 +101,7 @@ pub fn news(plan: &Plan) -> [&[u64]; 3] {
 }
 
 /// The original's plan, and ours equal to it.
-fn accepted(sizes: &[u64], places: Places, w: u8) -> Plan {
+pub fn accepted(sizes: &[u64], places: Places, w: u8) -> Plan {
     let plan = original::plan(sizes, w).expect("within the heap space");
     expect(sizes, places, w, 0, news(&plan));
     plan

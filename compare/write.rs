@@ -57,7 +57,7 @@ fn fitting(mut sizes: Vec<u64>, bytes: u64, w: u8) -> Vec<u64> {
 
 /// A list of up to so many sizes and bytes. No block of 65,536 has an address at width 2: what needs one is
 /// made smaller by half of it.
-fn list(random: &mut Random, len: u64, bytes: u64, w: u8) -> Vec<u64> {
+pub fn list(random: &mut Random, len: u64, bytes: u64, w: u8) -> Vec<u64> {
     let mut sizes = any_list(random, len, w);
     let large = sizes.iter_mut().filter(|size| **size > limit(w) - 32_768);
     large
@@ -66,15 +66,31 @@ fn list(random: &mut Random, len: u64, bytes: u64, w: u8) -> Vec<u64> {
     fitting(sizes, bytes, w)
 }
 
-/// Addresses that pass 15, of the region and of the header: often the largest, or 0.
-fn addresses(random: &mut Random, w: u8, size: u64) -> (u64, u64) {
-    let mut address = |end: u64| match random.below(6) {
-        0 => 0,
-        1 => end,
-        2 | 3 => random.next() % end,
-        _ => random.number() % end,
+/// A list as most comparisons have them: short mostly, now and then long.
+pub fn mixed_list(random: &mut Random, w: u8) -> Vec<u64> {
+    let (len, bytes) = match random.below(100) {
+        0 => (3000, 1 << 20),
+        1..10 => (100, 1 << 18),
+        _ => (10, 1 << 17),
     };
-    (address(most(w) - size), address(most(w) - 1))
+    let len = random.below(len);
+    list(random, len, bytes, w)
+}
+
+/// An address up to the last one: often that, or 0.
+pub fn address(random: &mut Random, last: u64) -> u64 {
+    match random.below(6) {
+        0 => 0,
+        1 => last,
+        2 | 3 => random.next() % last,
+        _ => random.number() % last,
+    }
+}
+
+/// Addresses that pass 15, of the region and of the header.
+fn addresses(random: &mut Random, w: u8, size: u64) -> (u64, u64) {
+    let region_at = address(random, most(w) - size);
+    (region_at, address(random, most(w) - 1))
 }
 
 /// The indirect blocks from the one at a place on down: how many, and how many one in the other.
@@ -120,7 +136,7 @@ struct Comparison<'a> {
 }
 
 /// A call in words, for a difference.
-fn what(writing: &Writing, places: Places, bytes: usize) -> String {
+pub fn what(writing: &Writing, places: Places, bytes: usize) -> String {
     let sizes = writing.sizes;
     format!(
         "width {}, region at {}, header at {}, {} object bytes, {places:?} places, {bytes} bytes, {} sizes {:?}",
@@ -133,12 +149,43 @@ fn what(writing: &Writing, places: Places, bytes: usize) -> String {
     )
 }
 
-fn same_bytes(got: &[u8], due: &[u8], what: impl Fn() -> String) {
+pub fn same_bytes(got: &[u8], due: &[u8], what: impl Fn() -> String) {
     if got != due {
         let at = got.iter().zip(due).position(|(x, y)| x != y);
         let at = at.expect("bytes of one length");
         panic!("byte {at}, {} for {}: {}", got[at], due[at], what());
     }
+}
+
+/// So many random bytes. They begin near the pool's front, so that most are in the cache.
+pub fn drawn<'a>(pool: &'a [u8], random: &mut Random, len: usize) -> &'a [u8] {
+    let last = (pool.len() - len).min(1 << 20);
+    let at = random.below(last as u64 + 1) as usize;
+    &pool[at..at + len]
+}
+
+/// Calls ours with lists of so many places, and holds all but the region to what is due.
+pub fn call(writing: &Writing, places: Places, region: &mut [u8], number: u32, news: [&[u64]; 3]) {
+    let bytes = region.len();
+    let at = || what(writing, places, bytes);
+    let mut own = Lent::new(writing.sizes.len());
+    own.places().copy_from_slice(writing.sizes);
+    let [mut offsets, mut blocks, mut totals] = places.map(Lent::new);
+    let got = ours::serialize(
+        &Writing {
+            sizes: own.places(),
+            ..*writing
+        },
+        offsets.places(),
+        blocks.places(),
+        region,
+        totals.places(),
+    );
+    assert_eq!(got, number, "number: {}", at());
+    totals.holds(news[2], || format!("totals: {}", at()));
+    offsets.holds(news[0], || format!("offsets: {}", at()));
+    blocks.holds(news[1], || format!("blocks: {}", at()));
+    own.holds(writing.sizes, || format!("sizes: {}", at()));
 }
 
 impl<'a> Comparison<'a> {
@@ -151,11 +198,8 @@ impl<'a> Comparison<'a> {
         }
     }
 
-    /// So many random bytes. They begin near the pool's front, so that most are in the cache.
     fn bytes(&mut self, len: usize) -> &'a [u8] {
-        let last = (self.pool.len() - len).min(1 << 20);
-        let at = self.random.below(last as u64 + 1) as usize;
-        &self.pool[at..at + len]
+        drawn(self.pool, &mut self.random, len)
     }
 
     /// Calls ours with so many places and bytes, and holds all that was lent to what is due.
@@ -173,24 +217,8 @@ impl<'a> Comparison<'a> {
         let marks = self.bytes(before + bytes + 20);
         self.region.clear();
         self.region.extend_from_slice(marks);
-        let mut own = Lent::new(writing.sizes.len());
-        own.places().copy_from_slice(writing.sizes);
-        let [mut offsets, mut blocks, mut totals] = places.map(Lent::new);
-        let got = ours::serialize(
-            &Writing {
-                sizes: own.places(),
-                ..*writing
-            },
-            offsets.places(),
-            blocks.places(),
-            &mut self.region[before..before + bytes],
-            totals.places(),
-        );
-        assert_eq!(got, number, "number: {}", at());
-        totals.holds(news[2], || format!("totals: {}", at()));
-        offsets.holds(news[0], || format!("offsets: {}", at()));
-        blocks.holds(news[1], || format!("blocks: {}", at()));
-        own.holds(writing.sizes, || format!("sizes: {}", at()));
+        let lent = &mut self.region[before..before + bytes];
+        call(writing, places, lent, number, news);
         let end = before + due.len();
         let region = &self.region;
         same_bytes(&region[before..end], due, || format!("region: {}", at()));
@@ -258,7 +286,7 @@ fn first_at(depth: u64) -> u64 {
 
 /// The largest objects up to the first block of a depth, then smaller ones from that block on, mostly in its
 /// indirect block, then any.
-fn deep_list(random: &mut Random, depth: u64, w: u8) -> Vec<u64> {
+pub fn deep_list(random: &mut Random, depth: u64, w: u8) -> Vec<u64> {
     let all = original::plan(&[limit(w); 1200], w).expect("within the heap space");
     let before = all.offsets.partition_point(|&at| at < first_at(depth));
     let mut sizes = vec![limit(w); before];
@@ -278,13 +306,7 @@ impl Comparison<'_> {
             }
         });
         for _ in 0..n {
-            let (len, bytes) = match self.random.below(100) {
-                0 => (3000, 1 << 20),
-                1..10 => (100, 1 << 18),
-                _ => (10, 1 << 17),
-            };
-            let len = self.random.below(len);
-            let sizes = list(&mut self.random, len, bytes, w);
+            let sizes = mixed_list(&mut self.random, w);
             self.same(&sizes, w);
         }
     }
