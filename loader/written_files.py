@@ -1,10 +1,11 @@
-"""Lets HDF5's own library and tools judge the blocks that our writer writes.
+"""Lets HDF5's own library and tools judge the blocks and IDs that our writers write.
     written_files.py WRITE_REGION FOLDER
 h5py writes files with densely stored attributes into the folder. In a copy of each file our writer writes
-the objects of every attribute heap anew, in another order and at another place; what leads there is set
-as the format has it, and the old blocks are overwritten. Then h5py must read what was put in, h5dump must
-print what it prints of the file as it was, h5debug must tell our numbers, HDF5 must go on with the file
-where our blocks leave off, and a block with one bit changed must be refused.
+the objects of every attribute heap anew, in another order and at another place; the indexes get the IDs
+that our writer of IDs writes, all else that leads there is set as the format has it, and the old blocks are
+overwritten. Then h5py must read what was put in, by our IDs, h5dump must print what it prints of the file
+as it was, h5debug must tell our numbers, HDF5 must go on with the file where our blocks leave off, a block
+with one bit changed must be refused, and with two IDs exchanged neither attribute must be found.
 WRITE_REGION is the program of write_region.c."""
 
 import collections
@@ -30,7 +31,7 @@ KINDS = ["direct", "indirect", "nested"]  # of heaps; a nested one may go deeper
 TOTALS = ["block_count", "region_size", "rows", "root_place"]
 TOTALS += ["managed_space", "allocated_space", "free_space", "iterator"]
 
-Written = collections.namedtuple("Written", "at totals offsets blocks region")
+Written = collections.namedtuple("Written", "at totals offsets blocks region ids")
 
 
 # Making files
@@ -187,10 +188,14 @@ class Dense:
             expect(not told or len(data) == int(size), f"{len(data)} bytes, not {size}")
 
 
+def whole_file(name):
+    with open(name, "rb") as opened:
+        return opened.read()
+
+
 def dense_objects(name):
     """The bytes of a file, and the attributes of every object in its root group."""
-    with open(name, "rb") as opened:
-        image = form.Image(opened.read())
+    image = form.Image(whole_file(name))
     with h5py.File(name, "r") as file:
         addresses = {file[key].name: h5o.get_info(file[key].id).addr for key in file}
     return image, [Dense(image, path, address) for path, address in addresses.items()]
@@ -200,18 +205,20 @@ def dense_objects(name):
 
 
 def write_region(program, folder, objects, width, region_at, header_at):
-    """What our writer makes of these objects."""
-    names = [os.path.join(folder, name) for name in ("sizes", "objects", "region")]
+    """What our writers make of these objects."""
+    names = [os.path.join(folder, name) for name in ("sizes", "objects", "region", "ids")]
     numpy.array([len(data) for data in objects], "<u8").tofile(names[0])
     with open(names[1], "wb") as opened:
         opened.write(b"".join(objects))
     words = [program, *names, str(width), str(region_at), str(header_at)]
     run = subprocess.run(words, text=True, stdout=subprocess.PIPE, check=True)
     lines = [[int(number) for number in line.split()] for line in run.stdout.splitlines()]
-    with open(names[2], "rb") as opened:
-        region = opened.read()
+    region, ids = whole_file(names[2]), whole_file(names[3])
+    ids = [ids[at : at + 8] for at in range(0, len(ids), 8)]
     totals, offsets, blocks = lines
-    return Written(region_at, dict(zip(TOTALS, totals)), offsets, blocks, region)
+    due = [b"\0" + little(offset, 5) + little(len(data), 2) for offset, data in zip(offsets, objects)]
+    expect(ids == due, "IDs by the format: version and type 0, offset, length")
+    return Written(region_at, dict(zip(TOTALS, totals)), offsets, blocks, region, ids)
 
 
 class Copy:
@@ -293,10 +300,7 @@ def write_anew(program, folder, copy, dense, draw):
     for name, value in header_values(dense, written).items():
         copy.set(heap.fields[name][0], value, heap.fields[name][1])
     copy.seal(heap.address, heap.address + form.header_length(heap.image) - 4)
-    new_ids = {
-        heap_id: b"\0" + little(offset, 5) + little(len(data), 2)
-        for heap_id, offset, data in zip(ids, written.offsets, objects)
-    }
+    new_ids = dict(zip(ids, written.ids))
     for tree in dense.trees:
         set_ids(copy, tree, new_ids)
     return written
@@ -318,6 +322,7 @@ def check_layout(old, new, written):
     """By the format, the new heap has the old objects, in the blocks that our writer tells of, and these
     fill the region."""
     heap = new.heap
+    expect(sorted(new.places) == sorted(written.ids), "IDs in the indexes")
     expect(sorted(new.objects.values()) == sorted(old.objects.values()), "objects of a heap")
     expect([block[0] for block in heap.blocks] == written.blocks, "heap offsets of the blocks")
     expect(len(written.blocks) == written.totals["block_count"], "number of blocks")
@@ -406,6 +411,36 @@ def check_debug(name, dense, draw):
     for offset, size, address, _ in directs:
         h5debug.check_direct(name, heap, address, offset, size)
     return len(heap.indirects) + len(directs)
+
+
+# IDs
+
+
+def followed(dense, made):
+    """The number of our IDs in the indexes of an object; each leads to an attribute that h5py has read."""
+    names = {dense.name_of(heap_id).decode() for heap_id in dense.places}
+    expect(len(names) == len(dense.places), f"names of {dense.path}")
+    expect(names <= set(made.contents[dense.path]), f"names of {dense.path}")
+    return len(names)
+
+
+def check_exchanged(name, dense):
+    """HDF5 goes by the IDs: with those of two attributes exchanged in the index of names it finds neither;
+    returns whether there are two."""
+    if len(dense.places) < 2:
+        return False
+    one, other = random.Random(name).sample(sorted(dense.places), 2)
+    copy = Copy(dense.heap.image)
+    set_ids(copy, dense.trees[0], {one: other, other: one})
+    exchanged = name + ".exchanged"
+    with open(exchanged, "wb") as opened:
+        opened.write(copy.finished())
+    with h5py.File(exchanged, "r") as file:
+        for heap_id in (one, other):
+            key = dense.name_of(heap_id)
+            expect(not h5a.exists(file[dense.path].id, key), f"{key} of {dense.path} by another ID")
+    os.remove(exchanged)
+    return True
 
 
 # Damaged blocks
@@ -556,6 +591,8 @@ def check_file(program, folder, made, tools, counts):
     if tools:
         check_dump(name, made)
     for dense in found:
+        counts["ids"] += followed(dense, made)
+        counts["exchanged"] += check_exchanged(name, dense)
         if tools:
             counts["blocks"] += check_debug(name, dense, made.draw)
         check_damages(name, dense, made, tools, counts)
@@ -571,6 +608,10 @@ def report(counts, tools):
     """Prints what was met; the last line is the sum."""
     heaps = ", ".join(f"{counts[kind]} {kind}" for kind in KINDS)
     print(f"written files: heaps: {heaps}; HDF5 went on with all files: {counts['went on']} attributes")
+    print(
+        f"written files: HDF5 went by {counts['ids']} IDs that our writer wrote; with two of them exchanged, "
+        f"in {counts['exchanged']} heaps, it finds neither attribute"
+    )
     if tools:
         refusals = f"h5dump refuses {counts['damaged for h5dump']} of the damaged copies, too, "
         refusals += f"and h5debug {counts['damaged for h5debug']}"
