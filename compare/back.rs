@@ -10,7 +10,7 @@ use original::{Answer, Header, Plan};
 use std::ops::Range;
 
 /// The ID by the scope: 0, the heap offset in five bytes, the length in two.
-fn by_rule(offset: u64, length: u64) -> [u8; 8] {
+pub fn by_rule(offset: u64, length: u64) -> [u8; 8] {
     let (o, n) = (offset.to_le_bytes(), length.to_le_bytes());
     [0, o[0], o[1], o[2], o[3], o[4], n[0], n[1]]
 }
@@ -136,9 +136,11 @@ fn place(random: &mut Random, size: u64, w: u8, room: u64) -> Place {
     let (header, gap) = (26 + 12 * u64::from(l) + 3 * u64::from(w), random.below(100));
     let gap = random.one(&[0, gap]);
     let last = most(w).min(room - SPARE) - size;
-    let start = match random.below(3) {
-        0 => random.below(last.min(5000)),
-        _ => address(random, last),
+    let start = match random.below(8) {
+        0 => 0,
+        1 => last,
+        2 | 3 => address(random, last),
+        _ => random.below(last.min(5000)),
     };
     let region = start..start + size;
     let at = match random.below(2) {

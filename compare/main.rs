@@ -24,7 +24,7 @@ type Part = (&'static str, fn());
 
 /// All parts, the longest first.
 const PARTS: [Part; 9] = [
-    ("back", || back::compare(150_000)),
+    ("back", || back::compare(200_000)),
     ("write", || write::compare(40_000)),
     ("heap space 8", || plan::heap_space(8)),
     ("heap", || heap::compare(1_000_000)),
