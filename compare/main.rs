@@ -13,6 +13,7 @@ mod random;
 mod reads;
 mod record;
 mod regions;
+mod round_trips;
 mod write;
 
 use std::io::Write;
@@ -67,6 +68,7 @@ fn main() {
         ["record", "vectors"] => print!("{}", record::vectors()),
         ["record", "heaps"] => print!("{}", record::heaps()),
         ["record", "regions"] => print!("{}", record::regions()),
+        ["record", "round_trips"] => print!("{}", record::round_trips()),
         ["record", "reads"] => print!("{}", record::reads_summary()),
         ["record", "reads", "stdin"] => {
             let list = record::reads();
@@ -82,7 +84,7 @@ fn main() {
         }
         ["bench", "write"] => bench::write(),
         _ => panic!(
-            "compare [PART], record vectors, record heaps, record regions, record reads [stdin], bench [write]"
+            "compare [PART], record vectors, record heaps, record regions, record round_trips, record reads [stdin], bench [write]"
         ),
     }
 }

@@ -1,10 +1,12 @@
 //! What the programs `vectors` and `heaps` must print, from the original alone (stores: by the facts of
 //! docs/DECISIONS.md; the refusals of planning that the original does not have: by the scope's table). What
-//! the program `reads` replays and prints is in reads.rs, what `regions` prints in regions.rs.
+//! the program `reads` replays and prints is in reads.rs, what `regions` and `round_trips` print in the files of
+//! their names.
 use crate::fields::stored;
 use crate::plan::{by_table, header, limit};
 pub use crate::reads::{reads, reads_summary};
 pub use crate::regions::regions;
+pub use crate::round_trips::round_trips;
 use original::{Answer, Plan, is_undefined_addr, jenkins_lookup3, plan, read_length, read_offset};
 use std::fmt::Write;
 
@@ -22,10 +24,14 @@ pub const ADDRS: [u64; 7] = [
 ];
 pub const STORED: u64 = 0x0123_4567_89AB_CDEF;
 
-/// A linear congruence, from 1 on.
-pub fn numbers() -> impl Iterator<Item = u64> {
+/// A linear congruence, from a number on.
+pub fn numbers_from(first: u64) -> impl Iterator<Item = u64> {
     let next = |&x: &u64| Some((x * 1_103_515_245 + 12_345) % (1 << 32));
-    std::iter::successors(Some(1), next).skip(1)
+    std::iter::successors(Some(first), next).skip(1)
+}
+
+pub fn numbers() -> impl Iterator<Item = u64> {
+    numbers_from(1)
 }
 
 /// The bytes that are summed and read: bits 16 to 23 of each number.
