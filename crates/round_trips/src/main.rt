@@ -113,9 +113,7 @@ fn go(
     file: &mut [u8],
     width: u8,
 ) {
-    match round_trip(
-        sizes, offsets, blocks, objects, file, REGION, HEADER, width,
-    ) {
+    match round_trip(sizes, offsets, blocks, objects, file, REGION, HEADER, width) {
         RoundTrip::Refused(e) => told(refused(e)),
         RoundTrip::Back(back) => {
             let root = saturating_add(REGION, plan.root_place);
@@ -130,15 +128,7 @@ fn trip(sizes: &[u64], objects: &[u8], file: &mut [u8], width: u8) {
     let mut blocks = [0u64; PLACES];
     match ManagedPlan::new(sizes, &mut offsets, &mut blocks, width) {
         Planned::Refused(e) => told(refused(e)),
-        Planned::Accepted(plan) => go(
-            plan,
-            sizes,
-            &mut offsets,
-            &mut blocks,
-            objects,
-            file,
-            width,
-        ),
+        Planned::Accepted(plan) => go(plan, sizes, &mut offsets, &mut blocks, objects, file, width),
     }
 }
 

@@ -1,10 +1,9 @@
 -- `draw` is safe and ends. Assumes nothing.
 use borrow.Author.Needs.{needs}
 use native.Mathlib.Omega.{arith}
-use mathlib.Core.Path.{_≡_, sym}
-use Prim.Native.Nat.{_+_, _-_, _*_, _≤_, _<_, _^_}
+use mathlib.Core.Path.{_≡_}
+use Prim.Native.Nat.{_-_, _≤_, _<_, _^_}
 use lib.ListN.{length, length-set}
-use lib.Seq.{length-take-le}
 use Rattle.round_trips.proofs.draw.Statement.{statement}
 use Rattle.round_trips.proofs.draw.Tie as tie
 

@@ -1,10 +1,8 @@
 -- `empties` is safe and ends. Assumes nothing.
 use borrow.Author.Needs.{needs}
 use native.Mathlib.Omega.{arith}
-use mathlib.Core.Path.{_≡_, sym}
-use Prim.Native.Nat.{_+_, _-_, _*_, _≤_, _<_, _^_}
-use lib.ListN.{length, length-set}
-use lib.Seq.{length-take-le}
+use Prim.Native.Nat.{_-_, _≤_}
+use lib.ListN.{length}
 use Rattle.round_trips.proofs.empties.Statement.{statement}
 use Rattle.round_trips.proofs.empties.Tie as tie
 
