@@ -6,10 +6,10 @@ use crate::header::FractalHeapHeader;
 use crate::header::Parsed;
 use fields::convert::is_undefined_addr;
 use heap_blocks::Found;
-use heap_blocks::read_from_direct_block;
-use heap_blocks::read_from_indirect_block;
 use heap_ids::IdType;
 use heap_ids::ManagedId;
+use heap_walk::read_from_direct_block;
+use heap_walk::read_from_indirect_block;
 use refusals::FormatError;
 
 impl FractalHeapHeader {

@@ -1,12 +1,12 @@
-// Finding an object's bytes in the blocks of a heap: the child of an indirect block that holds a heap
-// offset, the walk from the root down, and the place in a direct block. Block checksums are not tested.
+// The blocks of a heap as its reader meets them: the child of an indirect block that holds a heap offset, slot by
+// slot and row by row.
 ghost use mathlib.Core.Path.{_≡_};
 ghost use mathlib.Core.Bool.{_&&_};
 ghost use Prim.Native.Nat.{_+_, _*_, _≤_};
 ghost use lib.Dec.{leb};
-ghost use lib.ListN.{length, drop};
+ghost use lib.ListN.{length};
 ghost use Rattle.fields.specs.Fields.{legal};
-ghost use Rattle.heap_blocks.specs.Blocks.{holdsOffset, rowScan, childOf, childScan, childIn, childAt, directAt, walkFrom, foundAnswer};
+ghost use Rattle.heap_blocks.specs.Blocks.{holdsOffset, rowScan, childOf, childScan, childIn, foundAnswer};
 use fields::bytes::Checked;
 use fields::bytes::Field;
 use fields::bytes::ensure_len;
@@ -16,10 +16,8 @@ use fields::bytes::read_offset;
 use fields::bytes::read_u32_le;
 use fields::bytes::saturating_add;
 use fields::convert::is_undefined_addr;
-use fields::convert::to_usize;
 use heap_rows::DoublingTable;
 use heap_rows::saturating_mul;
-use heap_rows::saturating_sub;
 use refusals::Answer;
 use refusals::FormatError;
 use refusals::refused;
@@ -196,8 +194,8 @@ fn scan_rows(
 }
 
 // The child that holds the target, of the block whose bytes these begin with. Filtered heaps have been
-// refused before: their entries are longer.
-fn find_child_for_offset(
+// refused before: their entries are longer. Public for the crates above alone.
+pub fn find_child_for_offset(
     table: DoublingTable,
     block: &[u8],
     nrows: u64,
@@ -218,81 +216,4 @@ fn find_child_for_offset(
             scan_rows(table, block, at, nrows, start, target, offset_size)
         }
     }
-}
-
-// The child of the indirect block at `addr`, which is given the file from there on.
-fn child_of_block(
-    table: DoublingTable,
-    file: &[u8],
-    addr: u64,
-    nrows: u64,
-    start: u64,
-    target: u64,
-    offset_size: u8,
-) -> HeapChild
-    ensures { λ r. ⌜ r ≡ childAt table (now (file .entry)) addr nrows start target «offset_size» ⌝ }
-{
-    let a = to_usize(addr);
-    match ensure_len(file, a, 4) {
-        Checked::Refused(e) => HeapChild::Refused(e),
-        Checked::Passed => {
-            find_child_for_offset(table, &file[a..], nrows, start, target, offset_size)
-        }
-    }
-}
-
-// An object of `length` bytes at heap offset `target`, in the direct block at `addr` that begins at heap
-// offset `start`. The offset size is of no account here.
-pub fn read_from_direct_block(file: &[u8], addr: u64, start: u64, target: u64, length: u64) -> Found
-    ensures { λ r. ⌜ r ≡ directAt (now (file .entry)) addr start target length ⌝ }
-{
-    let distance = saturating_sub(target, start);
-    if distance <= u64::MAX - addr {
-        let pos = addr + distance;
-        match ensure_len(file, to_usize(pos), to_usize(length)) {
-            Checked::Passed => Found::At(pos, length),
-            Checked::Refused(e) => Found::Refused(e),
-        }
-    } else {
-        Found::Refused(FormatError::OffsetOverflow(addr, distance))
-    }
-}
-
-// The same, below the indirect root block at `addr`: child by child, through at most 64 blocks.
-pub fn read_from_indirect_block(
-    table: DoublingTable,
-    file: &[u8],
-    addr: u64,
-    nrows: u64,
-    target: u64,
-    length: u64,
-    offset_size: u8,
-) -> Found
-    ensures { λ r. ⌜ r ≡ walkFrom table (now (file .entry)) «offset_size» target length 64 addr nrows 0 ⌝ }
-{
-    let mut block = addr;
-    let mut rows = nrows;
-    let mut start: u64 = 0;
-    let mut depth: u64 = 64;
-    while depth > 0 {
-        match child_of_block(table, file, block, rows, start, target, offset_size) {
-            HeapChild::Direct(child, _, offset) => {
-                return read_from_direct_block(file, child, offset, target, length);
-            }
-            HeapChild::Indirect(child, n, offset) => {
-                block = child;
-                rows = n;
-                start = offset;
-                depth = depth - 1;
-            }
-            HeapChild::Missing => {
-                let end = saturating_add(target, length);
-                return Found::Refused(FormatError::UnexpectedEof(end, file.len() as u64));
-            }
-            HeapChild::Refused(e) => {
-                return Found::Refused(e);
-            }
-        }
-    }
-    Found::Refused(FormatError::DepthExceeded)
 }

@@ -1,13 +1,12 @@
 -- `child_of_block` meets its contract. Assumes nothing.
 use borrow.Author.Needs.{needs}
-use Rattle.heap_blocks.proofs.child_of_block.Statement.{statement}
-use Rattle.heap_blocks.proofs.child_of_block.Tie as tie
+use Rattle.heap_walk.proofs.child_of_block.Statement.{statement}
+use Rattle.heap_walk.proofs.child_of_block.Tie as tie
 use mathlib.Core.Path.{sym, _∙_}
 use native.Mathlib.Omega.{arith}
 use Rattle.fields.proofs.Fields.{len-within}
 use Rattle.heap_blocks.specs.Blocks.{childAt}
-use mathlib.Core.Path.{sym, _∙_}
 use Rattle.heap_blocks.proofs.Walking.{part-all}
 
 to-usize-requires : tie.Need-to-usize-requires
 to-usize-requires c κs = search needs

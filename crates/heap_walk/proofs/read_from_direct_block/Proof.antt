@@ -1,18 +1,10 @@
 -- `read_from_direct_block` meets its contract. Assumes nothing.
 use borrow.Author.Needs.{needs}
-use Rattle.heap_blocks.proofs.read_from_direct_block.Statement.{statement}
-use Rattle.heap_blocks.proofs.read_from_direct_block.Tie as tie
+use Rattle.heap_walk.proofs.read_from_direct_block.Statement.{statement}
+use Rattle.heap_walk.proofs.read_from_direct_block.Tie as tie
 use mathlib.Core.Path.{sym, _∙_}
 use borrow.Author.Tests.{le-leb, lt-leb}
 use Rattle.heap_blocks.specs.Blocks.{directAt}
-use mathlib.Core.Path.{sym, _∙_}
-use borrow.Author.Tests.{le-leb, lt-leb}
-use mathlib.Core.Path.{sym, _∙_}
-use borrow.Author.Tests.{le-leb, lt-leb}
-use mathlib.Core.Path.{sym, _∙_}
-use borrow.Author.Tests.{le-leb, lt-leb}
-use mathlib.Core.Path.{sym, _∙_}
-use borrow.Author.Tests.{le-leb, lt-leb}
 
 saturating-sub-requires : tie.Need-saturating-sub-requires
 saturating-sub-requires c κs = search needs

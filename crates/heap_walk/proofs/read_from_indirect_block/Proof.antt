@@ -1,12 +1,12 @@
 -- `read_from_indirect_block` meets its contract. Assumes nothing.
-use Rattle.heap_blocks.proofs.read_from_indirect_block.Statement.{statement}
-use Rattle.heap_blocks.proofs.read_from_indirect_block.Tie as tie
+use Rattle.heap_walk.proofs.read_from_indirect_block.Statement.{statement}
+use Rattle.heap_walk.proofs.read_from_indirect_block.Tie as tie
 use borrow.Author.Needs.{needs}
 use mathlib.Core.Path.{_≡_, refl, sym, _∙_}
 use native.Mathlib.Omega.{arith}
 use Prim.Native.Nat.{_≤_, _-_}
 use Rattle.heap_blocks.specs.Blocks.{walkFrom}
 use Rattle.heap_blocks.proofs.Walking.{walk-direct, walk-deeper, walk-missing, walk-stop, walk-end}
 
 abbrev Inv-loop : tie.InvT-loop
 Inv-loop table file addr nrows target length offset-size block₀ rows₀ start₀ depth₀ block rows start depth = (depth ≤ 64) × (walkFrom table file offset-size target length 64 addr nrows 0 ≡ walkFrom table file offset-size target length depth block rows start)
