@@ -1,5 +1,4 @@
-// Fields of an HDF5 file: bounds-checked little-endian reads, the stores that the writers need, the
-// undefined address, and the slot that hands an answer to C.
+// Fields of an HDF5 file: bounds-checked little-endian reads and the undefined address. The definitions of the
+// stores and of the slot for C stand here too, their functions in the crates `stores` and `slot`.
 pub mod bytes;
 pub mod convert;
-pub mod slot;

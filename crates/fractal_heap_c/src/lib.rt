@@ -10,8 +10,8 @@ ghost use Rattle.fractal_heap.specs.Header.{headerAt};
 ghost use Rattle.fractal_heap.specs.Read.{idBy, objectBy};
 use checksum::jenkins_lookup3;
 use fields::convert::to_usize;
-use fields::slot::put_answer;
 use fractal_heap::header::FractalHeapHeader;
+use slot::put_answer;
 
 #[no_mangle]
 pub extern "C" fn fractal_heap_checksum(bytes: &[u8]) -> u32

@@ -11,12 +11,12 @@ ghost use Rattle.fractal_heap.specs.Read.{objectBy};
 ghost use Rattle.heap_ids.specs.Id.{idTypeOf, idTypeAnswer, tinyAt};
 ghost use Rattle.heap_tools_c.specs.HeapTools.{fieldNumbers, pairOf, fieldsNumber, fieldsList, answersFrom, eachNumber, eachList};
 use fields::convert::to_usize;
-use fields::slot::put_answer;
 use fractal_heap::header::FractalHeapHeader;
 use fractal_heap::header::Parsed;
 use heap_ids::read_tiny_object;
 use refusals::Answer;
 use refusals::refused;
+use slot::put_answer;
 
 // The twelve fields in the original's order.
 fn put_fields(fields: &mut [u64], h: FractalHeapHeader)

@@ -9,8 +9,8 @@ ghost use Rattle.fields.specs.LittleEndian.{put};
 ghost use Rattle.table.specs.Table.{fixed};
 ghost use Rattle.managed_ids.specs.Ids.{managedId, idChecked, idWritten};
 use fields::bytes::Checked;
-use fields::bytes::store_le;
 use refusals::FormatError;
+use stores::store_le;
 
 // Whether an ID can hold this offset and this length.
 fn id_holds(offset: u64, size: u64) -> bool

@@ -10,7 +10,7 @@ ghost use Rattle.table.specs.Sizes.{directHeader};
 ghost use Rattle.region_blocks.specs.Blocks.{indirectBlock, directBlock};
 ghost use Rattle.region_blocks.specs.Storing.{stored};
 use checksum::jenkins_lookup3;
-use fields::bytes::store_le;
+use stores::store_le;
 use table::direct_block_header;
 
 // What all blocks of a region share: the width of addresses, and where the heap's header and the region

@@ -11,11 +11,11 @@ use checksum::jenkins_lookup3;
 use fields::bytes::ensure_len;
 use fields::bytes::read_length;
 use fields::bytes::read_offset;
-use fields::bytes::write_offset;
-use fields::bytes::write_undef_offset;
 use fields::convert::is_undefined_addr;
 use fields::convert::to_usize;
-use fields::slot::put_answer;
+use slot::put_answer;
+use stores::write_offset;
+use stores::write_undef_offset;
 
 #[no_mangle]
 pub extern "C" fn tools_jenkins_lookup3(bytes: &[u8]) -> u32

@@ -6,14 +6,14 @@ ghost use lib.ListN.{length};
 use checksum::jenkins_lookup3;
 use fields::bytes::read_length;
 use fields::bytes::read_offset;
-use fields::bytes::write_offset;
-use fields::bytes::write_undef_offset;
 use fields::convert::is_undefined_addr;
 use libc::STDOUT_FILENO;
 use refusals::Answer;
 use report::dump;
 use report::fill;
 use report::text;
+use stores::write_offset;
+use stores::write_undef_offset;
 
 fn number(n: u64) {
     io::print_decimal(STDOUT_FILENO, n);

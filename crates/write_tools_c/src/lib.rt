@@ -11,10 +11,10 @@ ghost use Rattle.plan.specs.Answer.{written};
 ghost use Rattle.plan_numbers.specs.PlanTools.{planNumber, planTotals, afterTotals};
 ghost use Rattle.fractal_heap_write.specs.Serialize.{serialized, regionWritten};
 ghost use Rattle.managed_ids.specs.Ids.{idChecked, idWritten};
-use fields::slot::put_answer;
 use fractal_heap_write::serialize;
 use managed_ids::write_managed_id;
 use plan_numbers::put_planned;
+use slot::put_answer;
 
 // Plans and writes, and puts the plan's eight numbers, or a refusal's pair, into the first places of `totals`; a
 // shorter list than 8 gives 13 before all else.

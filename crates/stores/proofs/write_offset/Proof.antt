@@ -1,10 +1,10 @@
 -- `write_offset` meets its contract: the test decides both the answer and the bytes. Assumes nothing.
 use borrow.Author.Needs.{needs}
 use mathlib.Core.Path.{sym, _∙_}
 use Rattle.fields.specs.Fields.{offsetStored}
 use Rattle.fields.proofs.Fields.{store-within}
-use Rattle.fields.proofs.bytes.write_offset.Statement.{statement}
-use Rattle.fields.proofs.bytes.write_offset.Tie as tie
+use Rattle.stores.proofs.write_offset.Statement.{statement}
+use Rattle.stores.proofs.write_offset.Tie as tie
 
 check-store-requires : tie.Need-check-store-requires
 check-store-requires c κs = search needs

@@ -1,9 +1,9 @@
 -- `write_undef_offset` meets its contract: the bytes of 2^64 - 1 are all ones. Assumes nothing.
 use borrow.Author.Needs.{needs}
 use mathlib.Core.Path.{_∙_}
 use Rattle.fields.proofs.Fields.{undef-stored}
-use Rattle.fields.proofs.bytes.write_undef_offset.Statement.{statement}
-use Rattle.fields.proofs.bytes.write_undef_offset.Tie as tie
+use Rattle.stores.proofs.write_undef_offset.Statement.{statement}
+use Rattle.stores.proofs.write_undef_offset.Tie as tie
 
 write-offset-requires : tie.Need-write-offset-requires
 write-offset-requires c κs = search needs

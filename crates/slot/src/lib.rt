@@ -1,8 +1,8 @@
 // How an answer is handed to C: the number is returned, the two values go into a lent slot.
 ghost use mathlib.Core.Path.{_≡_};
 ghost use Rattle.fields.specs.Answers.{slotNumber, slotBytes};
-use crate::bytes::store_le;
 use refusals::Answer;
+use stores::store_le;
 
 // Puts the two values into the first 16 bytes of `slot`, little-endian, and returns the number. A
 // shorter slot is left as it is and gives 13.

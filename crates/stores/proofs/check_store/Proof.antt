@@ -1,9 +1,9 @@
 -- `check_store` meets its contract: each way rewrites with the tests that led there. Assumes nothing.
 use borrow.Author.Needs.{needs}
 use mathlib.Core.Path.{sym, _∙_}
 use Rattle.fields.specs.Fields.{storeChecked}
-use Rattle.fields.proofs.bytes.check_store.Statement.{statement}
-use Rattle.fields.proofs.bytes.check_store.Tie as tie
+use Rattle.stores.proofs.check_store.Statement.{statement}
+use Rattle.stores.proofs.check_store.Tie as tie
 
 is-width-requires : tie.Need-is-width-requires
 is-width-requires c κs = search needs

@@ -4,10 +4,10 @@ use mathlib.Core.Path.{_≡_, refl, sym, _∙_}
 use Prim.Native.Nat.{_+_, _-_, _≤_}
 use lib.ListN.{length, length-set}
 use lib.Seq.{sets}
 use Rattle.fields.specs.LittleEndian.{le}
 use Rattle.fields.proofs.LittleEndian.{put-sets, length-le, sets-start, sets-more, sets-done}
-use Rattle.fields.proofs.bytes.store_le.Statement.{statement}
-use Rattle.fields.proofs.bytes.store_le.Tie as tie
+use Rattle.stores.proofs.store_le.Statement.{statement}
+use Rattle.stores.proofs.store_le.Tie as tie
 
 abbrev Inv-loop : tie.InvT-loop
 Inv-loop bytes₀ pos value width rest₀ i₀ bytes rest i =

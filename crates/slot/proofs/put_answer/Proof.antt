@@ -2,10 +2,10 @@
 use borrow.Author.Tests.{lt-ltb, le-ltb}
 use mathlib.Core.Path.{refl, ap, _∙_}
 use borrow.Author.Needs.{needs}
 use Rattle.fields.specs.LittleEndian.{le, put}
 use Rattle.fields.specs.Answers.{slotNumber, slotBytes}
-use Rattle.fields.proofs.slot.put_answer.Statement.{statement}
-use Rattle.fields.proofs.slot.put_answer.Tie as tie
+use Rattle.slot.proofs.put_answer.Statement.{statement}
+use Rattle.slot.proofs.put_answer.Tie as tie
 
 returns : tie.Need-returns
 unfolding slotNumber slotBytes
