@@ -1,35 +1,20 @@
--- Laws of a header's tests: a list of ends tested one by one, and what is known of a header that passes.
+-- Laws of a header's tests: what is known of a header that passes.
 use mathlib.Core.Path.{_≡_, refl}
-use mathlib.Core.List.{List, [], _∷_}
+use mathlib.Core.List.{List, _∷_}
 use mathlib.Core.Bool.{Bool, true, false, cond}
 use Prim.Native.Nat.{ℕ, _+_, _≤_, _<_}
 use native.Mathlib.Omega.{arith}
 use lib.ListN.{length}
 use lib.Dec.{leb, ltb}
-use borrow.Author.Tests.{le-leb, lt-leb, leb-true}
+use borrow.Author.Tests.{leb-true}
 use Rattle.fields.specs.LittleEndian.{leAt}
 use Rattle.fields.specs.Fields.{legal, lenChecked, afterCheck}
 use Rattle.fields.proofs.Fields.{len-within}
 use Rattle.fields.specs.declared.bytes.Checked.{Checked}
 use Rattle.fields.specs.declared.bytes.Checked.the-variants.{Passed, Refused}
 use Rattle.refusals.specs.declared.FormatError.{FormatError}
-use Rattle.header_layout.specs.Layout.{headerEnd, sumPlace, tooShort, endsChecked, frontEnds, addressEnds, startChecked, layoutChecked, sumChecked, headerChecked}
-
--- ---- ends
-
--- an end that is not past the bytes: the others decide
-pub ends-more : (n e : ℕ) (es : List ℕ) (r : Checked) → e ≤ n → r ≡ endsChecked n es → r ≡ endsChecked n (e ∷ es)
-unfolding endsChecked
-ends-more n e es r h k = rw (le-leb e n h) k
-
--- an end past the bytes: it is the answer
-pub ends-stop : (n e d : ℕ) (es : List ℕ) (r : Checked) → r ≡ tooShort d n → d ≡ e → n < e → r ≡ endsChecked n (e ∷ es)
-unfolding endsChecked
-ends-stop n e d es r k same h = rw (lt-leb e n h) (rw same at k)
-
-pub ends-none : (n : ℕ) → Passed ≡ endsChecked n []
-unfolding endsChecked
-ends-none n = refl
+use Rattle.header_layout.specs.Layout.{headerEnd, sumPlace, layoutChecked, sumChecked, headerChecked}
+use Rattle.header_tests.specs.Tests.{endsChecked, frontEnds, addressEnds, startChecked}
 
 -- ---- tests that passed
 

@@ -1,9 +1,9 @@
 -- `check_table` meets its contract: the ends in their order, the last ones by `check_root`. Assumes nothing.
 use borrow.Author.Needs.{needs}
 use native.Mathlib.Omega.{arith}
-use Rattle.header_layout.proofs.Header.{ends-more, ends-stop}
-use Rattle.header_layout.proofs.check_table.Statement.{statement}
-use Rattle.header_layout.proofs.check_table.Tie as tie
+use Rattle.header_tests.proofs.Ends.{ends-more, ends-stop}
+use Rattle.header_tests.proofs.check_table.Statement.{statement}
+use Rattle.header_tests.proofs.check_table.Tie as tie
 
 mul-count : tie.Need-mul-count
 mul-count c = search needs

@@ -1,9 +1,9 @@
 -- `check_root` meets its contract: the ends in their order. Assumes nothing.
 use borrow.Author.Needs.{needs}
 use native.Mathlib.Omega.{arith}
-use Rattle.header_layout.proofs.Header.{ends-more, ends-stop, ends-none}
-use Rattle.header_layout.proofs.check_root.Statement.{statement}
-use Rattle.header_layout.proofs.check_root.Tie as tie
+use Rattle.header_tests.proofs.Ends.{ends-more, ends-stop, ends-none}
+use Rattle.header_tests.proofs.check_root.Statement.{statement}
+use Rattle.header_tests.proofs.check_root.Tie as tie
 
 short-requires : tie.Need-short-requires
 short-requires c κs = search needs

@@ -1,9 +1,9 @@
 -- `check_front` meets its contract: the ends in their order. Assumes nothing.
 use borrow.Author.Needs.{needs}
 use native.Mathlib.Omega.{arith}
-use Rattle.header_layout.proofs.Header.{ends-more, ends-stop, ends-none}
-use Rattle.header_layout.proofs.check_front.Statement.{statement}
-use Rattle.header_layout.proofs.check_front.Tie as tie
+use Rattle.header_tests.proofs.Ends.{ends-more, ends-stop, ends-none}
+use Rattle.header_tests.proofs.check_front.Statement.{statement}
+use Rattle.header_tests.proofs.check_front.Tie as tie
 
 add-if1 : tie.Need-add-if1
 add-if1 c = search needs

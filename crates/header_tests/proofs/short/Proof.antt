@@ -1,7 +1,7 @@
 -- `short` meets its contract. Assumes nothing.
 use mathlib.Core.Path.{refl}
-use Rattle.header_layout.proofs.short.Statement.{statement}
-use Rattle.header_layout.proofs.short.Tie as tie
+use Rattle.header_tests.proofs.short.Statement.{statement}
+use Rattle.header_tests.proofs.short.Tie as tie
 
 returns : tie.Need-returns
 returns c = refl

@@ -1,9 +1,9 @@
 -- `check_addresses` meets its contract: the ends in their order. Assumes nothing.
 use borrow.Author.Needs.{needs}
 use native.Mathlib.Omega.{arith}
-use Rattle.header_layout.proofs.Header.{ends-more, ends-stop, ends-none}
-use Rattle.header_layout.proofs.check_addresses.Statement.{statement}
-use Rattle.header_layout.proofs.check_addresses.Tie as tie
+use Rattle.header_tests.proofs.Ends.{ends-more, ends-stop, ends-none}
+use Rattle.header_tests.proofs.check_addresses.Statement.{statement}
+use Rattle.header_tests.proofs.check_addresses.Tie as tie
 
 add-btree : tie.Need-add-btree
 add-btree c = search needs
