@@ -15,12 +15,12 @@ use plan_steps::State;
 use plan_steps::run_all;
 use refusals::FormatError;
 use table::Covering;
-use table::capacity_sum;
-use table::direct_block_header;
-use table::indirect_block_size;
 use table::root_rows_covering;
 use table::row_offset;
-use table::rows_capacity;
+use table_capacity::capacity_sum;
+use table_capacity::rows_capacity;
+use table_sizes::direct_block_header;
+use table_sizes::indirect_block_size;
 
 pub struct ManagedPlan {
     pub block_count: u64,

@@ -5,7 +5,7 @@ ghost use Rattle.plan_checks.specs.Checks.{sizesChecked, placesChecked, 
 use fields::bytes::Checked;
 use fields::bytes::is_width;
 use refusals::FormatError;
-use table::max_managed_object;
+use table_sizes::max_managed_object;
 
 // The first size above the limit is refused.
 fn check_sizes(sizes: &[u64], limit: u64) -> Checked

@@ -11,9 +11,9 @@ ghost use Rattle.plan_steps.specs.Spans.{ceilBits};
 ghost use Rattle.plan_steps.specs.Filling.{filledFrom};
 ghost use Rattle.plan_steps.specs.Requires.{Bounded, InHeap, Small};
 use table::Slot;
-use table::direct_block_header;
-use table::entered_blocks;
-use table::locate;
+use table_sizes::direct_block_header;
+use table_slots::entered_blocks;
+use table_slots::locate;
 
 pub enum Open {
     At(Slot),

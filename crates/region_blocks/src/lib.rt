@@ -11,7 +11,7 @@ ghost use Rattle.region_blocks.specs.Blocks.{indirectBlock, directBlock}
 ghost use Rattle.region_blocks.specs.Storing.{stored};
 use checksum::jenkins_lookup3;
 use stores::store_le;
-use table::direct_block_header;
+use table_sizes::direct_block_header;
 
 // What all blocks of a region share: the width of addresses, and where the heap's header and the region
 // stand in the file.

@@ -3,9 +3,9 @@ use borrow.Author.Needs.{needs}
 use Prim.Native.Nat.{_*_, _≤_}
 use native.Mathlib.Omega.{arith}
 use native.Mathlib.Nat.{mul-le-mul-left}
 use Rattle.table.specs.Sizes.{offsetBytes, indirectSize}
-use Rattle.table.proofs.indirect_block_size.Statement.{statement}
-use Rattle.table.proofs.indirect_block_size.Tie as tie
+use Rattle.table_sizes.proofs.indirect_block_size.Statement.{statement}
+use Rattle.table_sizes.proofs.indirect_block_size.Tie as tie
 
 add-result : tie.Need-add-result
 add-result c = search needs

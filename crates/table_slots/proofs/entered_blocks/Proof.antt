@@ -3,9 +3,9 @@ use borrow.Author.Needs.{needs}
 use Prim.Native.Nat.{_+_, _-_, _^_, _<_}
 use mathlib.Core.Path.{sym, _∙_}
 use native.Mathlib.Omega.{arith}
 use Rattle.table.proofs.Locating.{Level, level, slot-size-le, rest-small, entered-small, Entering, entering-start, entering-done, entering-more}
-use Rattle.table.proofs.entered_blocks.Statement.{statement}
-use Rattle.table.proofs.entered_blocks.Tie as tie
+use Rattle.table_slots.proofs.entered_blocks.Statement.{statement}
+use Rattle.table_slots.proofs.entered_blocks.Tie as tie
 
 abbrev Inv-loop : tie.InvT-loop
 Inv-loop end start offset-size total₀ base₀ local₀ total base local = Entering offset-size end start total base local

@@ -3,9 +3,9 @@ use borrow.Author.Needs.{needs}
 use Prim.Native.Nat.{ℕ, _-_}
 use mathlib.Core.Path.{sym, ap, _∙_}
 use native.Mathlib.Omega.{arith}
 use Rattle.table.proofs.Capacity.{row-size-ge}
-use Rattle.table.proofs.block_capacity.Statement.{statement}
-use Rattle.table.proofs.block_capacity.Tie as tie
+use Rattle.table_capacity.proofs.block_capacity.Statement.{statement}
+use Rattle.table_capacity.proofs.block_capacity.Tie as tie
 
 is-direct-requires : tie.Need-is-direct-requires
 is-direct-requires c κs = search needs

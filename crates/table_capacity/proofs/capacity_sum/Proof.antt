@@ -4,9 +4,9 @@ use Prim.Native.Nat.{ℕ, _+_, _-_, _*_}
 use mathlib.Core.Path.{ap}
 use native.Mathlib.Omega.{arith}
 use lib.ListN.{getD}
 use Rattle.table.proofs.Capacity.{Adding, adding-start, adding-le, adding-more, adding-done}
-use Rattle.table.proofs.capacity_sum.Statement.{statement}
-use Rattle.table.proofs.capacity_sum.Tie as tie
+use Rattle.table_capacity.proofs.capacity_sum.Statement.{statement}
+use Rattle.table_capacity.proofs.capacity_sum.Tie as tie
 
 abbrev Inv-loop : tie.InvT-loop
 Inv-loop nrows per-block total₀ row₀ total row = Adding per-block nrows total row

@@ -3,9 +3,9 @@ use borrow.Author.Needs.{needs}
 use Prim.Native.Nat.{ℕ, _-_}
 use mathlib.Core.Path.{ap}
 use native.Mathlib.Omega.{arith}
 use Rattle.table.specs.Sizes.{offsetBytes, directHeader, maxManaged}
-use Rattle.table.proofs.max_managed_object.Statement.{statement}
-use Rattle.table.proofs.max_managed_object.Tie as tie
+use Rattle.table_sizes.proofs.max_managed_object.Statement.{statement}
+use Rattle.table_sizes.proofs.max_managed_object.Tie as tie
 
 direct-block-header-requires : tie.Need-direct-block-header-requires
 direct-block-header-requires c κs = search needs

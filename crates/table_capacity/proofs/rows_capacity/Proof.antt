@@ -4,12 +4,12 @@ use Prim.Native.Nat.{ℕ, _+_, _-_}
 use mathlib.Core.Path.{_≡_, ap, _∙_}
 use native.Mathlib.Omega.{arith}
 use lib.ListN.{getD, set}
 use Rattle.table.specs.Table.{fixed}
 use Rattle.table.specs.Sizes.{directHeader}
 use Rattle.table.specs.Capacity.{capacities}
 use Rattle.table.proofs.Capacity.{header-small, Filling, filling-start, filling-small, filling-more, filling-done}
-use Rattle.table.proofs.rows_capacity.Statement.{statement}
-use Rattle.table.proofs.rows_capacity.Tie as tie
+use Rattle.table_capacity.proofs.rows_capacity.Statement.{statement}
+use Rattle.table_capacity.proofs.rows_capacity.Tie as tie
 
 abbrev Inv-loop : tie.InvT-loop
 Inv-loop offset-size header per-block₀ below₀ row₀ per-block below row = (header ≡ directHeader fixed offset-size) × Filling header per-block below row

@@ -2,9 +2,9 @@
 use borrow.Author.Needs.{needs}
 use Prim.Native.Nat.{_+_, _*_, _≤_}
 use native.Mathlib.Omega.{arith}
 use Rattle.table.proofs.Locating.{placed-row, placed-slot, placed-below}
-use Rattle.table.proofs.table_slot.Statement.{statement}
-use Rattle.table.proofs.table_slot.Tie as tie
+use Rattle.table_slots.proofs.table_slot.Statement.{statement}
+use Rattle.table_slots.proofs.table_slot.Tie as tie
 
 lookup-requires : tie.Need-lookup-requires
 lookup-requires c κs = search needs

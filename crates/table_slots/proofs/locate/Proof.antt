@@ -3,9 +3,9 @@ use borrow.Author.Needs.{needs}
 use Prim.Native.Nat.{_^_, _<_}
 use mathlib.Core.Path.{sym, _∙_}
 use native.Mathlib.Omega.{arith}
 use Rattle.table.proofs.Locating.{Level, level, rest-small, Loc, loc-start, loc-direct, loc-deeper}
-use Rattle.table.proofs.locate.Statement.{statement}
-use Rattle.table.proofs.locate.Tie as tie
+use Rattle.table_slots.proofs.locate.Statement.{statement}
+use Rattle.table_slots.proofs.locate.Tie as tie
 
 abbrev Inv-loop : tie.InvT-loop
 Inv-loop offset base₀ local₀ base local = Loc offset base local

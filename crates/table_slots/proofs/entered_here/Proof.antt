@@ -3,11 +3,11 @@ use borrow.Author.Needs.{needs}
 use mathlib.Core.Path.{ap, _∙_}
 use native.Mathlib.Omega.{arith}
 use borrow.Author.Tests.{le-leb, lt-leb}
 use Rattle.table.specs.Table.{fixed, rowOffset}
 use Rattle.table.specs.Sizes.{indirectSize}
 use Rattle.table.proofs.Rows.{row-lt}
-use Rattle.table.proofs.entered_here.Statement.{statement}
-use Rattle.table.proofs.entered_here.Tie as tie
+use Rattle.table_slots.proofs.entered_here.Statement.{statement}
+use Rattle.table_slots.proofs.entered_here.Tie as tie
 
 size-to-rows-requires : tie.Need-size-to-rows-requires
 size-to-rows-requires c κs = search needs
