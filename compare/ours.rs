@@ -1,5 +1,5 @@
 //! Our static libraries, each C function behind a safe one: `fractal_heap_c`, which the loader calls, and the
-//! tests' own `tools_c`, `plan_tools_c`, `write_tools_c` and `heap_tools_c`.
+//! tests' own `tools_c`, `plan_tools_c`, `write_tools_c`, `heap_tools_c` and `object_tools_c`.
 use crate::made::Heap;
 use original::Answer;
 
@@ -133,6 +133,10 @@ unsafe extern "C" {
         fields: *mut u64,
         fields_len: usize,
     ) -> u32;
+}
+
+#[link(name = "object_tools_c", kind = "static")]
+unsafe extern "C" {
     fn tools_read_managed_object(
         file: *const u8,
         file_len: usize,

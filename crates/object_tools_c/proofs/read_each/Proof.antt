@@ -1,15 +1,15 @@
 -- `read_each` meets its contract: what is left to store, stored from here, is the whole store. Assumes nothing.
-use Rattle.heap_tools_c.proofs.read_each.Statement.{statement}
-use Rattle.heap_tools_c.proofs.read_each.Tie as tie
+use Rattle.object_tools_c.proofs.read_each.Statement.{statement}
+use Rattle.object_tools_c.proofs.read_each.Tie as tie
 use borrow.Author.Needs.{needs}
 use native.Mathlib.Omega.{arith}
 use Prim.Native.Nat.{_-_, _≤_}
 use lib.ListN.{length, length-set}
 use mathlib.Core.Path.{_≡_, refl, sym, ap, _∙_}
 use Rattle.heap_blocks.specs.Blocks.{foundAnswer}
-use Rattle.heap_tools_c.specs.HeapTools.{answersFrom}
+use Rattle.object_tools_c.specs.ObjectTools.{answersFrom}
 use Rattle.fields.specs.LittleEndian.{put}
-use Rattle.heap_tools_c.proofs.Stores.{rest, rest-start, rest-more, rest-done}
+use Rattle.object_tools_c.proofs.Stores.{rest, rest-start, rest-more, rest-done}
 
 abbrev Inv-loop : tie.InvT-loop
 Inv-loop h file offset-size ids found₀ n i₀ found i =

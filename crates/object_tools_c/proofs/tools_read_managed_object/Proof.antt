@@ -1,7 +1,7 @@
 -- `tools_read_managed_object` meets its contract. What its callees ensure, joined. Assumes nothing.
 use borrow.Author.Needs.{needs}
-use Rattle.heap_tools_c.proofs.tools_read_managed_object.Statement.{statement}
-use Rattle.heap_tools_c.proofs.tools_read_managed_object.Tie as tie
+use Rattle.object_tools_c.proofs.tools_read_managed_object.Statement.{statement}
+use Rattle.object_tools_c.proofs.tools_read_managed_object.Tie as tie
 use mathlib.Core.Path.{ap, _∙_}
 use Rattle.fields.specs.Answers.{slotNumber, slotBytes}
 use Prim.Native.Nat.{ℕ}

@@ -1,7 +1,7 @@
 -- `tools_heap_id_type` meets its contract: what its callees ensure, joined. Assumes nothing.
 use borrow.Author.Needs.{needs}
-use Rattle.heap_tools_c.proofs.tools_heap_id_type.Statement.{statement}
-use Rattle.heap_tools_c.proofs.tools_heap_id_type.Tie as tie
+use Rattle.object_tools_c.proofs.tools_heap_id_type.Statement.{statement}
+use Rattle.object_tools_c.proofs.tools_heap_id_type.Tie as tie
 use mathlib.Core.Path.{ap, _∙_}
 use Rattle.fields.specs.Answers.{slotNumber, slotBytes}
 use Rattle.heap_ids.specs.Id.{idTypeAnswer}

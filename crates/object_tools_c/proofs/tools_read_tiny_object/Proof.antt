@@ -1,7 +1,7 @@
 -- `tools_read_tiny_object` meets its contract: what its callees ensure, joined. Assumes nothing.
 use borrow.Author.Needs.{needs}
-use Rattle.heap_tools_c.proofs.tools_read_tiny_object.Statement.{statement}
-use Rattle.heap_tools_c.proofs.tools_read_tiny_object.Tie as tie
+use Rattle.object_tools_c.proofs.tools_read_tiny_object.Statement.{statement}
+use Rattle.object_tools_c.proofs.tools_read_tiny_object.Tie as tie
 use mathlib.Core.Path.{ap, _∙_}
 use Rattle.fields.specs.Answers.{slotNumber, slotBytes}
 use Rattle.heap_blocks.specs.Blocks.{foundAnswer}

@@ -1,11 +1,11 @@
 -- `tools_read_each` meets its contract. Assumes nothing.
 use borrow.Author.Needs.{needs}
-use Rattle.heap_tools_c.proofs.tools_read_each.Statement.{statement}
-use Rattle.heap_tools_c.proofs.tools_read_each.Tie as tie
+use Rattle.object_tools_c.proofs.tools_read_each.Statement.{statement}
+use Rattle.object_tools_c.proofs.tools_read_each.Tie as tie
 use mathlib.Core.Path.{refl, sym, ap, _∙_}
 use borrow.Author.Tests.{lt-ltb, le-ltb}
 use Rattle.refusals.specs.declared.Answer.{Answer}
-use Rattle.heap_tools_c.specs.HeapTools.{tooFew, eachNumber, eachList}
+use Rattle.object_tools_c.specs.ObjectTools.{tooFew, eachNumber, eachList}
 
 returns : tie.Need-returns
 unfolding tooFew eachNumber eachList
