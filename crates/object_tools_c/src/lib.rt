@@ -11,11 +11,11 @@ ghost use Rattle.fractal_heap.specs.Read.{objectBy};
 ghost use Rattle.heap_ids.specs.Id.{idTypeOf, idTypeAnswer, tinyAt};
 ghost use Rattle.object_tools_c.specs.ObjectTools.{answersFrom, eachNumber, eachList};
 use fields::convert::to_usize;
-use fields::slot::put_answer;
 use fractal_heap::header::FractalHeapHeader;
 use fractal_heap::header::Parsed;
 use heap_ids::read_tiny_object;
 use refusals::refused;
+use slot::put_answer;
 
 // Reading with an offset size of its own, which may be any byte.
 #[no_mangle]
