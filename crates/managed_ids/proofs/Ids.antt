@@ -45,6 +45,11 @@ id-stores s s₁ s₂ s₃ o n room e f g =
     g ∙ rw (f, e) (put-then (put s 0 (le 1 0)) 1 6 (le 5 o) (le 2 n) (omega arith) (omega arith))
     ∙ put-then s 0 1 (le 1 0) (le 5 o ++ le 2 n) (omega arith) rest
 
+-- an ID has eight bytes
+pub id-length : (o n : ℕ) → length (managedId fixed o n) ≡ 8
+unfolding managedId offsetBytes
+id-length o n = simp (length-append, length-le) (omega arith)
+
 -- what is known of an ID that is not refused
 pub record Held (o x lent : ℕ) : Type 0 where
   pub offset : o < 2 ^ 40

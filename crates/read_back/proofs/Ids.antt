@@ -17,13 +17,9 @@ use Rattle.heap_ids.specs.declared.ManagedId.the-variants.{Decoded}
 use Rattle.heap_ids.specs.Id.{typeOf, splitId, decodedId}
 use Rattle.fractal_heap.specs.declared.header.FractalHeapHeader.{FractalHeapHeader}
 use Rattle.managed_ids.specs.Ids.{managedId, idLength, idChecked, idWritten}
-use Rattle.managed_ids.proofs.Ids.{held, id-passed}
+use Rattle.managed_ids.proofs.Ids.{id-length, held, id-passed}
 
 module _ (o x : ℕ) where
-  id-length : length (managedId fixed o x) ≡ 8
-  unfolding managedId offsetBytes
-  id-length = simp (length-append, length-le)
-
   module _ (lo : o < 2 ^ 40) (hi : x < 2 ^ 16) where
     -- the number after its first byte
     id-number : leAt (managedId fixed o x) 1 8 ≡ x * 2 ^ 40 + o
@@ -40,7 +36,7 @@ module _ (o x : ℕ) where
     pub decodes : decodedId 40 (managedId fixed o x) ≡ Decoded o x
     unfolding decodedId splitId typeOf
     decodes =
-        let l = id-length in
+        let l = id-length o x in
         let first : typeOf (getD (managedId fixed o x) 0 0) ≡ 0 = (unfold managedId le in refl) in
         let m : length (managedId fixed o x) - 1 ≡ 7 = omega arith in
         let q : leAt (managedId fixed o x) 1 8 % 2 ^ 40 ≡ o = ap (λ (v : ℕ). v % 2 ^ 40) id-number ∙ low x 40 lo in
@@ -56,7 +52,7 @@ module _ (o x : ℕ) where
     pub id-is : (id : List ℕ) → 8 ≤ length id → take 8 (idWritten fixed o x id) ≡ managedId fixed o x
     id-is id l =
         ap (take 8) (id-passed fixed o x id (id-passes id l))
-        ∙ subst (λ (n : ℕ). take n (put id 0 (managedId fixed o x)) ≡ managedId fixed o x) id-length (put-here id 0 (managedId fixed o x) (let n = id-length in omega arith))
+        ∙ subst (λ (n : ℕ). take n (put id 0 (managedId fixed o x)) ≡ managedId fixed o x) (id-length o x) (put-here id 0 (managedId fixed o x) (let n = id-length o x in omega arith))
 
 -- what the ID writer accepts decodes to its pair, under every header of the fixed geometry
 pub id-round-trip : (o x : ℕ) (id : List ℕ) → idChecked fixed o x (length id) ≡ Passed → (h : FractalHeapHeader) → h .«max_heap_size» ≡ 40

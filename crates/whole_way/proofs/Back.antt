@@ -7,7 +7,7 @@ use mathlib.Core.List.{List, [], _∷_, append-nil}
 use native.Mathlib.Omega.{arith}
 use native.Mathlib.Decide.{decLe}
 use native.Mathlib.Numerals.{add-one}
-use lib.ListN.{length, take, drop, getD, drop-of-length-le, length-drop, length-append}
+use lib.ListN.{length, take, drop, getD, drop-of-length-le, length-drop}
 use lib.Seq.{drop-cons, drop-drop, take-all}
 use lib.Dec.{ltb, eqb}
 use borrow.Author.Tests.{lt-ltb, le-ltb, eqb-true, eq-eqb, ne-eqb}
@@ -16,7 +16,6 @@ use Rattle.fields.specs.LittleEndian.{put}
 use Rattle.fields.specs.Fields.{afterCheck}
 use Rattle.fields.specs.declared.bytes.Checked.{Checked}
 use Rattle.fields.specs.declared.bytes.Checked.the-variants.{Passed, Refused as NotPassed}
-use Rattle.fields.proofs.LittleEndian.{length-le}
 use Rattle.table.specs.Table.{fixed}
 use Rattle.table.specs.Sizes.{offsetBytes}
 use Rattle.heap_blocks.specs.declared.Found.{Found}
@@ -24,6 +23,7 @@ use Rattle.heap_blocks.specs.declared.Found.the-variants.{At, Refused}
 use Rattle.fractal_heap.specs.Read.{managedAt}
 use Rattle.fractal_heap.specs.declared.header.FractalHeapHeader.{FractalHeapHeader}
 use Rattle.managed_ids.specs.Ids.{managedId, idLength, idChecked}
+use Rattle.managed_ids.proofs.Ids.{id-length}
 use Rattle.whole_way.specs.Back.{objectAt, sameBytes, holdsAt, foundAs, comesBack, backOne, backs}
 
 -- ---- bytes
@@ -69,10 +69,6 @@ unfolding sameBytes
 same-end xs ys i l m = rw (drop-of-length-le xs l, drop-of-length-le ys m)
 
 -- ---- IDs
-
-id-length : (o n : ℕ) → length (managedId fixed o n) ≡ 8
-unfolding managedId offsetBytes
-id-length o n = simp (length-append, length-le) (omega arith)
 
 -- an ID in just as many bytes is all of them
 pub id-alone : (s : List ℕ) (o n : ℕ) → length s ≡ 8 → put s 0 (managedId fixed o n) ≡ managedId fixed o n
