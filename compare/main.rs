@@ -2,6 +2,7 @@
 mod back;
 mod bench;
 mod checksum;
+mod differences;
 mod fields;
 mod heap;
 mod image;
@@ -24,7 +25,7 @@ use std::time::Instant;
 type Part = (&'static str, fn());
 
 /// All parts, the longest first.
-const PARTS: [Part; 9] = [
+const PARTS: [Part; 10] = [
     ("back", || back::compare(200_000)),
     ("write", || write::compare(40_000)),
     ("heap space 8", || plan::heap_space(8)),
@@ -34,6 +35,7 @@ const PARTS: [Part; 9] = [
     ("plan", || plan::compare(100_000)),
     ("fields", || fields::compare(1_000_000)),
     ("checksum", || checksum::compare(1_000_000)),
+    ("differences", differences::compare),
 ];
 
 /// Two parts at a time, each followed by the next that is left; their seconds in the end.

@@ -6,28 +6,29 @@ use plan::ManagedPlan;
 use plan::Planned;
 use plan_numbers::put_planned;
 use report::answer;
-use report::list;
+use report::heading;
 use report::lists;
-use report::number;
 use report::text;
 
 // What a lent place holds before a call.
 const MARK: u64 = 42_405;
 
-// Plans in these lists.
-fn case_in(name: &[u8], sizes: &[u64], offsets: &mut [u64], blocks: &mut [u64], width: u8) {
-    text(name);
-    text(b": width");
-    number(width as u64);
-    list(b", sizes", sizes, sizes.len());
-    let planned = ManagedPlan::new(sizes, offsets, blocks, width);
-    let mut numbers = [0u64; 8];
-    answer(put_planned(&mut numbers, planned), &numbers);
+// What the lists hold after a call.
+fn left(planned: Planned, objects: usize, offsets: &[u64], blocks: &[u64]) {
     match planned {
-        Planned::Accepted(p) => lists(offsets, sizes.len(), blocks, p.block_count as usize),
+        Planned::Accepted(p) => lists(offsets, objects, blocks, p.block_count as usize),
         Planned::Refused(_) => lists(offsets, 0, blocks, 0),
     }
     text(b"\n");
+}
+
+// Plans in these lists.
+fn case_in(name: &[u8], sizes: &[u64], offsets: &mut [u64], blocks: &mut [u64], width: u8) {
+    heading(name, sizes, width);
+    let planned = ManagedPlan::new(sizes, offsets, blocks, width);
+    let mut numbers = [0u64; 8];
+    answer(put_planned(&mut numbers, planned), &numbers);
+    left(planned, sizes.len(), offsets, blocks);
 }
 
 // Plans in lists that are long enough for every case.

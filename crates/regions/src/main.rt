@@ -12,8 +12,8 @@ use plan_numbers::put_planned;
 use report::answer;
 use report::dump;
 use report::fill;
+use report::heading;
 use report::least;
-use report::list;
 use report::lists;
 use report::number;
 use report::text;
@@ -53,11 +53,8 @@ fn monus(x: u64, y: u64) -> u64 {
     if x < y { 0 } else { x - y }
 }
 
-fn heading(name: &[u8], sizes: &[u64], call: Call) {
-    text(name);
-    text(b": width");
-    number(call.width as u64);
-    list(b", sizes", sizes, sizes.len());
+fn call_heading(name: &[u8], sizes: &[u64], call: Call) {
+    heading(name, sizes, call.width);
     text(b", object bytes");
     number(call.object_bytes as u64);
     text(b", region bytes");
@@ -101,6 +98,22 @@ fn root(region: &[u8], p: ManagedPlan) {
     }
 }
 
+// What the lists and the region hold after a call.
+fn left(planned: Planned, objects: usize, offsets: &[u64], blocks: &[u64], region: &[u8]) {
+    match planned {
+        Planned::Accepted(p) => {
+            lists(offsets, objects, blocks, p.block_count as usize);
+            untouched(region, p.region_size as usize);
+            written(region, p.region_size as usize);
+            root(region, p);
+        }
+        Planned::Refused(_) => {
+            lists(offsets, 0, blocks, 0);
+            untouched(region, 0);
+        }
+    }
+}
+
 // Writes in what is lent, and prints the answer and what that holds then.
 fn write(
     sizes: &[u64],
@@ -122,18 +135,7 @@ fn write(
     );
     let mut numbers = [0u64; 8];
     answer(put_planned(&mut numbers, planned), &numbers);
-    match planned {
-        Planned::Accepted(p) => {
-            lists(offsets, sizes.len(), blocks, p.block_count as usize);
-            untouched(region, p.region_size as usize);
-            written(region, p.region_size as usize);
-            root(region, p);
-        }
-        Planned::Refused(_) => {
-            lists(offsets, 0, blocks, 0);
-            untouched(region, 0);
-        }
-    }
+    left(planned, sizes.len(), offsets, blocks, region);
 }
 
 // Lends as many places and bytes as the call says.
@@ -164,7 +166,7 @@ fn case(name: &[u8], sizes: &[u64], objects: &[u8], call: Call) {
     let mut offsets = [MARK; PLACES];
     let mut blocks = [MARK; PLACES];
     let mut region = [0xA5u8; REGION_BYTES];
-    heading(name, sizes, call);
+    call_heading(name, sizes, call);
     case_in(sizes, &mut offsets, &mut blocks, objects, &mut region, call);
 }
 

@@ -64,6 +64,14 @@ pub fn list(name: &[u8], numbers: &[u64], n: usize) {
     number(sum(numbers));
 }
 
+// The start of a case's line: its name, width and sizes.
+pub fn heading(name: &[u8], sizes: &[u64], width: u8) {
+    text(name);
+    text(b": width");
+    number(width as u64);
+    list(b", sizes", sizes, sizes.len());
+}
+
 // Both lists of a plan.
 pub fn lists(offsets: &[u64], n: usize, blocks: &[u64], count: usize) {
     list(b"; offsets", offsets, n);
