@@ -2,7 +2,8 @@
 use borrow.Author.Needs.{needs}
 use mathlib.Core.Path.{ap, ap₂, _∙_}
 use Rattle.fields.specs.Fields.{lenChecked}
-use Rattle.fields.specs.Answers.{checkedAnswer, slotNumber, slotBytes}
+use Rattle.fields.specs.Answers.{checkedAnswer}
+use Rattle.slot.specs.Slot.{slotNumber, slotBytes}
 use Rattle.tools_c.proofs.tools_ensure_len.Statement.{statement}
 use Rattle.tools_c.proofs.tools_ensure_len.Tie as tie
 

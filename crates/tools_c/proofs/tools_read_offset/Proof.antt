@@ -2,7 +2,8 @@
 use borrow.Author.Needs.{needs}
 use mathlib.Core.Path.{ap, _∙_}
 use Rattle.fields.specs.Fields.{offsetAt}
-use Rattle.fields.specs.Answers.{fieldAnswer, slotNumber, slotBytes}
+use Rattle.fields.specs.Answers.{fieldAnswer}
+use Rattle.slot.specs.Slot.{slotNumber, slotBytes}
 use Prim.Native.Nat.{ℕ}
 use Rattle.tools_c.proofs.tools_read_offset.Statement.{statement}
 use Rattle.tools_c.proofs.tools_read_offset.Tie as tie
