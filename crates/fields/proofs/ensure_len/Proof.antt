@@ -1,15 +1,14 @@
 -- `ensure_len` meets its contract: each way rewrites with the test that led there. Assumes nothing.
-use borrow.Author.Needs.{needs}
 use mathlib.Core.Path.{sym, _∙_}
 use Rattle.fields.specs.Fields.{lenChecked}
 use Rattle.fields.proofs.ensure_len.Statement.{statement}
 use Rattle.fields.proofs.ensure_len.Tie as tie
 
 has-room-requires : tie.Need-has-room-requires
-has-room-requires c κs = search needs
+has-room-requires c κs = tt
 
 saturating-add-requires : tie.Need-saturating-add-requires
-saturating-add-requires c κs = search needs
+saturating-add-requires c κs = tt
 
 returns : tie.Need-returns
 unfolding lenChecked

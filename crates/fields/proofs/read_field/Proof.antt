@@ -7,10 +7,10 @@ use Rattle.fields.proofs.read_field.Statement.{statement}
 use Rattle.fields.proofs.read_field.Tie as tie
 
 is-width-requires : tie.Need-is-width-requires
-is-width-requires c κs = search needs
+is-width-requires c κs = tt
 
 ensure-len-requires : tie.Need-ensure-len-requires
-ensure-len-requires c κs = search needs
+ensure-len-requires c κs = tt
 
 enum-told : tie.Need-enum-told
 enum-told c = search needs

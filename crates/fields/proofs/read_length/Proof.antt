@@ -1,11 +1,10 @@
 -- `read_length` meets its contract. Assumes nothing.
-use borrow.Author.Needs.{needs}
 use Rattle.fields.specs.Fields.{lengthAt}
 use Rattle.fields.proofs.read_length.Statement.{statement}
 use Rattle.fields.proofs.read_length.Tie as tie
 
 read-field-requires : tie.Need-read-field-requires
-read-field-requires c κs = search needs
+read-field-requires c κs = tt
 
 returns : tie.Need-returns
 unfolding lengthAt

@@ -1,11 +1,10 @@
 -- `read_offset` meets its contract. Assumes nothing.
-use borrow.Author.Needs.{needs}
 use Rattle.fields.specs.Fields.{offsetAt}
 use Rattle.fields.proofs.read_offset.Statement.{statement}
 use Rattle.fields.proofs.read_offset.Tie as tie
 
 read-field-requires : tie.Need-read-field-requires
-read-field-requires c κs = search needs
+read-field-requires c κs = tt
 
 returns : tie.Need-returns
 unfolding offsetAt

@@ -10,7 +10,7 @@ enum-known-self : tie.Need-enum-known-self
 enum-known-self c = search needs
 
 refused-requires : tie.Need-refused-requires
-refused-requires c κs = search needs
+refused-requires c κs = tt
 
 returns : tie.Need-returns
 returns c = rw (c .enum-told .given .1)

@@ -2,6 +2,8 @@
 use borrow.Author.Needs.{needs}
 use Rattle.heap_rows.proofs.DoublingTable.size_to_rows.Statement.{statement}
 use Rattle.heap_rows.proofs.DoublingTable.size_to_rows.Tie as tie
+use mathlib.Core.Path.{ap, ap₂, _∙_}
+use Prim.Native.Nat.{ℕ, _+_, _-_}
 use native.Mathlib.Omega.{arith}
 use Rattle.heap_rows.specs.Rows.{sizeToRows}
 use Rattle.numbers.proofs.Log2.{log2-le}
@@ -29,7 +31,11 @@ add-result c = omega (arith, c .saturating-sub .ensures, c .before .log2-floor3 
 
 returns : tie.Need-returns
 unfolding sizeToRows
-returns c = cc
+returns c =
+    let start = c .before .before .before .before .log2-floor .ensures in
+    let width = c .before .before .log2-floor2 .ensures in
+    let bits = c .before .log2-floor3 .ensures in
+    ap (λ (n : ℕ). n + 1) (c .saturating-sub .ensures ∙ ap₂ (λ (m n : ℕ). m - n) bits (ap₂ (λ (m n : ℕ). m + n) start width))
 
 pub size-to-rows-spec : {M : Type 1} → statement M
 size-to-rows-spec =
