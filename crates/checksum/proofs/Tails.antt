@@ -48,7 +48,7 @@ module _ (s : List ℕ) where
       omega (arith, leAt-add 2 1 s 0 (omega arith), leAt-byte s 2 (omega arith), leAt-end s 0 4 3 (omega arith) (omega arith))
 
   -- nothing is left past the end
-  pub past-end : (p : ℕ) → length s ≤ p → leAt s p 4 ≡ 0
+  past-end : (p : ℕ) → length s ≤ p → leAt s p 4 ≡ 0
   unfolding leAt value
   past-end p h = leAt-end s p 4 0 (omega arith) (omega arith)
 

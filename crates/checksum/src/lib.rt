@@ -42,12 +42,6 @@ fn tail_word(bytes: &[u8], p: usize) -> u32
     drop_low_bytes(read_u32_le(bytes, at), p - at)
 }
 
-fn wide(byte: u8) -> u32
-    ensures { λ r. ⌜ r ≡ byte ⌝ }
-{
-    byte as u32
-}
-
 // All of 1 to 3 bytes.
 fn short_word(bytes: &[u8]) -> u32
     requires { ⌜ 0 < length (now bytes) ⌝ }
@@ -55,13 +49,13 @@ fn short_word(bytes: &[u8]) -> u32
     ensures { λ r. ⌜ r ≡ leAt (now (bytes .entry)) 0 4 ⌝ }
 {
     if bytes.len() == 1 {
-        return wide(bytes[0]);
+        return bytes[0] as u32;
     }
     let two = read_u16_le(bytes, 0) as u32;
     if bytes.len() == 2 {
         return two;
     }
-    two + wide(bytes[2]) * 0x1_0000
+    two + (bytes[2] as u32) * 0x1_0000
 }
 
 // The 1 to 12 bytes that are left at `at`, added to the words, four to each.

@@ -6,7 +6,7 @@ use native.Mathlib.Nat.{mul-assoc, mul-comm}
 use borrow.Author.Tests.{lt-ltb, le-ltb}
 use Rattle.numbers.specs.Numbers.{saturated}
 use Rattle.heap_rows.specs.declared.DoublingTable.{DoublingTable}
-use Rattle.heap_rows.specs.Rows.{blockSize, directRows, sizeToRows, heapSize}
+use Rattle.heap_rows.specs.Rows.{blockSize, sizeToRows, heapSize}
 use Rattle.numbers.proofs.Log2.{log2-le}
 use Rattle.numbers.proofs.Saturating.{sat-mul, sat-double, sat-twice}
 

@@ -7,18 +7,12 @@ ghost use lib.ListN.{length};
 ghost use Rattle.little_endian.specs.LittleEndian.{leAt};
 ghost use Rattle.little_endian.specs.Widths.{legal};
 
-fn wide(b: u8) -> u16
-    ensures { λ r. ⌜ r ≡ b ⌝ }
-{
-    b as u16
-}
-
 // The two bytes at `pos`.
 pub fn read_u16_le(bytes: &[u8], pos: usize) -> u16
     requires { ⌜ pos + 2 ≤ length (now bytes) ⌝ }
     ensures { λ r. ⌜ r ≡ leAt (now (bytes .entry)) pos 2 ⌝ }
 {
-    wide(bytes[pos]) + wide(bytes[pos + 1]) * 0x100
+    (bytes[pos] as u16) + (bytes[pos + 1] as u16) * 0x100
 }
 
 // The four bytes at `pos`.

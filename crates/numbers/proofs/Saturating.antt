@@ -1,10 +1,10 @@
 -- Sums, products and shifts that are cut to the largest 64-bit number.
-use mathlib.Core.Path.{_≡_, refl, sym, ap, _∙_}
+use mathlib.Core.Path.{_≡_, sym, ap, _∙_}
 use mathlib.Core.Logic.{dite}
 use Prim.Native.Nat.{ℕ, zero, suc, _+_, _-_, _*_, _^_, _/_, _%_, _≤_, _<_}
 use native.Mathlib.Omega.{arith}
 use native.Mathlib.Decide.{decLe}
-use native.Mathlib.Nat.{mul-comm, mul-assoc, mul-le-mul, mul-le-mul-right, le-div-iff-mul-le, div-lt-iff-lt-mul, mod-eq-of-lt}
+use native.Mathlib.Nat.{mul-comm, mul-le-mul, mul-le-mul-right, le-div-iff-mul-le, div-lt-iff-lt-mul, mod-eq-of-lt}
 use lib.Pow.{pow-pos}
 use Rattle.numbers.specs.Numbers.{saturated}
 
@@ -15,10 +15,6 @@ sat-fits n h = omega arith
 pub sat-over : (n : ℕ) → 2 ^ 64 ≤ n → saturated n ≡ 2 ^ 64 - 1
 unfolding saturated
 sat-over n h = omega arith
-
-pub sat-lt : (n : ℕ) → saturated n < 2 ^ 64
-unfolding saturated
-sat-lt n = omega arith
 
 -- a size below 2 ^ 48 times a width
 pub mul-small : (size width : ℕ) → size < 2 ^ 48 → width < 2 ^ 16 → size * width < 2 ^ 64

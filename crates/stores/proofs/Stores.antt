@@ -1,5 +1,5 @@
 -- Laws of stores, for every width: byte by byte, what is refused, and what reads back.
-use mathlib.Core.Path.{_≡_, refl, sym, ap, ap₂, _∙_}
+use mathlib.Core.Path.{_≡_, refl, ap, ap₂, _∙_}
 use mathlib.Core.List.{List}
 use mathlib.Core.Bool.{Bool, true, false}
 use Prim.Native.Nat.{ℕ, suc, _+_, _-_, _/_, _%_, _*_, _^_, _≤_, _<_}
