@@ -6,12 +6,12 @@ use native.Mathlib.Nat.{add-zero}
 use native.Mathlib.Omega.{arith}
 use lib.ListN.{length, take, drop, length-drop}
 use lib.Pow.{pow-add}
-use Rattle.fields.specs.LittleEndian.{leAt, value}
-use Rattle.fields.proofs.LittleEndian.{leAt-drop}
-use Rattle.checksum.specs.Words.{add32}
-use Rattle.checksum.specs.declared.State.{State}
+use Rattle.little_endian.specs.LittleEndian.{leAt, value}
+use Rattle.little_endian.proofs.LittleEndian.{leAt-drop}
+use Rattle.lookup3_mix.specs.Words.{add32}
+use Rattle.lookup3_mix.specs.declared.State.{State}
 use Rattle.checksum.specs.Requires.{Tail}
-use Rattle.checksum.proofs.Words.{Fit}
+use Rattle.lookup3_mix.proofs.Words.{Fit}
 use Rattle.checksum.specs.Lookup3.{grouped, caseAdded, caseMet, switched}
 
 -- the cases of one word from the last down, the first shifted by k bits
@@ -46,7 +46,7 @@ switch-adds (x0 ∷ x1 ∷ x2 ∷ x3 ∷ x4 ∷ x5 ∷ x6 ∷ x7 ∷ x8 ∷ x9 �
 switch-adds (x0 ∷ x1 ∷ x2 ∷ x3 ∷ x4 ∷ x5 ∷ x6 ∷ x7 ∷ x8 ∷ x9 ∷ x10 ∷ x11 ∷ []) s k = refl
 switch-adds (x0 ∷ x1 ∷ x2 ∷ x3 ∷ x4 ∷ x5 ∷ x6 ∷ x7 ∷ x8 ∷ x9 ∷ x10 ∷ x11 ∷ x12 ∷ xs) s k = absurd (omega arith)
 
-pub switch-words : (tail : List ℕ) (s : State) → Fit s → length tail ≤ 12 → switched 12 tail s ≡ grouped tail 0 s
+switch-words : (tail : List ℕ) (s : State) → Fit s → length tail ≤ 12 → switched 12 tail s ≡ grouped tail 0 s
 unfolding grouped leAt
 switch-words tail s f k =
     switch-adds tail s k ∙ (λ i. record { a = added-word (take 4 tail) (f .a) i; b = added-word (take 4 (drop 4 tail)) (f .b) i; c = added-word (take 4 (drop 8 tail)) (f .c) i })

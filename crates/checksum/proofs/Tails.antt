@@ -8,12 +8,12 @@ use native.Mathlib.Decide.{decLe}
 use native.Mathlib.Omega.{arith}
 use lib.ListN.{length, getD}
 use lib.Pow.{pow-mono}
-use Rattle.checksum.specs.Words.{add32}
+use Rattle.lookup3_mix.specs.Words.{add32}
 use Rattle.checksum.specs.Lookup3.{grouped}
-use Rattle.checksum.specs.declared.State.{State}
-use Rattle.checksum.proofs.Words.{Fit, add-none}
-use Rattle.fields.specs.LittleEndian.{leAt, value}
-use Rattle.fields.proofs.LittleEndian.{leAt-add, leAt-byte, leAt-end, leAt-last}
+use Rattle.lookup3_mix.specs.declared.State.{State}
+use Rattle.lookup3_mix.proofs.Words.{Fit, add-none}
+use Rattle.little_endian.specs.LittleEndian.{leAt, value}
+use Rattle.little_endian.proofs.LittleEndian.{leAt-add, leAt-byte, leAt-end, leAt-last}
 
 -- four bytes or more are all of a word
 pub low-gone : (x past : ℕ) → x < 2 ^ 32 → 4 ≤ past → 0 ≡ x / 2 ^ (8 * past)
@@ -48,7 +48,7 @@ module _ (s : List ℕ) where
       omega (arith, leAt-add 2 1 s 0 (omega arith), leAt-byte s 2 (omega arith), leAt-end s 0 4 3 (omega arith) (omega arith))
 
   -- nothing is left past the end
-  pub past-end : (p : ℕ) → length s ≤ p → leAt s p 4 ≡ 0
+  past-end : (p : ℕ) → length s ≤ p → leAt s p 4 ≡ 0
   unfolding leAt value
   past-end p h = leAt-end s p 4 0 (omega arith) (omega arith)
 

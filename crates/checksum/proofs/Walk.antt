@@ -5,9 +5,10 @@ use Prim.Native.Nat.{ℕ, suc, _+_, _-_, _*_, _≤_, _<_}
 use native.Mathlib.Omega.{arith}
 use lib.ListN.{length, drop, length-drop}
 use borrow.Author.Tests.{eq-eqb, ne-eqb}
-use Rattle.checksum.specs.declared.State.{State}
+use Rattle.lookup3_mix.specs.declared.State.{State}
 use Rattle.checksum.specs.Requires.{Tail}
-use Rattle.checksum.specs.Lookup3.{grouped, mixed, finalMixed, run, groupsOf, begun, body, tailOf, switched, ended, hashlittle}
+use Rattle.lookup3_mix.specs.Mix.{mixed, finalMixed}
+use Rattle.checksum.specs.Lookup3.{grouped, run, groupsOf, begun, body, tailOf, switched, ended, hashlittle}
 
 -- ---- the groups
 

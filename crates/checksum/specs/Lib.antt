@@ -1,3 +1,2 @@
-pub mod Words
 pub mod Lookup3
 pub mod Requires

@@ -4,11 +4,6 @@ use mathlib.Core.List.{List}
 use Prim.Native.Nat.{ℕ, _+_, _≤_, _<_}
 use lib.ListN.{length}
 
--- a distance by which a word is rotated
-pub record Rotation (k : ℕ) : Type 0 where
-  pub some : 0 < k
-  pub small : k < 32
-
 -- the place at which the loop over the groups has ended, with bytes left
 pub record Tail (bytes : List ℕ) (at : ℕ) : Type 0 where
   pub some : at < length bytes

@@ -1,29 +1,19 @@
--- Addresses and lengths of a file: which widths they have, what is read at a place, what is stored
--- there, and what is refused. Where the Rust checks, its order and its pairs are kept.
-use Prim.Native.Nat.{ℕ, _+_, _-_, _*_, _^_, min}
+-- Addresses and lengths of a file: what is read at a place, and what is refused. Where the Rust checks, its
+-- order and its pairs are kept.
+use Prim.Native.Nat.{ℕ, _+_}
 use mathlib.Core.List.{List}
-use mathlib.Core.Bool.{Bool, cond, _||_, _&&_}
-use lib.ListN.{length, replicate}
-use lib.Dec.{leb, eqb}
-use Rattle.fields.specs.LittleEndian.{le, leAt, put}
+use mathlib.Core.Bool.{cond}
+use lib.ListN.{length}
+use lib.Dec.{leb}
+use Rattle.numbers.specs.Numbers.{saturated}
+use Rattle.little_endian.specs.LittleEndian.{leAt}
+use Rattle.little_endian.specs.Widths.{legal}
 use Rattle.refusals.specs.declared.FormatError.{FormatError}
-use Rattle.refusals.specs.declared.FormatError.the-variants.{UnexpectedEof, InvalidOffsetSize, InvalidLengthSize, SliceTooShort}
-use Rattle.fields.specs.declared.bytes.Checked.{Checked}
-use Rattle.fields.specs.declared.bytes.Checked.the-variants.{Passed, Refused as NotPassed}
-use Rattle.fields.specs.declared.bytes.Field.{Field}
-use Rattle.fields.specs.declared.bytes.Field.the-variants.{Value, Refused}
-
--- the widths that an address or a length may have: the superblock's Size of Offsets, Size of Lengths
-unfoldable pub legal : ℕ → Bool
-legal w = eqb w 2 || (eqb w 4 || eqb w 8)
-
--- the undefined address: all bits of its width are one
-unfoldable pub undefinedAddr : ℕ → ℕ → Bool
-undefinedAddr a w = legal w && eqb a (2 ^ (8 * w) - 1)
-
--- n, or the largest 64-bit number where n is above it
-unfoldable pub saturated : ℕ → ℕ
-saturated n = min n (2 ^ 64 - 1)
+use Rattle.refusals.specs.declared.FormatError.the-variants.{UnexpectedEof, InvalidOffsetSize, InvalidLengthSize}
+use Rattle.fields.specs.declared.Checked.{Checked}
+use Rattle.fields.specs.declared.Checked.the-variants.{Passed, Refused as NotPassed}
+use Rattle.fields.specs.declared.Field.{Field}
+use Rattle.fields.specs.declared.Field.the-variants.{Value, Refused}
 
 -- n bytes from p on, or 1 with their end and the length
 unfoldable pub lenChecked : List ℕ → ℕ → ℕ → Checked
@@ -57,23 +47,3 @@ offsetAt s p w = fieldAt s p w (InvalidOffsetSize w)
 -- a length at p: 3 where w is no width
 unfoldable pub lengthAt : List ℕ → ℕ → ℕ → Field
 lengthAt s p w = fieldAt s p w (InvalidLengthSize w)
-
--- w bytes from p on of n lent ones: 2 where w is no width, 13 where they would end past the lent ones
-unfoldable pub storeChecked : ℕ → ℕ → ℕ → Checked
-storeChecked n p w =
-    cond (legal w)
-    (cond (leb (p + w) n) Passed (NotPassed (SliceTooShort (saturated (p + w)) n)))
-    (NotPassed (InvalidOffsetSize w))
-
--- s with bs from p on where the test before it passed, else s as it was
-abbrev pub putIf : Checked → List ℕ → ℕ → List ℕ → List ℕ
-putIf Passed s p bs = put s p bs
-putIf (NotPassed e) s p bs = s
-
--- s with the address a stored at p, where that is not refused
-unfoldable pub offsetStored : List ℕ → ℕ → ℕ → ℕ → List ℕ
-offsetStored s p a w = putIf (storeChecked (length s) p w) s p (le w a)
-
--- s with the undefined address stored at p, where that is not refused
-unfoldable pub undefStored : List ℕ → ℕ → ℕ → List ℕ
-undefStored s p w = putIf (storeChecked (length s) p w) s p (replicate w 255)

@@ -1,3 +1,2 @@
-pub mod LittleEndian
 pub mod Fields
 pub mod Answers

@@ -3,7 +3,7 @@
 -- header_layout/specs/Layout.antt.
 use Prim.Native.Nat.{ℕ, _+_, _*_}
 use mathlib.Core.List.{List}
-use Rattle.fields.specs.LittleEndian.{leAt}
+use Rattle.little_endian.specs.LittleEndian.{leAt}
 use Rattle.fields.specs.Fields.{afterCheck}
 use Rattle.refusals.specs.Refusals.{answer, refusal}
 use Rattle.refusals.specs.declared.Answer.{Answer}

@@ -4,7 +4,7 @@ ghost use Rattle.heap_ids.specs.Id.{idTypeOf, decodedId};
 ghost use Rattle.fractal_heap.specs.Read.{rootAt, managedAt, idBy, objectBy};
 use crate::header::FractalHeapHeader;
 use crate::header::Parsed;
-use fields::convert::is_undefined_addr;
+use convert::is_undefined_addr;
 use heap_blocks::Found;
 use heap_ids::IdType;
 use heap_ids::ManagedId;

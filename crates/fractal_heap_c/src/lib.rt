@@ -3,13 +3,13 @@
 // two values into the first 16 bytes of the slot; a shorter slot gives 13 before all else.
 ghost use mathlib.Core.Path.{_≡_};
 ghost use Rattle.checksum.specs.Lookup3.{hashlittle};
-ghost use Rattle.fields.specs.Answers.{slotNumber, slotBytes};
+ghost use Rattle.slot.specs.Slot.{slotNumber, slotBytes};
 ghost use Rattle.heap_ids.specs.Id.{decodedAnswer};
 ghost use Rattle.heap_blocks.specs.Blocks.{foundAnswer};
 ghost use Rattle.fractal_heap.specs.Header.{headerAt};
 ghost use Rattle.fractal_heap.specs.Read.{idBy, objectBy};
 use checksum::jenkins_lookup3;
-use fields::convert::to_usize;
+use convert::to_usize;
 use fractal_heap::header::FractalHeapHeader;
 use slot::put_answer;
 

@@ -8,10 +8,10 @@ use lib.Dec.{leb, ltb, eqb}
 use lib.Pow.{pow-mono}
 use borrow.Author.Tests.{eqb-true, ltb-true, leb-true}
 use Rattle.refusals.specs.declared.FormatError.{FormatError}
-use Rattle.fields.specs.Fields.{legal}
-use Rattle.fields.proofs.Fields.{legal-small}
-use Rattle.fields.specs.declared.bytes.Checked.{Checked}
-use Rattle.fields.specs.declared.bytes.Checked.the-variants.{Passed, Refused as NotPassed}
+use Rattle.little_endian.specs.Widths.{legal}
+use Rattle.little_endian.proofs.Widths.{legal-small}
+use Rattle.fields.specs.declared.Checked.{Checked}
+use Rattle.fields.specs.declared.Checked.the-variants.{Passed, Refused as NotPassed}
 use Rattle.table.specs.Capacity.{sum}
 use Rattle.plan_checks.specs.Checks.{placesChecked, thenChecked}
 use Rattle.plan.specs.declared.ManagedPlan.{ManagedPlan}

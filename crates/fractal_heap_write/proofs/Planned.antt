@@ -6,7 +6,7 @@ use mathlib.Core.List.{List}
 use native.Mathlib.Omega.{arith}
 use lib.Dec.{eqb}
 use lib.ListN.{length, take, drop}
-use Rattle.fields.proofs.Fields.{legal-small}
+use Rattle.little_endian.proofs.Widths.{legal-small}
 use Rattle.table.specs.Table.{fixed}
 use Rattle.plan_steps.specs.Steps.{planOffsets, planStarts}
 use Rattle.plan_steps.specs.declared.State.{State}

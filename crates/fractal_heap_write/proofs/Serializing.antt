@@ -8,7 +8,7 @@ use native.Mathlib.Decide.{decLe}
 use lib.ListN.{length, take, drop, length-append}
 use lib.Pow.{pow-mono}
 use lib.Seq.{take-at, length-take-le}
-use Rattle.fields.proofs.Fields.{legal-small}
+use Rattle.little_endian.proofs.Widths.{legal-small}
 use Rattle.table.specs.Table.{fixed, rowOffset}
 use Rattle.table.specs.Sizes.{maxManaged}
 use Rattle.table.specs.Capacity.{sum}

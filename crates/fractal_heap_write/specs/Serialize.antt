@@ -1,7 +1,7 @@
 -- The writer's answer, and what the lent region holds at the end.
 use Prim.Native.Nat.{ℕ}
 use mathlib.Core.List.{List}
-use Rattle.fields.specs.declared.bytes.Checked.{Checked}
+use Rattle.fields.specs.declared.Checked.{Checked}
 use Rattle.table.specs.Capacity.{sum}
 use Rattle.plan_lists.specs.Lists.{fronted}
 use Rattle.plan.specs.declared.ManagedPlan.{ManagedPlan}

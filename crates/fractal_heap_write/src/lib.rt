@@ -10,7 +10,7 @@ ghost use Rattle.region_blocks.specs.Storing.{stored};
 ghost use Rattle.fractal_heap_write.specs.Region.{indirects, region as regionOf};
 ghost use Rattle.fractal_heap_write.specs.Serialize.{serialized, regionWritten};
 ghost use Rattle.fractal_heap_write.specs.Requires.{Rooted, Writable};
-use fields::bytes::Checked;
+use fields::Checked;
 use plan::Planned;
 use plan::planned_for;
 use plan_lists::write_lists;

@@ -7,11 +7,12 @@ use native.Mathlib.Omega.{arith}
 use lib.ListN.{length}
 use lib.Dec.{leb, ltb}
 use borrow.Author.Tests.{leb-true}
-use Rattle.fields.specs.LittleEndian.{leAt}
-use Rattle.fields.specs.Fields.{legal, lenChecked, afterCheck}
+use Rattle.little_endian.specs.LittleEndian.{leAt}
+use Rattle.little_endian.specs.Widths.{legal}
+use Rattle.fields.specs.Fields.{lenChecked, afterCheck}
 use Rattle.fields.proofs.Fields.{len-within}
-use Rattle.fields.specs.declared.bytes.Checked.{Checked}
-use Rattle.fields.specs.declared.bytes.Checked.the-variants.{Passed, Refused}
+use Rattle.fields.specs.declared.Checked.{Checked}
+use Rattle.fields.specs.declared.Checked.the-variants.{Passed, Refused}
 use Rattle.refusals.specs.declared.FormatError.{FormatError}
 use Rattle.header_layout.specs.Layout.{headerEnd, sumPlace, layoutChecked, sumChecked, headerChecked}
 use Rattle.header_tests.specs.Tests.{endsChecked, frontEnds, addressEnds, startChecked}

@@ -7,10 +7,11 @@ use mathlib.Core.List.{List}
 use mathlib.Core.Bool.{cond}
 use lib.ListN.{length, take, drop}
 use lib.Dec.{ltb, eqb}
-use Rattle.fields.specs.LittleEndian.{leAt}
-use Rattle.fields.specs.Fields.{legal, lenChecked, afterCheck}
-use Rattle.fields.specs.declared.bytes.Checked.{Checked}
-use Rattle.fields.specs.declared.bytes.Checked.the-variants.{Passed, Refused}
+use Rattle.little_endian.specs.LittleEndian.{leAt}
+use Rattle.little_endian.specs.Widths.{legal}
+use Rattle.fields.specs.Fields.{lenChecked, afterCheck}
+use Rattle.fields.specs.declared.Checked.{Checked}
+use Rattle.fields.specs.declared.Checked.the-variants.{Passed, Refused}
 use Rattle.refusals.specs.declared.FormatError.the-variants.{InvalidOffsetSize, InvalidLengthSize, ChecksumMismatch}
 use Rattle.checksum.specs.Lookup3.{hashlittle}
 use Rattle.header_tests.specs.Tests.{endsChecked, frontEnds, addressEnds, tableEnds, startChecked}

@@ -5,15 +5,15 @@ ghost use Prim.Native.Nat.{_+_, _≤_};
 ghost use lib.ListN.{length};
 ghost use Rattle.header_layout.specs.Layout.{sumPlace, layoutChecked, sumChecked, headerChecked};
 use checksum::jenkins_lookup3;
-use fields::bytes::Checked;
-use fields::bytes::ensure_len;
-use fields::bytes::is_width;
-use fields::bytes::read_u16_le;
-use fields::bytes::read_u32_le;
+use fields::Checked;
+use fields::ensure_len;
+use fields::is_width;
 use header_tests::check_addresses;
 use header_tests::check_front;
 use header_tests::check_start;
 use header_tests::check_table;
+use little_endian::read_u16_le;
+use little_endian::read_u32_le;
 use refusals::FormatError;
 
 // Every field, each width before the first field that has it.

@@ -5,10 +5,10 @@ use mathlib.Core.List.{List, [], _∷_}
 use mathlib.Core.Bool.{cond}
 use lib.ListN.{getD}
 use lib.Dec.{leb, eqb}
-use Rattle.fields.specs.LittleEndian.{leAt}
+use Rattle.little_endian.specs.LittleEndian.{leAt}
 use Rattle.fields.specs.Fields.{lenChecked, afterCheck}
-use Rattle.fields.specs.declared.bytes.Checked.{Checked}
-use Rattle.fields.specs.declared.bytes.Checked.the-variants.{Passed, Refused}
+use Rattle.fields.specs.declared.Checked.{Checked}
+use Rattle.fields.specs.declared.Checked.the-variants.{Passed, Refused}
 use Rattle.refusals.specs.declared.FormatError.the-variants.{UnexpectedEof, InvalidFractalHeapSignature, InvalidFractalHeapVersion}
 
 -- 1 for a field that ends at e, past all n bytes

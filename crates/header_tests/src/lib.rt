@@ -4,9 +4,9 @@ ghost use mathlib.Core.Path.{_≡_};
 ghost use Prim.Native.Nat.{_+_, _≤_};
 ghost use lib.ListN.{length};
 ghost use Rattle.header_tests.specs.Tests.{tooShort, endsChecked, frontEnds, addressEnds, rootEnds, tableEnds, startChecked};
-use fields::bytes::Checked;
-use fields::bytes::ensure_len;
-use fields::bytes::read_u32_le;
+use fields::Checked;
+use fields::ensure_len;
+use little_endian::read_u32_le;
 use refusals::FormatError;
 
 // A field that ends past the file.

@@ -8,9 +8,10 @@ use native.Mathlib.Nat.{le-of-eq}
 use lib.ListN.{length, take, drop, length-drop}
 use lib.Seq.{take-all}
 use lib.Dec.{leb}
-use Rattle.fields.specs.Fields.{saturated, lenChecked, afterCheck}
-use Rattle.fields.specs.declared.bytes.Checked.{Checked}
-use Rattle.fields.specs.declared.bytes.Checked.the-variants.{Passed, Refused as NotPassed}
+use Rattle.numbers.specs.Numbers.{saturated}
+use Rattle.fields.specs.Fields.{lenChecked, afterCheck}
+use Rattle.fields.specs.declared.Checked.{Checked}
+use Rattle.fields.specs.declared.Checked.the-variants.{Passed, Refused as NotPassed}
 use Rattle.refusals.specs.declared.FormatError.{FormatError}
 use Rattle.refusals.specs.declared.FormatError.the-variants.{UnexpectedEof, DepthExceeded, OffsetOverflow}
 use Rattle.fields.proofs.Fields.{len-within}

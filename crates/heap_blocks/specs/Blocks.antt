@@ -6,8 +6,10 @@ use mathlib.Core.List.{List}
 use mathlib.Core.Bool.{Bool, cond, not, _&&_}
 use lib.ListN.{length, drop}
 use lib.Dec.{leb, ltb, eqb}
-use Rattle.fields.specs.LittleEndian.{leAt}
-use Rattle.fields.specs.Fields.{saturated, lenChecked, offsetAt, undefinedAddr, afterCheck, afterField}
+use Rattle.little_endian.specs.LittleEndian.{leAt}
+use Rattle.numbers.specs.Numbers.{saturated}
+use Rattle.fields.specs.Fields.{lenChecked, offsetAt, afterCheck, afterField}
+use Rattle.convert.specs.Undefined.{undefinedAddr}
 use Rattle.refusals.specs.Refusals.{answer, refusal}
 use Rattle.refusals.specs.declared.Answer.{Answer}
 use Rattle.refusals.specs.declared.FormatError.the-variants.{UnexpectedEof, InvalidFractalHeapSignature, OffsetOverflow, DepthExceeded}

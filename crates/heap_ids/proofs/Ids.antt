@@ -11,8 +11,8 @@ use lib.ListN.{length, getD, take, drop, length-drop}
 use lib.Seq.{take-all, getD-drop}
 use lib.Dec.{eqb}
 use borrow.Author.Tests.{eq-eqb, ne-eqb}
-use Rattle.fields.specs.LittleEndian.{value, leAt}
-use Rattle.fields.proofs.LittleEndian.{value-lt, leAt-add, leAt-byte, leAt-end, leAt-last}
+use Rattle.little_endian.specs.LittleEndian.{value, leAt}
+use Rattle.little_endian.proofs.LittleEndian.{value-lt, leAt-add, leAt-byte, leAt-end, leAt-last}
 use Rattle.heap_ids.specs.declared.ManagedId.{ManagedId}
 use Rattle.heap_ids.specs.declared.ManagedId.the-variants.{Decoded}
 use Rattle.heap_ids.specs.Id.{typeOf, splitId, decodedId}

@@ -6,7 +6,7 @@ use Prim.Native.Nat.{ℕ, _+_, _*_, _%_, _≤_}
 use lib.ListN.{length, getD}
 use lib.Dec.{leb, ltb, eqb}
 use borrow.Author.Tests.{leb-true}
-use Rattle.fields.specs.Fields.{undefinedAddr}
+use Rattle.convert.specs.Undefined.{undefinedAddr}
 use Rattle.refusals.specs.declared.FormatError.the-variants.{UnexpectedEof}
 use Rattle.heap_blocks.specs.declared.Found.{Found}
 use Rattle.heap_blocks.specs.declared.Found.the-variants.{At, Refused}

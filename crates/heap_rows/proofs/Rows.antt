@@ -3,23 +3,12 @@ use mathlib.Core.Path.{_≡_, refl, sym, ap, ap₂, _∙_}
 use Prim.Native.Nat.{ℕ, zero, suc, _+_, _-_, _*_, _^_, _≤_, _<_}
 use native.Mathlib.Omega.{arith}
 use native.Mathlib.Nat.{mul-assoc, mul-comm}
-use lib.Count.{leadingZeros, leading-of-zero, leading-top}
 use borrow.Author.Tests.{lt-ltb, le-ltb}
-use Rattle.fields.specs.Fields.{saturated}
+use Rattle.numbers.specs.Numbers.{saturated}
 use Rattle.heap_rows.specs.declared.DoublingTable.{DoublingTable}
-use Rattle.heap_rows.specs.Rows.{log2, blockSize, directRows, sizeToRows, heapSize}
-use Rattle.heap_rows.proofs.Saturating.{sat-mul, sat-double, sat-twice}
-
-pub log2-le : (v : ℕ) → log2 v ≤ 63
-unfolding log2
-log2-le v = omega arith
-
-pub log2-none : (v : ℕ) → v ≡ 0 → log2 v ≡ 0
-unfolding log2
-log2-none v e = rw (e, leading-of-zero 64)
-
-pub leading-some : (v : ℕ) → 0 < v → v < 2 ^ 64 → leadingZeros 64 v ≤ 63
-leading-some v p h = let t = leading-top 64 v p h in let e = t .1 in omega arith
+use Rattle.heap_rows.specs.Rows.{blockSize, sizeToRows, heapSize}
+use Rattle.numbers.proofs.Log2.{log2-le}
+use Rattle.numbers.proofs.Saturating.{sat-mul, sat-double, sat-twice}
 
 pub rows-le : (t : DoublingTable) (size : ℕ) → (0 < sizeToRows t size) × (sizeToRows t size ≤ 64)
 unfolding sizeToRows

@@ -3,14 +3,9 @@
 -- largest 64-bit number.
 use Prim.Native.Nat.{ℕ, zero, suc, _+_, _-_, _*_, _^_}
 use mathlib.Core.Bool.{cond}
-use lib.Count.{leadingZeros}
 use lib.Dec.{ltb}
-use Rattle.fields.specs.Fields.{saturated}
+use Rattle.numbers.specs.Numbers.{saturated, log2}
 use Rattle.heap_rows.specs.declared.DoublingTable.{DoublingTable}
-
--- the exponent of the largest power of two that is at most v, for v below 2 ^ 64; 0 of 0
-unfoldable pub log2 : ℕ → ℕ
-log2 v = 63 - leadingZeros 64 v
 
 -- the size of a block in a row: rows 0 and 1 have the starting size, each later row twice the one before
 unfoldable pub blockSize : DoublingTable → ℕ → ℕ

@@ -2,9 +2,12 @@
 // where the direct rows end, and what a nested block has and spans. A size that would pass 2^64 - 1
 // counts as that number.
 ghost use mathlib.Core.Path.{_≡_};
-ghost use Prim.Native.Nat.{_-_, _*_, _^_, _≤_, _<_};
-ghost use Rattle.fields.specs.Fields.{saturated};
-ghost use Rattle.heap_rows.specs.Rows.{log2, blockSize, directRows, sizeToRows, heapSize, slotSize};
+ghost use Prim.Native.Nat.{_≤_, _<_};
+ghost use Rattle.heap_rows.specs.Rows.{blockSize, directRows, sizeToRows, heapSize, slotSize};
+use numbers::log2_floor;
+use numbers::saturating_mul;
+use numbers::saturating_shl;
+use numbers::saturating_sub;
 
 // The header's fields that shape the heap.
 pub struct DoublingTable {
@@ -12,55 +15,6 @@ pub struct DoublingTable {
     pub starting_block_size: u64,
     pub max_direct_block_size: u64,
     pub max_heap_size: u16,
-}
-
-// The exponent of the largest power of two that is at most `v`; 0 of 0.
-fn log2_floor(v: u64) -> u64
-    ensures { λ r. ⌜ r ≡ log2 v ⌝ }
-{
-    if v == 0 {
-        return 0;
-    }
-    (63 - u64::leading_zeros(v)) as u64
-}
-
-// The difference, 0 where it would fall below.
-pub fn saturating_sub(a: u64, b: u64) -> u64
-    ensures { λ r. ⌜ r ≡ a - b ⌝ }
-{
-    if b <= a { a - b } else { 0 }
-}
-
-fn wide(width: u16) -> u64
-    ensures { λ r. ⌜ r ≡ width ⌝ }
-{
-    width as u64
-}
-
-// The product. A size below 2^48 takes no division: with a width it stays below 2^64.
-pub fn saturating_mul(size: u64, width: u16) -> u64
-    ensures { λ r. ⌜ r ≡ saturated (size * width) ⌝ }
-{
-    let times = wide(width);
-    if size < 0x1_0000_0000_0000 {
-        return size * times;
-    }
-    if times <= u64::MAX / size {
-        size * times
-    } else {
-        u64::MAX
-    }
-}
-
-fn saturating_shl(size: u64, bits: u64) -> u64
-    requires { ⌜ bits < 64 ⌝ }
-    ensures { λ r. ⌜ r ≡ saturated (size * 2 ^ bits) ⌝ }
-{
-    if size <= u64::MAX >> bits {
-        size << bits
-    } else {
-        u64::MAX
-    }
 }
 
 impl DoublingTable {
@@ -90,7 +44,7 @@ impl DoublingTable {
         ensures { λ r. ⌜ r ≡ sizeToRows self size ⌝ }
     {
         let start = log2_floor(self.starting_block_size);
-        let width = log2_floor(wide(self.table_width));
+        let width = log2_floor(self.table_width as u64);
         let bits = log2_floor(size);
         saturating_sub(bits, start + width) + 1
     }

@@ -4,7 +4,7 @@ use mathlib.Core.Bool.{cond}
 use mathlib.Core.List.{List, [], _∷_}
 use lib.ListN.{length}
 use lib.Dec.{ltb}
-use Rattle.fields.specs.LittleEndian.{put}
+use Rattle.little_endian.specs.LittleEndian.{put}
 use Rattle.refusals.specs.Refusals.{refusal}
 use Rattle.refusals.specs.declared.Answer.{Answer}
 use Rattle.fractal_heap.specs.declared.header.FractalHeapHeader.{FractalHeapHeader}

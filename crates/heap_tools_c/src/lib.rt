@@ -3,10 +3,10 @@
 ghost use mathlib.Core.Path.{_≡_};
 ghost use Prim.Native.Nat.{_≤_};
 ghost use lib.ListN.{length};
-ghost use Rattle.fields.specs.LittleEndian.{put};
+ghost use Rattle.little_endian.specs.LittleEndian.{put};
 ghost use Rattle.fractal_heap.specs.Header.{headerAt};
 ghost use Rattle.heap_tools_c.specs.HeapTools.{fieldNumbers, pairOf, fieldsNumber, fieldsList};
-use fields::convert::to_usize;
+use convert::to_usize;
 use fractal_heap::header::FractalHeapHeader;
 use fractal_heap::header::Parsed;
 use refusals::Answer;

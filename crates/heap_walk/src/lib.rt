@@ -2,15 +2,15 @@
 // and the place in a direct block. Block checksums are not tested.
 ghost use mathlib.Core.Path.{_≡_};
 ghost use Rattle.heap_blocks.specs.Blocks.{childAt, directAt, walkFrom};
-use fields::bytes::Checked;
-use fields::bytes::ensure_len;
-use fields::bytes::saturating_add;
-use fields::convert::to_usize;
+use convert::to_usize;
+use fields::Checked;
+use fields::ensure_len;
 use heap_blocks::Found;
 use heap_blocks::HeapChild;
 use heap_blocks::find_child_for_offset;
 use heap_rows::DoublingTable;
-use heap_rows::saturating_sub;
+use numbers::saturating_add;
+use numbers::saturating_sub;
 use refusals::FormatError;
 
 // The child of the indirect block at `addr`, which is given the file from there on.

@@ -9,13 +9,13 @@ use lib.ListN.{length, length-append, set}
 use lib.Seq.{sets}
 use lib.Dec.{leb, ltb}
 use borrow.Author.Tests.{leb-true, ltb-true}
-use Rattle.fields.specs.LittleEndian.{le, put}
-use Rattle.fields.specs.Fields.{putIf}
-use Rattle.fields.specs.declared.bytes.Checked.{Checked}
-use Rattle.fields.specs.declared.bytes.Checked.the-variants.{Passed, Refused as NotPassed}
+use Rattle.little_endian.specs.LittleEndian.{le, put}
+use Rattle.stores.specs.Stores.{putIf}
+use Rattle.fields.specs.declared.Checked.{Checked}
+use Rattle.fields.specs.declared.Checked.the-variants.{Passed, Refused as NotPassed}
 use Rattle.refusals.specs.declared.FormatError.{FormatError}
 use Rattle.refusals.specs.declared.FormatError.the-variants.{SliceTooShort, HeapIdTooLarge}
-use Rattle.fields.proofs.LittleEndian.{length-le, put-sets, length-put}
+use Rattle.little_endian.proofs.LittleEndian.{length-le, put-sets, length-put}
 use Rattle.table.specs.Table.{Table, fixed}
 use Rattle.table.specs.Sizes.{offsetBytes}
 use Rattle.managed_ids.specs.Ids.{managedId, idLength, idChecked, idWritten}

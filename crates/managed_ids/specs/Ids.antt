@@ -5,10 +5,10 @@ use mathlib.Core.Bool.{_&&_, cond}
 use mathlib.Core.List.{List, _++_}
 use lib.ListN.{length}
 use lib.Dec.{leb, ltb}
-use Rattle.fields.specs.LittleEndian.{le}
-use Rattle.fields.specs.Fields.{putIf}
-use Rattle.fields.specs.declared.bytes.Checked.{Checked}
-use Rattle.fields.specs.declared.bytes.Checked.the-variants.{Passed, Refused}
+use Rattle.little_endian.specs.LittleEndian.{le}
+use Rattle.stores.specs.Stores.{putIf}
+use Rattle.fields.specs.declared.Checked.{Checked}
+use Rattle.fields.specs.declared.Checked.the-variants.{Passed, Refused}
 use Rattle.refusals.specs.declared.FormatError.the-variants.{SliceTooShort, HeapIdTooLarge}
 use Rattle.table.specs.Table.{Table}
 use Rattle.table.specs.Sizes.{offsetBytes}

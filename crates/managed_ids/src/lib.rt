@@ -5,10 +5,10 @@ ghost use Prim.Native.Nat.{_^_, _≤_};
 ghost use mathlib.Core.Bool.{_&&_};
 ghost use lib.ListN.{length};
 ghost use lib.Dec.{ltb};
-ghost use Rattle.fields.specs.LittleEndian.{put};
+ghost use Rattle.little_endian.specs.LittleEndian.{put};
 ghost use Rattle.table.specs.Table.{fixed};
 ghost use Rattle.managed_ids.specs.Ids.{managedId, idChecked, idWritten};
-use fields::bytes::Checked;
+use fields::Checked;
 use refusals::FormatError;
 use stores::store_le;
 

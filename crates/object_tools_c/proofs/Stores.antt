@@ -5,8 +5,8 @@ use mathlib.Core.List.{List}
 use native.Mathlib.Omega.{arith}
 use lib.ListN.{length, take, drop, set}
 use lib.Seq.{drop-drop, sets}
-use Rattle.fields.specs.LittleEndian.{put}
-use Rattle.fields.proofs.LittleEndian.{put-sets}
+use Rattle.little_endian.specs.LittleEndian.{put}
+use Rattle.little_endian.proofs.LittleEndian.{put-sets}
 use Rattle.refusals.specs.declared.Answer.{Answer}
 use Rattle.heap_blocks.specs.Blocks.{foundAnswer}
 use Rattle.fractal_heap.specs.declared.header.FractalHeapHeader.{FractalHeapHeader}

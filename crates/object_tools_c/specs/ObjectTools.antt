@@ -4,7 +4,7 @@ use mathlib.Core.Bool.{Bool, cond}
 use mathlib.Core.List.{List, [], _∷_, _++_}
 use lib.ListN.{length, take, drop}
 use lib.Dec.{ltb}
-use Rattle.fields.specs.LittleEndian.{put}
+use Rattle.little_endian.specs.LittleEndian.{put}
 use Rattle.refusals.specs.declared.Answer.{Answer}
 use Rattle.heap_blocks.specs.Blocks.{foundAnswer}
 use Rattle.fractal_heap.specs.declared.header.FractalHeapHeader.{FractalHeapHeader}

@@ -3,14 +3,14 @@
 ghost use mathlib.Core.Path.{_≡_};
 ghost use Prim.Native.Nat.{_*_, _/_, _≤_};
 ghost use lib.ListN.{length};
-ghost use Rattle.fields.specs.LittleEndian.{put};
-ghost use Rattle.fields.specs.Answers.{slotNumber, slotBytes};
+ghost use Rattle.little_endian.specs.LittleEndian.{put};
+ghost use Rattle.slot.specs.Slot.{slotNumber, slotBytes};
 ghost use Rattle.heap_blocks.specs.Blocks.{foundAnswer};
 ghost use Rattle.fractal_heap.specs.Header.{headerAt};
 ghost use Rattle.fractal_heap.specs.Read.{objectBy};
 ghost use Rattle.heap_ids.specs.Id.{idTypeOf, idTypeAnswer, tinyAt};
 ghost use Rattle.object_tools_c.specs.ObjectTools.{answersFrom, eachNumber, eachList};
-use fields::convert::to_usize;
+use convert::to_usize;
 use fractal_heap::header::FractalHeapHeader;
 use fractal_heap::header::Parsed;
 use heap_ids::read_tiny_object;

@@ -5,8 +5,8 @@ use mathlib.Core.List.{List}
 use native.Mathlib.Omega.{arith}
 use Rattle.refusals.specs.declared.FormatError.{FormatError}
 use Rattle.refusals.specs.declared.FormatError.the-variants.{HeapSpaceExhausted}
-use Rattle.fields.specs.declared.bytes.Checked.{Checked}
-use Rattle.fields.specs.declared.bytes.Checked.the-variants.{Passed, Refused as NotPassed}
+use Rattle.fields.specs.declared.Checked.{Checked}
+use Rattle.fields.specs.declared.Checked.the-variants.{Passed, Refused as NotPassed}
 use Rattle.table.specs.Table.{fixed}
 use Rattle.plan_steps.specs.declared.State.{State}
 use Rattle.plan_steps.specs.declared.Run.{Run}

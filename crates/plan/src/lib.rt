@@ -7,7 +7,7 @@ ghost use Rattle.table.specs.Table.{fixed};
 ghost use Rattle.plan_steps.specs.Steps.{planOffsets, planStarts};
 ghost use Rattle.plan.specs.Answer.{closed, rootRows, totals, answer, written};
 ghost use Rattle.plan.specs.Requires.{Totalled};
-use fields::bytes::Checked;
+use fields::Checked;
 use plan_checks::check_input;
 use plan_lists::write_lists;
 use plan_steps::Run;

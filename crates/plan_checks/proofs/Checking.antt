@@ -9,10 +9,10 @@ use lib.Dec.{leb}
 use lib.ListN.{length, drop, getD, drop-of-length-le}
 use lib.Seq.{drop-cons}
 use borrow.Author.Tests.{le-leb, lt-leb, leb-true}
-use Rattle.fields.specs.Fields.{legal}
+use Rattle.little_endian.specs.Widths.{legal}
 use Rattle.refusals.specs.declared.FormatError.the-variants.{InvalidOffsetSize, ObjectTooLarge, HeapSpaceExhausted, SliceTooShort}
-use Rattle.fields.specs.declared.bytes.Checked.{Checked}
-use Rattle.fields.specs.declared.bytes.Checked.the-variants.{Passed, Refused as NotPassed}
+use Rattle.fields.specs.declared.Checked.{Checked}
+use Rattle.fields.specs.declared.Checked.the-variants.{Passed, Refused as NotPassed}
 use Rattle.table.specs.Table.{fixed}
 use Rattle.table.specs.Sizes.{maxManaged}
 use Rattle.plan_checks.specs.Checks.{sizesChecked, placesChecked, widthChecked, thenChecked, inputChecked}

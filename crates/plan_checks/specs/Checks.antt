@@ -4,10 +4,10 @@ use mathlib.Core.Bool.{true, false, cond}
 use mathlib.Core.List.{List, [], _∷_}
 use lib.ListN.{length}
 use lib.Dec.{leb}
-use Rattle.fields.specs.Fields.{legal}
+use Rattle.little_endian.specs.Widths.{legal}
 use Rattle.refusals.specs.declared.FormatError.the-variants.{InvalidOffsetSize, ObjectTooLarge, SliceTooShort}
-use Rattle.fields.specs.declared.bytes.Checked.{Checked}
-use Rattle.fields.specs.declared.bytes.Checked.the-variants.{Passed, Refused as NotPassed}
+use Rattle.fields.specs.declared.Checked.{Checked}
+use Rattle.fields.specs.declared.Checked.the-variants.{Passed, Refused as NotPassed}
 use Rattle.table.specs.Table.{fixed}
 use Rattle.table.specs.Sizes.{maxManaged}
 

@@ -2,8 +2,8 @@
 ghost use mathlib.Core.Path.{_≡_};
 ghost use Prim.Native.Nat.{max};
 ghost use Rattle.plan_checks.specs.Checks.{sizesChecked, placesChecked, widthChecked, inputChecked};
-use fields::bytes::Checked;
-use fields::bytes::is_width;
+use fields::Checked;
+use fields::is_width;
 use refusals::FormatError;
 use table_sizes::max_managed_object;
 

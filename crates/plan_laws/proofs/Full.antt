@@ -10,7 +10,7 @@ use lib.Dec.{leb}
 use lib.ListN.{length, take, getD}
 use borrow.Author.Tests.{leb-false}
 use Rattle.refusals.specs.declared.FormatError.the-variants.{HeapSpaceExhausted}
-use Rattle.fields.specs.declared.bytes.Checked.the-variants.{Passed}
+use Rattle.fields.specs.declared.Checked.the-variants.{Passed}
 use Rattle.table.specs.Table.{Table, fixed}
 use Rattle.table.specs.Sizes.{directHeader}
 use Rattle.table.specs.declared.Slot.{Slot}

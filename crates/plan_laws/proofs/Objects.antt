@@ -4,7 +4,7 @@ use mathlib.Core.Path.{_≡_, sym, subst}
 use mathlib.Core.List.{List}
 use native.Mathlib.Omega.{arith}
 use lib.ListN.{length, getD}
-use Rattle.fields.proofs.Fields.{legal-small}
+use Rattle.little_endian.proofs.Widths.{legal-small}
 use Rattle.table.specs.Table.{fixed}
 use Rattle.table.specs.Slots.{Direct}
 use Rattle.table.specs.Sizes.{offsetBytes, directHeader}

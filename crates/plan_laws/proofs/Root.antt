@@ -8,7 +8,7 @@ use native.Mathlib.Decide.{ℕ-discrete}
 use native.Mathlib.Numerals.{add-one}
 use lib.ListN.{length, getD}
 use borrow.Author.Tests.{eq-eqb, ne-eqb}
-use Rattle.fields.proofs.Fields.{legal-small}
+use Rattle.little_endian.proofs.Widths.{legal-small}
 use Rattle.table.specs.Table.{fixed, rowBits, rowOffset, rowIn, rowOf}
 use Rattle.table.specs.Slots.{Direct, slotIn, slotBits, slotAt}
 use Rattle.table.specs.Sizes.{directHeader}

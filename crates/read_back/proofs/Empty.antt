@@ -8,9 +8,9 @@ use native.Mathlib.Decide.{ℕ-discrete, decLe, decLt}
 use lib.ListN.{length, getD}
 use lib.Pow.{pow-mono}
 use borrow.Author.Tests.{le-ltb}
-use Rattle.fields.proofs.Fields.{legal-small}
+use Rattle.little_endian.proofs.Widths.{legal-small}
 use Rattle.refusals.specs.declared.FormatError.the-variants.{UnexpectedEof, HeapIdTooLarge}
-use Rattle.fields.specs.declared.bytes.Checked.the-variants.{Refused as NotPassed}
+use Rattle.fields.specs.declared.Checked.the-variants.{Refused as NotPassed}
 use Rattle.table.specs.Table.{Table, fixed, rowOffset}
 use Rattle.table.specs.Slots.{slotAt}
 use Rattle.table_laws.proofs.Format.{direct-local, fixed-slot}
@@ -18,7 +18,7 @@ use Rattle.plan_steps.specs.Steps.{planOffsets, planStarts}
 use Rattle.plan.specs.declared.ManagedPlan.{ManagedPlan}
 use Rattle.plan_laws.proofs.Objects.{in-one-body}
 use Rattle.region_directs.specs.Directs.{objectsIn}
-use Rattle.heap_rows.proofs.Saturating.{sat-fits}
+use Rattle.numbers.proofs.Saturating.{sat-fits}
 use Rattle.heap_blocks.specs.declared.Found.the-variants.{At, Refused}
 use Rattle.heap_blocks.specs.Blocks.{directAt}
 use Rattle.fractal_heap.specs.declared.header.FractalHeapHeader.{FractalHeapHeader}

@@ -8,7 +8,7 @@ use native.Mathlib.Decide.{ℕ-discrete}
 use lib.ListN.{length, take, drop, getD, length-append}
 use lib.Seq.{take-at}
 use borrow.Author.Tests.{eq-eqb, ne-eqb}
-use Rattle.fields.specs.Fields.{legal}
+use Rattle.little_endian.specs.Widths.{legal}
 use Rattle.table.specs.Table.{fixed, rowBits, rowOffset}
 use Rattle.table.specs.Slots.{slotAt}
 use Rattle.table.specs.Capacity.{sum}

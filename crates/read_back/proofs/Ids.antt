@@ -8,9 +8,9 @@ use lib.ListN.{length, take, getD, length-append}
 use lib.Pow.{high, low}
 use lib.Seq.{take-all}
 use borrow.Author.Tests.{lt-ltb, le-leb, ne-eqb}
-use Rattle.fields.specs.LittleEndian.{le, value, leAt, put}
-use Rattle.fields.specs.declared.bytes.Checked.the-variants.{Passed}
-use Rattle.fields.proofs.LittleEndian.{length-le, value-le, value-append, put-here}
+use Rattle.little_endian.specs.LittleEndian.{le, value, leAt, put}
+use Rattle.fields.specs.declared.Checked.the-variants.{Passed}
+use Rattle.little_endian.proofs.LittleEndian.{length-le, value-le, value-append, put-here}
 use Rattle.table.specs.Table.{fixed}
 use Rattle.table.specs.Sizes.{offsetBytes}
 use Rattle.heap_ids.specs.declared.ManagedId.the-variants.{Decoded}

@@ -9,7 +9,7 @@ use lib.Pow.{pow-mono}
 use lib.Seq.{take-append-le, drop-append-le, take-take, take-all, length-take-le, getD-take}
 use borrow.Author.Tests.{le-ltb, le-leb}
 use Rattle.fields.specs.Fields.{lenChecked}
-use Rattle.fields.proofs.Fields.{legal-small}
+use Rattle.little_endian.proofs.Widths.{legal-small}
 use Rattle.table.specs.Table.{fixed, rowOffset}
 use Rattle.table.specs.Slots.{slotAt}
 use Rattle.table.specs.Sizes.{directHeader, maxManaged}

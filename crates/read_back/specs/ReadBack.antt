@@ -4,7 +4,7 @@ use mathlib.Core.Path.{_≡_}
 use mathlib.Core.List.{List}
 use lib.ListN.{length, take, drop, getD}
 use Rattle.refusals.specs.declared.FormatError.the-variants.{UnexpectedEof, HeapIdTooLarge}
-use Rattle.fields.specs.declared.bytes.Checked.the-variants.{Passed, Refused as NotPassed}
+use Rattle.fields.specs.declared.Checked.the-variants.{Passed, Refused as NotPassed}
 use Rattle.table.specs.Table.{fixed}
 use Rattle.table.specs.Slots.{Direct}
 use Rattle.table.specs.Sizes.{directHeader}

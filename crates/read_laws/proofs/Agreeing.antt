@@ -6,12 +6,12 @@ use native.Mathlib.Decide.{decLe}
 use lib.Count.{leadingZeros, leading-unique}
 use lib.Pow.{pow-add, pow-mono}
 use borrow.Author.Tests.{lt-ltb, le-ltb}
-use Rattle.fields.specs.Fields.{saturated}
+use Rattle.numbers.specs.Numbers.{saturated, log2}
 use Rattle.table.specs.Table.{Table, rowBits}
 use Rattle.heap_rows.specs.declared.DoublingTable.{DoublingTable}
-use Rattle.heap_rows.specs.Rows.{log2, blockSize, directRows, sizeToRows, heapSize, slotSize}
+use Rattle.heap_rows.specs.Rows.{blockSize, directRows, sizeToRows, heapSize, slotSize}
 use Rattle.heap_rows.proofs.Rows.{block-size, span}
-use Rattle.heap_rows.proofs.Saturating.{sat-fits}
+use Rattle.numbers.proofs.Saturating.{sat-fits}
 use Rattle.heap_blocks.specs.declared.HeapChild.the-variants.{Direct, Indirect}
 use Rattle.heap_blocks.specs.Blocks.{childOf}
 

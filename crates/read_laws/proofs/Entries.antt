@@ -9,12 +9,13 @@ use lib.ListN.{length, take, drop, replicate, length-replicate}
 use lib.Dec.{leb, ltb}
 use lib.Pow.{pow-pos}
 use borrow.Author.Tests.{eq-eqb, ne-eqb, le-leb, lt-leb, lt-ltb}
-use Rattle.fields.specs.LittleEndian.{le, value, leAt}
-use Rattle.fields.specs.Fields.{legal, undefinedAddr}
-use Rattle.fields.specs.declared.bytes.Field.the-variants.{Value}
+use Rattle.little_endian.specs.LittleEndian.{le, value, leAt}
+use Rattle.little_endian.specs.Widths.{legal}
+use Rattle.convert.specs.Undefined.{undefinedAddr}
+use Rattle.fields.specs.declared.Field.the-variants.{Value}
 use Rattle.fields.proofs.Fields.{offset-read}
-use Rattle.fields.proofs.LittleEndian.{length-le, pow-byte}
-use Rattle.heap_rows.proofs.Saturating.{sat-fits}
+use Rattle.little_endian.proofs.LittleEndian.{length-le, pow-byte}
+use Rattle.numbers.proofs.Saturating.{sat-fits}
 use Rattle.heap_blocks.specs.declared.RowScan.the-variants.{Hit}
 use Rattle.heap_blocks.specs.Blocks.{holdsOffset, rowScan}
 use Rattle.heap_blocks.proofs.Scanning.{not-yet, row-hit, row-next}

@@ -8,8 +8,8 @@ use mathlib.Core.List.{List, [], _∷_, _++_}
 use native.Mathlib.Omega.{arith}
 use native.Mathlib.Decide.{decLt}
 use lib.ListN.{length, drop, length-append}
-use Rattle.fields.specs.LittleEndian.{le}
-use Rattle.fields.specs.Fields.{legal}
+use Rattle.little_endian.specs.LittleEndian.{le}
+use Rattle.little_endian.specs.Widths.{legal}
 use Rattle.table.specs.Table.{Table, rowBits, rowOffset}
 use Rattle.table.specs.Sizes.{offsetBytes}
 use Rattle.table.specs.Slots.{slotAt}

@@ -6,8 +6,8 @@ use native.Mathlib.Omega.{arith}
 use native.Mathlib.Nat.{mod-eq-of-lt}
 use lib.ListN.{length, take, drop, length-append, length-drop, length-take}
 use lib.Seq.{take-take, take-add, take-length, drop-drop, drop-at, take-append-seam, drop-append-seam, length-take-le}
-use Rattle.fields.specs.LittleEndian.{le, value, leAt}
-use Rattle.fields.proofs.LittleEndian.{length-le, value-le}
+use Rattle.little_endian.specs.LittleEndian.{le, value, leAt}
+use Rattle.little_endian.proofs.LittleEndian.{length-le, value-le}
 
 -- from p on the file F has the bytes l
 pub record Has (F : List ℕ) (p : ℕ) (l : List ℕ) : Type 0 where

@@ -8,7 +8,7 @@ use mathlib.Core.List.{List, [], _∷_}
 use native.Mathlib.Omega.{arith}
 use native.Mathlib.Decide.{decLe, decLt}
 use lib.ListN.{length, drop}
-use Rattle.fields.specs.Fields.{legal}
+use Rattle.little_endian.specs.Widths.{legal}
 use Rattle.table.specs.Table.{Table, rowBits, rowOffset}
 use Rattle.table.specs.Sizes.{offsetBytes}
 use Rattle.table.specs.Slots.{slotAt}

@@ -8,8 +8,8 @@ use mathlib.Core.List.{List, _++_}
 use native.Mathlib.Omega.{arith}
 use native.Mathlib.Numerals.{add-one}
 use lib.ListN.{length, replicate}
-use Rattle.fields.specs.LittleEndian.{le}
-use Rattle.fields.specs.Fields.{legal}
+use Rattle.little_endian.specs.LittleEndian.{le}
+use Rattle.little_endian.specs.Widths.{legal}
 use Rattle.table.specs.Table.{Table, rowBits, rowOffset}
 use Rattle.table.proofs.Rows.{row}
 use Rattle.region_walk.specs.Walk.{Walked, slotRows, slot, slots, smaller, allSlots, block}

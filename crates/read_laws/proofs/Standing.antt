@@ -6,9 +6,10 @@ use native.Mathlib.Omega.{arith}
 use native.Mathlib.Nat.{add-zero}
 use lib.ListN.{length, drop, length-append}
 use borrow.Author.Tests.{le-leb, eq-eqb}
-use Rattle.fields.specs.LittleEndian.{le, leAt}
-use Rattle.fields.specs.Fields.{saturated, lenChecked}
-use Rattle.fields.proofs.LittleEndian.{length-le}
+use Rattle.little_endian.specs.LittleEndian.{le, leAt}
+use Rattle.numbers.specs.Numbers.{saturated}
+use Rattle.fields.specs.Fields.{lenChecked}
+use Rattle.little_endian.proofs.LittleEndian.{length-le}
 use Rattle.refusals.specs.declared.FormatError.the-variants.{UnexpectedEof}
 use Rattle.checksum.specs.Lookup3.{hashlittle}
 use Rattle.table.specs.Table.{Table}

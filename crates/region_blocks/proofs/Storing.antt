@@ -6,8 +6,8 @@ use native.Mathlib.Omega.{arith}
 use native.Mathlib.Nat.{add-zero, add-suc, suc-add}
 use lib.ListN.{length, take, drop, set}
 use lib.Seq.{length-sets, sets-eq, set-comm, set-set, drop-at, take-at, length-take-le}
-use Rattle.fields.specs.LittleEndian.{put}
-use Rattle.fields.proofs.LittleEndian.{put-sets}
+use Rattle.little_endian.specs.LittleEndian.{put}
+use Rattle.little_endian.proofs.LittleEndian.{put-sets}
 use Rattle.region_blocks.specs.Storing.{stored}
 
 pub length-stored : (l : List ℕ) (i : ℕ) (vs : List ℕ) → length (stored l i vs) ≡ length l

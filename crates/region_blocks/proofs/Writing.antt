@@ -7,8 +7,8 @@ use native.Mathlib.Omega.{arith}
 use native.Mathlib.Numerals.{add-one}
 use lib.ListN.{length, take, drop, set, getD, length-append, length-drop, replicate}
 use lib.Seq.{drop-at, length-take-le, drop-cons, set-getD}
-use Rattle.fields.specs.LittleEndian.{le}
-use Rattle.fields.proofs.LittleEndian.{length-le}
+use Rattle.little_endian.specs.LittleEndian.{le}
+use Rattle.little_endian.proofs.LittleEndian.{length-le}
 use Rattle.checksum.specs.Lookup3.{hashlittle}
 use Rattle.table.specs.Table.{fixed}
 use Rattle.table.specs.Sizes.{offsetBytes, directHeader}

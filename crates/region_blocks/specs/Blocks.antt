@@ -3,7 +3,7 @@
 use Prim.Native.Nat.{ℕ, _+_, _-_}
 use mathlib.Core.List.{List, [], _∷_, _++_}
 use lib.ListN.{length, replicate}
-use Rattle.fields.specs.LittleEndian.{le}
+use Rattle.little_endian.specs.LittleEndian.{le}
 use Rattle.checksum.specs.Lookup3.{hashlittle}
 use Rattle.table.specs.Table.{Table}
 use Rattle.table.specs.Sizes.{offsetBytes, directHeader}

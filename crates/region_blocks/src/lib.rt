@@ -4,7 +4,7 @@ ghost use mathlib.Core.Path.{_≡_};
 ghost use mathlib.Core.List.{_++_};
 ghost use Prim.Native.Nat.{_+_, _-_, _≤_};
 ghost use lib.ListN.{length, take, drop, replicate};
-ghost use Rattle.fields.specs.LittleEndian.{le};
+ghost use Rattle.little_endian.specs.LittleEndian.{le};
 ghost use Rattle.table.specs.Table.{fixed};
 ghost use Rattle.table.specs.Sizes.{directHeader};
 ghost use Rattle.region_blocks.specs.Blocks.{indirectBlock, directBlock};

@@ -3,8 +3,8 @@ use Prim.Native.Nat.{ℕ, _+_, _-_, _*_, _^_}
 use mathlib.Core.Bool.{cond}
 use lib.Dec.{leb, ltb, eqb}
 use Rattle.refusals.specs.declared.FormatError.the-variants.{ObjectBytesMismatch, HeaderAddressTooLarge, RegionAddressTooLarge}
-use Rattle.fields.specs.declared.bytes.Checked.{Checked}
-use Rattle.fields.specs.declared.bytes.Checked.the-variants.{Passed, Refused as NotPassed}
+use Rattle.fields.specs.declared.Checked.{Checked}
+use Rattle.fields.specs.declared.Checked.the-variants.{Passed, Refused as NotPassed}
 use Rattle.plan_checks.specs.Checks.{placesChecked, thenChecked}
 
 -- m bytes of objects whose sizes have the sum n: 14

@@ -3,11 +3,11 @@
 ghost use mathlib.Core.Path.{_≡_};
 ghost use mathlib.Core.Bool.{true};
 ghost use Prim.Native.Nat.{_^_, _<_};
-ghost use Rattle.fields.specs.Fields.{legal};
+ghost use Rattle.little_endian.specs.Widths.{legal};
 ghost use Rattle.table.specs.Capacity.{sum};
 ghost use Rattle.region_checks.specs.Checks.{bytesChecked, undefinedAddress, headerAddressChecked, regionAddressChecked, outputChecked};
-use fields::bytes::Checked;
-use fields::bytes::has_room;
+use fields::Checked;
+use fields::has_room;
 use plan_checks::check_places;
 use refusals::FormatError;
 

@@ -8,8 +8,8 @@ use native.Mathlib.Nat.{lt-of-not-le, lt-of-le-of-lt}
 use lib.ListN.{length, length-append, length-replicate, take, drop, replicate}
 use lib.Seq.{drop-drop}
 use lib.Dec.{leb, eqb}
-use Rattle.fields.specs.LittleEndian.{le}
-use Rattle.fields.proofs.LittleEndian.{length-le, le-undefined}
+use Rattle.little_endian.specs.LittleEndian.{le}
+use Rattle.little_endian.proofs.LittleEndian.{length-le, le-undefined}
 use Rattle.table.specs.Table.{fixed, rowBits}
 use Rattle.region_blocks.specs.Storing.{stored}
 use Rattle.checksum.specs.Lookup3.{hashlittle}

@@ -13,7 +13,7 @@ use lib.Seq.{drop-cons}
 use lib.Dec.{leb, ltb, eqb}
 use lib.Pow.{pow-mono}
 use borrow.Author.Tests.{leb-false, ltb-false, eqb-true, eqb-false, ne-eqb, lt-ltb, le-ltb}
-use Rattle.fields.proofs.LittleEndian.{length-le}
+use Rattle.little_endian.proofs.LittleEndian.{length-le}
 use Rattle.table.specs.Table.{Table, fixed, rowBits}
 use Rattle.table.specs.Sizes.{offsetBytes}
 use Rattle.region_blocks.specs.Blocks.{indirectSignature, blockHead, indirectBlock}

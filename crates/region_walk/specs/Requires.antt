@@ -5,7 +5,7 @@ use mathlib.Core.Bool.{cond}
 use mathlib.Core.List.{List, [], _++_}
 use lib.ListN.{length, drop, replicate}
 use lib.Dec.{ltb}
-use Rattle.fields.specs.LittleEndian.{le}
+use Rattle.little_endian.specs.LittleEndian.{le}
 use Rattle.table.specs.Table.{fixed}
 use Rattle.region_blocks.specs.Storing.{stored}
 use Rattle.region_blocks.specs.declared.Site.{Site}

@@ -6,7 +6,7 @@ use mathlib.Core.Bool.{Bool, true, false}
 use mathlib.Core.List.{List, [], _∷_, _++_}
 use lib.ListN.{length, drop, replicate}
 use lib.Dec.{leb, ltb, eqb}
-use Rattle.fields.specs.LittleEndian.{le}
+use Rattle.little_endian.specs.LittleEndian.{le}
 use Rattle.table.specs.Table.{Table, rowBits}
 use Rattle.region_blocks.specs.Blocks.{indirectBlock}
 

@@ -4,9 +4,9 @@
 // and of the file; and for each empty object what reading answers. The file stdout beside src/ holds what the
 // original answers.
 use checksum::jenkins_lookup3;
-use fields::bytes::saturating_add;
 use fractal_heap::header::FractalHeapHeader;
 use managed_ids::write_managed_id;
+use numbers::saturating_add;
 use plan::ManagedPlan;
 use plan::Planned;
 use refusals::Answer;

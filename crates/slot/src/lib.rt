@@ -1,6 +1,6 @@
 // How an answer is handed to C: the number is returned, the two values go into a lent slot.
 ghost use mathlib.Core.Path.{_≡_};
-ghost use Rattle.fields.specs.Answers.{slotNumber, slotBytes};
+ghost use Rattle.slot.specs.Slot.{slotNumber, slotBytes};
 use refusals::Answer;
 use stores::store_le;
 

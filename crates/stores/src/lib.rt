@@ -2,12 +2,12 @@
 ghost use mathlib.Core.Path.{_≡_};
 ghost use Prim.Native.Nat.{_+_, _≤_};
 ghost use lib.ListN.{length};
-ghost use Rattle.fields.specs.LittleEndian.{le, put};
-ghost use Rattle.fields.specs.Fields.{storeChecked, offsetStored, undefStored};
-use fields::bytes::Checked;
-use fields::bytes::has_room;
-use fields::bytes::is_width;
-use fields::bytes::saturating_add;
+ghost use Rattle.little_endian.specs.LittleEndian.{le, put};
+ghost use Rattle.stores.specs.Stores.{storeChecked, offsetStored, undefStored};
+use fields::Checked;
+use fields::has_room;
+use fields::is_width;
+use numbers::saturating_add;
 use refusals::FormatError;
 
 // Stores the `width` low bytes of `value` at `pos`. Public for the crates above alone: the caller

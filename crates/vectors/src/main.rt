@@ -4,9 +4,9 @@
 ghost use mathlib.Core.Path.{_≡_};
 ghost use lib.ListN.{length};
 use checksum::jenkins_lookup3;
-use fields::bytes::read_length;
-use fields::bytes::read_offset;
-use fields::convert::is_undefined_addr;
+use convert::is_undefined_addr;
+use fields::read_length;
+use fields::read_offset;
 use libc::STDOUT_FILENO;
 use refusals::Answer;
 use report::dump;

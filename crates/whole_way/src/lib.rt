@@ -3,8 +3,8 @@
 ghost use mathlib.Core.Path.{_≡_};
 ghost use Prim.Native.Nat.{_+_, min};
 ghost use Rattle.whole_way.specs.Back.{fixedHeader, objectAt, sameBytes, holdsAt, comesBack, backOne, backs};
-use fields::bytes::Checked;
-use fields::bytes::has_room;
+use fields::Checked;
+use fields::has_room;
 use fractal_heap::header::FractalHeapHeader;
 use heap_blocks::Found;
 use managed_ids::write_managed_id;

@@ -4,7 +4,8 @@ use mathlib.Core.Path.{_≡_, refl}
 use mathlib.Core.List.{List}
 use lib.ListN.{length}
 use native.Mathlib.Omega.{arith}
-use Rattle.fields.specs.Fields.{legal, saturated}
+use Rattle.little_endian.specs.Widths.{legal}
+use Rattle.numbers.specs.Numbers.{saturated, log2}
 use Rattle.table.specs.Table.{rowBits, rowOffset, rowIn, rowOf, maxRows, coveringIn, covering}
 use Rattle.table.specs.Slots.{slotStart, slotIn, slotBits, slotAt, enteredIn, entered}
 use Rattle.table.specs.Sizes.{offsetBytes, directHeader, maxManaged, indirectSize}
@@ -14,9 +15,9 @@ use Rattle.plan.specs.declared.ManagedPlan.{ManagedPlan}
 use Rattle.plan.specs.declared.Planned.the-variants.{Accepted}
 use Rattle.plan.specs.Answer.{closed, rootRows, totals, answer}
 use Rattle.plan_checks.specs.Checks.{sizesChecked, placesChecked, widthChecked, inputChecked}
-use Rattle.fields.specs.LittleEndian.{le, value, leAt}
+use Rattle.little_endian.specs.LittleEndian.{le, value, leAt}
 use lib.Count.{leadingZeros}
-use Rattle.heap_rows.specs.Rows.{log2, blockSize, directRows, sizeToRows, heapSize, slotSize}
+use Rattle.heap_rows.specs.Rows.{blockSize, directRows, sizeToRows, heapSize, slotSize}
 use Rattle.heap_ids.specs.Id.{typeOf, splitId, decodedId, tinyIn, tinyAt}
 use Rattle.managed_ids.specs.Ids.{managedId, idLength, idChecked}
 use Rattle.fractal_heap_write.proofs.Planned.{region-length, root-place}

@@ -6,7 +6,7 @@ use mathlib.Core.List.{List, [], _∷_}
 use lib.ListN.{length, take, drop}
 use Rattle.refusals.specs.declared.FormatError.{FormatError}
 use Rattle.refusals.specs.declared.FormatError.the-variants.{UnexpectedEof, ObjectTooLarge}
-use Rattle.fields.specs.declared.bytes.Checked.the-variants.{Passed}
+use Rattle.fields.specs.declared.Checked.the-variants.{Passed}
 use Rattle.table.specs.Table.{fixed, rowBits, rowOffset}
 use Rattle.plan.specs.declared.ManagedPlan.{ManagedPlan}
 use Rattle.plan.specs.declared.Planned.the-variants.{Accepted, Refused}

@@ -3,7 +3,7 @@ use native.Mathlib.Omega.{arith}
 use borrow.Author.Needs.{needs}
 use mathlib.Core.Path.{_∙_}
 use Rattle.checksum.proofs.Switch.{tail-group}
-use Rattle.checksum.specs.Words.{add32}
+use Rattle.lookup3_mix.specs.Words.{add32}
 use Rattle.checksum.specs.Lookup3.{grouped}
 use Rattle.checksum.proofs.Tails.{short-group}
 use Rattle.checksum.proofs.add_tail.Statement.{statement}

@@ -2,7 +2,7 @@
 use borrow.Author.Needs.{needs}
 use mathlib.Core.Path.{_≡_, sym, _∙_}
 use mathlib.Core.Bool.{true, false}
-use Rattle.fields.specs.Fields.{legal}
+use Rattle.little_endian.specs.Widths.{legal}
 use Rattle.header_layout.specs.Layout.{layoutChecked}
 use Rattle.header_layout.proofs.check_layout.Statement.{statement}
 use Rattle.header_layout.proofs.check_layout.Tie as tie

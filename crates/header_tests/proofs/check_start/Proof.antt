@@ -4,7 +4,7 @@ use mathlib.Core.Path.{_≡_, sym, _∙_}
 use mathlib.Core.Bool.{true}
 use native.Mathlib.Omega.{arith}
 use lib.Dec.{eqb}
-use Rattle.fields.specs.LittleEndian.{leAt}
+use Rattle.little_endian.specs.LittleEndian.{leAt}
 use borrow.Author.Tests.{eq-eqb, ne-eqb}
 use Rattle.fields.proofs.Fields.{len-within}
 use Rattle.header_tests.specs.Tests.{startChecked}

@@ -5,7 +5,7 @@ use Rattle.heap_tools_c.proofs.put_fields.Tie as tie
 use mathlib.Core.Path.{sym}
 use native.Mathlib.Omega.{arith}
 use lib.ListN.{length-set}
-use Rattle.fields.proofs.LittleEndian.{put-sets}
+use Rattle.little_endian.proofs.LittleEndian.{put-sets}
 use Rattle.heap_tools_c.specs.HeapTools.{fieldNumbers}
 
 cast-fields : tie.Need-cast-fields

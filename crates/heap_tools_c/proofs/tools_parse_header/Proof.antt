@@ -7,7 +7,7 @@ use native.Mathlib.Omega.{arith}
 use lib.ListN.{length}
 use borrow.Author.Tests.{lt-ltb, le-ltb}
 use Rattle.refusals.specs.declared.Answer.{Answer}
-use Rattle.fields.specs.LittleEndian.{put}
+use Rattle.little_endian.specs.LittleEndian.{put}
 use Rattle.heap_tools_c.specs.HeapTools.{pairOf, fieldsNumber, fieldsList}
 
 returns : tie.Need-returns

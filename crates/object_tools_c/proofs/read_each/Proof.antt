@@ -8,7 +8,7 @@ use lib.ListN.{length, length-set}
 use mathlib.Core.Path.{_≡_, refl, sym, ap, _∙_}
 use Rattle.heap_blocks.specs.Blocks.{foundAnswer}
 use Rattle.object_tools_c.specs.ObjectTools.{answersFrom}
-use Rattle.fields.specs.LittleEndian.{put}
+use Rattle.little_endian.specs.LittleEndian.{put}
 use Rattle.object_tools_c.proofs.Stores.{rest, rest-start, rest-more, rest-done}
 
 abbrev Inv-loop : tie.InvT-loop

@@ -3,7 +3,7 @@ use borrow.Author.Needs.{needs}
 use Rattle.object_tools_c.proofs.tools_read_managed_object.Statement.{statement}
 use Rattle.object_tools_c.proofs.tools_read_managed_object.Tie as tie
 use mathlib.Core.Path.{ap, _∙_}
-use Rattle.fields.specs.Answers.{slotNumber, slotBytes}
+use Rattle.slot.specs.Slot.{slotNumber, slotBytes}
 use Prim.Native.Nat.{ℕ}
 use Rattle.fractal_heap.specs.declared.header.Parsed.{Parsed}
 use Rattle.fractal_heap.specs.Header.{headerAt}

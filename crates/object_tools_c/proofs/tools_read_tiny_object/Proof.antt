@@ -3,7 +3,7 @@ use borrow.Author.Needs.{needs}
 use Rattle.object_tools_c.proofs.tools_read_tiny_object.Statement.{statement}
 use Rattle.object_tools_c.proofs.tools_read_tiny_object.Tie as tie
 use mathlib.Core.Path.{ap, _∙_}
-use Rattle.fields.specs.Answers.{slotNumber, slotBytes}
+use Rattle.slot.specs.Slot.{slotNumber, slotBytes}
 use Rattle.heap_blocks.specs.Blocks.{foundAnswer}
 
 read-tiny-object-requires : tie.Need-read-tiny-object-requires

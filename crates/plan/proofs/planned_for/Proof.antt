@@ -3,7 +3,7 @@ use borrow.Author.Needs.{needs}
 use Prim.Native.Nat.{_≤_}
 use mathlib.Core.Path.{_≡_, sym, ap, _∙_, subst}
 use native.Mathlib.Omega.{arith}
-use Rattle.fields.specs.declared.bytes.Checked.the-variants.{Passed}
+use Rattle.fields.specs.declared.Checked.the-variants.{Passed}
 use Rattle.table.specs.Table.{fixed}
 use Rattle.plan_checks.specs.Checks.{inputChecked}
 use Rattle.plan_checks.proofs.Checking.{all-small, passing}

@@ -1,8 +1,8 @@
 -- `put_number` meets its contract. Assumes nothing.
 use mathlib.Core.Path.{_∙_}
 use native.Mathlib.Omega.{arith}
-use Rattle.fields.specs.LittleEndian.{le}
-use Rattle.fields.proofs.LittleEndian.{length-le}
+use Rattle.little_endian.specs.LittleEndian.{le}
+use Rattle.little_endian.proofs.LittleEndian.{length-le}
 use Rattle.region_blocks.proofs.Storing.{stored-put}
 use borrow.Author.Needs.{needs}
 use Rattle.region_blocks.proofs.put_number.Statement.{statement}

@@ -1,7 +1,7 @@
 -- `undefined_address` meets its contract. Assumes nothing.
 use mathlib.Core.Path.{ap, sym}
 use Prim.Native.Nat.{ℕ, _-_, _*_, _^_}
-use Rattle.fields.proofs.Fields.{legal-eight}
+use Rattle.little_endian.proofs.Widths.{legal-eight}
 use Rattle.region_checks.proofs.undefined_address.Statement.{statement}
 use Rattle.region_checks.proofs.undefined_address.Tie as tie
 

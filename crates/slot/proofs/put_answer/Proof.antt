@@ -2,8 +2,8 @@
 use borrow.Author.Tests.{lt-ltb, le-ltb}
 use mathlib.Core.Path.{refl, ap, _∙_}
 use borrow.Author.Needs.{needs}
-use Rattle.fields.specs.LittleEndian.{le, put}
-use Rattle.fields.specs.Answers.{slotNumber, slotBytes}
+use Rattle.little_endian.specs.LittleEndian.{le, put}
+use Rattle.slot.specs.Slot.{slotNumber, slotBytes}
 use Rattle.slot.proofs.put_answer.Statement.{statement}
 use Rattle.slot.proofs.put_answer.Tie as tie
 

@@ -1,7 +1,7 @@
 -- `check_store` meets its contract: each way rewrites with the tests that led there. Assumes nothing.
 use borrow.Author.Needs.{needs}
 use mathlib.Core.Path.{sym, _∙_}
-use Rattle.fields.specs.Fields.{storeChecked}
+use Rattle.stores.specs.Stores.{storeChecked}
 use Rattle.stores.proofs.check_store.Statement.{statement}
 use Rattle.stores.proofs.check_store.Tie as tie
 

@@ -4,8 +4,9 @@ use mathlib.Core.Path.{_≡_, refl, sym, _∙_}
 use Prim.Native.Nat.{_+_, _-_, _≤_}
 use lib.ListN.{length, length-set}
 use lib.Seq.{sets}
-use Rattle.fields.specs.LittleEndian.{le}
-use Rattle.fields.proofs.LittleEndian.{put-sets, length-le, sets-start, sets-more, sets-done}
+use Rattle.little_endian.specs.LittleEndian.{le}
+use Rattle.little_endian.proofs.LittleEndian.{put-sets, length-le}
+use Rattle.stores.proofs.Stores.{sets-start, sets-more, sets-done}
 use Rattle.stores.proofs.store_le.Statement.{statement}
 use Rattle.stores.proofs.store_le.Tie as tie
 

@@ -1,8 +1,8 @@
 -- `write_offset` meets its contract: the test decides both the answer and the bytes. Assumes nothing.
 use borrow.Author.Needs.{needs}
 use mathlib.Core.Path.{sym, _∙_}
-use Rattle.fields.specs.Fields.{offsetStored}
-use Rattle.fields.proofs.Fields.{store-within}
+use Rattle.stores.specs.Stores.{offsetStored}
+use Rattle.stores.proofs.Stores.{store-within}
 use Rattle.stores.proofs.write_offset.Statement.{statement}
 use Rattle.stores.proofs.write_offset.Tie as tie
 

@@ -1,7 +1,7 @@
 -- `write_undef_offset` meets its contract: the bytes of 2^64 - 1 are all ones. Assumes nothing.
 use borrow.Author.Needs.{needs}
 use mathlib.Core.Path.{_∙_}
-use Rattle.fields.proofs.Fields.{undef-stored}
+use Rattle.stores.proofs.Stores.{undef-stored}
 use Rattle.stores.proofs.write_undef_offset.Statement.{statement}
 use Rattle.stores.proofs.write_undef_offset.Tie as tie
 

@@ -2,7 +2,8 @@
 use borrow.Author.Needs.{needs}
 use mathlib.Core.Path.{ap, ap₂, _∙_}
 use Rattle.fields.specs.Fields.{lenChecked}
-use Rattle.fields.specs.Answers.{checkedAnswer, slotNumber, slotBytes}
+use Rattle.fields.specs.Answers.{checkedAnswer}
+use Rattle.slot.specs.Slot.{slotNumber, slotBytes}
 use Rattle.tools_c.proofs.tools_ensure_len.Statement.{statement}
 use Rattle.tools_c.proofs.tools_ensure_len.Tie as tie
 
@@ -26,9 +27,11 @@ same-length c = search needs
 
 returns : tie.Need-returns
 returns c =
-    let e = c .before .before .before .answer .ensures ∙ ap checkedAnswer (c .before .before .before .before .ensure-len .ensures ∙ ap₂ (lenChecked (c .before .before .before .before .before .before .before .before .before .before .args .bytes .now)) (c .before .before .before .before .before .before .to-usize .ensures) (c .before .before .before .before .before .to-usize2 .ensures)) in
-    let s = c .before .before .before .before .before .before .before .before .before .before .args .slot .now in
-    (c .before .before .put-answer .ensures .0 ∙ ap (slotNumber s) e, c .before .before .put-answer .ensures .1 ∙ ap (slotBytes s) e)
+    let test = c .before .before .before .before in
+    let a = test .before .before .before .before .before .before .args in
+    let e = c .before .before .before .answer .ensures ∙ ap checkedAnswer (test .ensure-len .ensures ∙ ap₂ (lenChecked (a .bytes .now)) (test .before .before .to-usize .ensures) (test .before .to-usize2 .ensures)) in
+    let put = c .before .before .put-answer .ensures in
+    (put .0 ∙ ap (slotNumber (a .slot .now)) e, put .1 ∙ ap (slotBytes (a .slot .now)) e)
 
 pub tools-ensure-len-spec : {M : Type 1} → statement M
 tools-ensure-len-spec =

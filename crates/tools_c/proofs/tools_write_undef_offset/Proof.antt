@@ -4,8 +4,9 @@ use borrow.Author.Needs.{needs}
 use mathlib.Core.Path.{refl, ap, _∙_}
 use Prim.Native.Nat.{ℕ}
 use lib.ListN.{length}
-use Rattle.fields.specs.Fields.{storeChecked, undefStored}
-use Rattle.fields.specs.Answers.{checkedAnswer, slotNumber, slotBytes}
+use Rattle.stores.specs.Stores.{storeChecked, undefStored}
+use Rattle.fields.specs.Answers.{checkedAnswer}
+use Rattle.slot.specs.Slot.{slotNumber, slotBytes}
 use Rattle.tools_c.specs.Tools.{afterSlot}
 use Rattle.tools_c.proofs.tools_write_undef_offset.Statement.{statement}
 use Rattle.tools_c.proofs.tools_write_undef_offset.Tie as tie
@@ -35,9 +36,13 @@ same-length-2 c = search needs
 returns-2 : tie.Need-returns-2
 unfolding afterSlot
 returns-2 c =
-    let e = c .before .before .before .answer .ensures ∙ ap checkedAnswer (c .before .before .before .before .before .before .before .write-undef-offset .ensures .0 ∙ ap (λ (p : ℕ). storeChecked (length (c .before .before .before .before .before .before .before .before .before .before .before .before .before .args .bytes .now)) p (c .before .before .before .before .before .before .before .before .before .before .before .before .before .args .offset-size)) (c .before .before .before .before .before .before .before .before .to-usize .ensures)) in
-    let s = c .before .before .before .before .before .before .before .before .before .before .before .before .before .args .slot .now in
-    (c .before .before .put-answer .ensures .0 ∙ ap (slotNumber s) e, (c .before .before .put-answer .ensures .1 ∙ ap (slotBytes s) e, rw (le-ltb _ _ (c .before .before .before .before .before .before .before .before .before .before .if1 .left)) (c .before .before .before .before .before .before .before .write-undef-offset .ensures .1 ∙ ap (λ (p : ℕ). undefStored (c .before .before .before .before .before .before .before .before .before .before .before .before .before .args .bytes .now) p (c .before .before .before .before .before .before .before .before .before .before .before .before .before .args .offset-size)) (c .before .before .before .before .before .before .before .before .to-usize .ensures))))
+    let written = c .before .before .before .before .before .before .before in
+    let place = written .before .to-usize .ensures in
+    let test = written .before .before .before in
+    let a = test .before .before .before .args in
+    let e = c .before .before .before .answer .ensures ∙ ap checkedAnswer (written .write-undef-offset .ensures .0 ∙ ap (λ (p : ℕ). storeChecked (length (a .bytes .now)) p (a .offset-size)) place) in
+    let put = c .before .before .put-answer .ensures in
+    (put .0 ∙ ap (slotNumber (a .slot .now)) e, (put .1 ∙ ap (slotBytes (a .slot .now)) e, rw (le-ltb _ _ (test .if1 .left)) (written .write-undef-offset .ensures .1 ∙ ap (λ (p : ℕ). undefStored (a .bytes .now) p (a .offset-size)) place)))
 
 pub tools-write-undef-offset-spec : {M : Type 1} → statement M
 tools-write-undef-offset-spec =

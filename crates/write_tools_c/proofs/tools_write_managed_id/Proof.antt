@@ -2,7 +2,8 @@
 use mathlib.Core.Path.{refl, ap, _∙_}
 use borrow.Author.Tests.{lt-ltb, le-ltb}
 use borrow.Author.Needs.{needs}
-use Rattle.fields.specs.Answers.{checkedAnswer, slotNumber, slotBytes}
+use Rattle.fields.specs.Answers.{checkedAnswer}
+use Rattle.slot.specs.Slot.{slotNumber, slotBytes}
 use Rattle.write_tools_c.proofs.tools_write_managed_id.Statement.{statement}
 use Rattle.write_tools_c.proofs.tools_write_managed_id.Tie as tie
 

@@ -4,7 +4,7 @@ use Rattle.heap_rows.proofs.DoublingTable.max_direct_rows.Statement.{st
 use Rattle.heap_rows.proofs.DoublingTable.max_direct_rows.Tie as tie
 use native.Mathlib.Omega.{arith}
 use Rattle.heap_rows.specs.Rows.{directRows}
-use Rattle.heap_rows.proofs.Rows.{log2-le}
+use Rattle.numbers.proofs.Log2.{log2-le}
 
 log2-floor-requires : tie.Need-log2-floor-requires
 log2-floor-requires c κs = search needs

@@ -1,0 +1,9 @@
+-- The undefined address.
+use Prim.Native.Nat.{ℕ, _-_, _*_, _^_}
+use mathlib.Core.Bool.{Bool, _&&_}
+use lib.Dec.{eqb}
+use Rattle.little_endian.specs.Widths.{legal}
+
+-- the undefined address: all bits of its width are one
+unfoldable pub undefinedAddr : ℕ → ℕ → Bool
+undefinedAddr a w = legal w && eqb a (2 ^ (8 * w) - 1)

@@ -1,0 +1,22 @@
+-- `Checked::answer` meets its contract, case by case. Assumes nothing.
+use borrow.Author.Needs.{needs}
+use Rattle.fields.proofs.Checked.answer.Statement.{statement}
+use Rattle.fields.proofs.Checked.answer.Tie as tie
+
+enum-told : tie.Need-enum-told
+enum-told c = search needs
+
+enum-known-self : tie.Need-enum-known-self
+enum-known-self c = search needs
+
+refused-requires : tie.Need-refused-requires
+refused-requires c κs = tt
+
+returns : tie.Need-returns
+returns c = rw (c .enum-told .given .1)
+
+returns-2 : tie.Need-returns-2
+returns-2 c = search needs
+
+pub answer-spec : {M : Type 1} → statement M
+answer-spec = tie.close (tie.spec enum-told enum-known-self refused-requires returns returns-2)

@@ -1,0 +1,3 @@
+pub mod Words
+pub mod Mix
+pub mod Requires

@@ -1,0 +1,2 @@
+pub mod Saturating
+pub mod Log2
