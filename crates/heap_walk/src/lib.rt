@@ -2,9 +2,11 @@
 // and the place in a direct block. Block checksums are not tested.
 ghost use mathlib.Core.Path.{_≡_};
 ghost use Rattle.heap_blocks.specs.Blocks.{childAt, directAt, walkFrom};
+ghost use Rattle.heap_walk.specs.Root.{fromRoot};
 use fields::bytes::Checked;
 use fields::bytes::ensure_len;
 use fields::bytes::saturating_add;
+use fields::convert::is_undefined_addr;
 use fields::convert::to_usize;
 use heap_blocks::Found;
 use heap_blocks::HeapChild;
@@ -88,4 +90,27 @@ pub fn read_from_indirect_block(
         }
     }
     Found::Refused(FormatError::DepthExceeded)
+}
+
+// The same from the root block at `root` on. A direct root, which has no rows, is read without a look at the
+// offset size.
+pub fn read_from_root(
+    table: DoublingTable,
+    file: &[u8],
+    root: u64,
+    nrows: u16,
+    target: u64,
+    length: u64,
+    offset_size: u8,
+) -> Found
+    ensures { λ r. ⌜ r ≡ fromRoot table (now (file .entry)) root nrows target length «offset_size» ⌝ }
+{
+    if is_undefined_addr(root, offset_size) {
+        return Found::Refused(FormatError::UnexpectedEof(1, 0));
+    }
+    if nrows == 0 {
+        read_from_direct_block(file, root, 0, target, length)
+    } else {
+        read_from_indirect_block(table, file, root, nrows as u64, target, length, offset_size)
+    }
 }
