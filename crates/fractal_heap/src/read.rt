@@ -1,11 +1,12 @@
 // IDs and objects by a header: where the bytes of a managed object are in the file.
 ghost use mathlib.Core.Path.{_≡_};
-ghost use Rattle.heap_ids.specs.Id.{idTypeOf, decodedId};
+ghost use Rattle.heap_id_types.specs.IdTypes.{idTypeOf};
+ghost use Rattle.heap_ids.specs.Id.{decodedId};
 ghost use Rattle.fractal_heap.specs.Read.{managedAt, idBy, objectBy};
 use crate::header::FractalHeapHeader;
 use crate::header::Parsed;
 use heap_blocks::Found;
-use heap_ids::IdType;
+use heap_id_types::IdType;
 use heap_ids::ManagedId;
 use heap_walk::read_from_root;
 use refusals::FormatError;
@@ -15,7 +16,7 @@ impl FractalHeapHeader {
     pub fn heap_id_type(id: &[u8]) -> IdType
         ensures { λ r. ⌜ r ≡ idTypeOf (now (id .entry)) ⌝ }
     {
-        heap_ids::heap_id_type(id)
+        heap_id_types::heap_id_type(id)
     }
 
     // The heap offset and the length in a managed ID.

@@ -15,7 +15,8 @@ use Rattle.fractal_heap.specs.declared.header.FractalHeapHeader.{FractalHeapHea
 use Rattle.heap_ids.specs.declared.ManagedId.{ManagedId}
 use Rattle.heap_ids.specs.declared.ManagedId.the-variants.{Decoded, Refused as NoId}
 use Rattle.fractal_heap.specs.Header.{tableOf}
-use Rattle.heap_ids.specs.Id.{decodedId, tinyIn, tinyAt}
+use Rattle.heap_ids.specs.Id.{decodedId}
+use Rattle.tiny_objects.specs.Tiny.{tinyIn, tinyAt}
 use Rattle.fractal_heap.specs.Read.{rootAt, afterId, managedAt}
 
 -- what holds of both ways of a test holds of the test

@@ -8,14 +8,15 @@ ghost use Rattle.fields.specs.Answers.{slotNumber, slotBytes};
 ghost use Rattle.heap_blocks.specs.Blocks.{foundAnswer};
 ghost use Rattle.fractal_heap.specs.Header.{headerAt};
 ghost use Rattle.fractal_heap.specs.Read.{objectBy};
-ghost use Rattle.heap_ids.specs.Id.{idTypeOf, idTypeAnswer, tinyAt};
+ghost use Rattle.heap_id_types.specs.IdTypes.{idTypeOf, idTypeAnswer};
+ghost use Rattle.tiny_objects.specs.Tiny.{tinyAt};
 ghost use Rattle.object_tools_c.specs.ObjectTools.{answersFrom, eachNumber, eachList};
 use fields::convert::to_usize;
 use fractal_heap::header::FractalHeapHeader;
 use fractal_heap::header::Parsed;
-use heap_ids::read_tiny_object;
 use refusals::refused;
 use slot::put_answer;
+use tiny_objects::read_tiny_object;
 
 // Reading with an offset size of its own, which may be any byte.
 #[no_mangle]

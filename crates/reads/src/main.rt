@@ -16,11 +16,11 @@ use fields::bytes::read_u64_le;
 use fields::convert::to_usize;
 use fractal_heap::header::FractalHeapHeader;
 use fractal_heap::header::Parsed;
-use heap_ids::read_tiny_object;
 use libc::STDIN_FILENO;
 use libc::STDOUT_FILENO;
 use refusals::Answer;
 use refusals::refused;
+use tiny_objects::read_tiny_object;
 
 // A case in the list: where its file and its ID begin, and where the next case does.
 enum Case {

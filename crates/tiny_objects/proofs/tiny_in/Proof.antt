@@ -1,14 +1,9 @@
 -- `tiny_in` meets its contract. Assumes nothing.
 use borrow.Author.Needs.{needs}
-use Rattle.heap_ids.proofs.tiny_in.Statement.{statement}
-use Rattle.heap_ids.proofs.tiny_in.Tie as tie
+use Rattle.tiny_objects.proofs.tiny_in.Statement.{statement}
+use Rattle.tiny_objects.proofs.tiny_in.Tie as tie
 use borrow.Author.Tests.{le-leb, lt-leb}
-use Rattle.heap_ids.specs.Id.{tinyIn}
-use borrow.Author.Tests.{le-leb, lt-leb}
-use borrow.Author.Tests.{le-leb, lt-leb}
-use borrow.Author.Tests.{le-leb, lt-leb}
-use borrow.Author.Tests.{le-leb, lt-leb}
-use borrow.Author.Tests.{le-leb, lt-leb}
+use Rattle.tiny_objects.specs.Tiny.{tinyIn}
 
 add-end : tie.Need-add-end
 add-end c = search needs

@@ -1,13 +1,8 @@
 -- `named` meets its contract. Assumes nothing.
-use Rattle.heap_ids.proofs.named.Statement.{statement}
-use Rattle.heap_ids.proofs.named.Tie as tie
+use Rattle.heap_id_types.proofs.named.Statement.{statement}
+use Rattle.heap_id_types.proofs.named.Tie as tie
 use borrow.Author.Tests.{ne-eqb}
-use Rattle.heap_ids.specs.Id.{typeNamed}
-use borrow.Author.Tests.{ne-eqb}
-use borrow.Author.Tests.{ne-eqb}
-use borrow.Author.Tests.{ne-eqb}
-use borrow.Author.Tests.{ne-eqb}
-use borrow.Author.Tests.{ne-eqb}
+use Rattle.heap_id_types.specs.IdTypes.{typeNamed}
 
 returns : tie.Need-returns
 unfolding typeNamed

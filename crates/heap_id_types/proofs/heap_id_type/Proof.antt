@@ -1,20 +1,9 @@
 -- `heap_id_type` meets its contract. Assumes nothing.
 use borrow.Author.Needs.{needs}
-use Rattle.heap_ids.proofs.heap_id_type.Statement.{statement}
-use Rattle.heap_ids.proofs.heap_id_type.Tie as tie
-use mathlib.Core.Path.{ap}
+use Rattle.heap_id_types.proofs.heap_id_type.Statement.{statement}
+use Rattle.heap_id_types.proofs.heap_id_type.Tie as tie
 use borrow.Author.Tests.{eq-eqb, ne-eqb}
-use Rattle.heap_ids.specs.Id.{idTypeOf}
-use mathlib.Core.Path.{ap}
-use borrow.Author.Tests.{eq-eqb, ne-eqb}
-use mathlib.Core.Path.{ap}
-use borrow.Author.Tests.{eq-eqb, ne-eqb}
-use mathlib.Core.Path.{ap}
-use borrow.Author.Tests.{eq-eqb, ne-eqb}
-use mathlib.Core.Path.{ap}
-use borrow.Author.Tests.{eq-eqb, ne-eqb}
-use mathlib.Core.Path.{ap}
-use borrow.Author.Tests.{eq-eqb, ne-eqb}
+use Rattle.heap_id_types.specs.IdTypes.{idTypeOf}
 
 returns : tie.Need-returns
 unfolding idTypeOf

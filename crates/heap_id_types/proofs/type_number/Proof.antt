@@ -1,7 +1,7 @@
 -- `type_number` meets its contract. Assumes nothing.
 use borrow.Author.Needs.{needs}
-use Rattle.heap_ids.proofs.type_number.Statement.{statement}
-use Rattle.heap_ids.proofs.type_number.Tie as tie
+use Rattle.heap_id_types.proofs.type_number.Statement.{statement}
+use Rattle.heap_id_types.proofs.type_number.Tie as tie
 
 enum-told : tie.Need-enum-told
 enum-told c = search needs

@@ -1,14 +1,9 @@
 -- `answer` meets its contract. Assumes nothing.
 use borrow.Author.Needs.{needs}
-use Rattle.heap_ids.proofs.IdType.answer.Statement.{statement}
-use Rattle.heap_ids.proofs.IdType.answer.Tie as tie
+use Rattle.heap_id_types.proofs.IdType.answer.Statement.{statement}
+use Rattle.heap_id_types.proofs.IdType.answer.Tie as tie
 use mathlib.Core.Path.{sym, ap}
-use Rattle.heap_ids.specs.Id.{idTypeAnswer}
-use mathlib.Core.Path.{sym, ap}
-use mathlib.Core.Path.{sym, ap}
-use mathlib.Core.Path.{sym, ap}
-use mathlib.Core.Path.{sym, ap}
-use mathlib.Core.Path.{sym, ap}
+use Rattle.heap_id_types.specs.IdTypes.{idTypeAnswer}
 
 enum-known-self : tie.Need-enum-known-self
 enum-known-self c = search needs
