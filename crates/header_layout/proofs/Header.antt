@@ -13,8 +13,9 @@ use Rattle.fields.proofs.Fields.{len-within}
 use Rattle.fields.specs.declared.bytes.Checked.{Checked}
 use Rattle.fields.specs.declared.bytes.Checked.the-variants.{Passed, Refused}
 use Rattle.refusals.specs.declared.FormatError.{FormatError}
-use Rattle.header_layout.specs.Layout.{headerEnd, sumPlace, layoutChecked, sumChecked, headerChecked}
-use Rattle.header_tests.specs.Tests.{endsChecked, frontEnds, addressEnds, startChecked}
+use Rattle.header_layout.specs.Layout.{headerEnd, sumPlace, layoutChecked, headerChecked}
+use Rattle.header_ends.specs.Ends.{endsChecked, frontEnds, addressEnds}
+use Rattle.header_frame.specs.Frame.{startChecked, sumChecked}
 
 -- ---- tests that passed
 

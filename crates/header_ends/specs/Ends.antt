@@ -1,19 +1,20 @@
--- The parts of a header's test: its start, and the ends of its fields in the order in which the original
--- tests them. HDF5 File Format Specification, Fractal Heap; os and ls are the sizes of offsets and of lengths.
+-- The ends of a header's fields in the order in which the original tests them. HDF5 File Format Specification,
+-- Fractal Heap; os and ls are the sizes of offsets and of lengths.
 use Prim.Native.Nat.{ℕ, _+_, _*_}
 use mathlib.Core.List.{List, [], _∷_}
 use mathlib.Core.Bool.{cond}
-use lib.ListN.{getD}
-use lib.Dec.{leb, eqb}
-use Rattle.fields.specs.LittleEndian.{leAt}
-use Rattle.fields.specs.Fields.{lenChecked, afterCheck}
+use lib.Dec.{leb}
 use Rattle.fields.specs.declared.bytes.Checked.{Checked}
 use Rattle.fields.specs.declared.bytes.Checked.the-variants.{Passed, Refused}
-use Rattle.refusals.specs.declared.FormatError.the-variants.{UnexpectedEof, InvalidFractalHeapSignature, InvalidFractalHeapVersion}
+use Rattle.refusals.specs.declared.FormatError.the-variants.{UnexpectedEof}
 
 -- 1 for a field that ends at e, past all n bytes
 abbrev pub tooShort : ℕ → ℕ → Checked
 tooShort e n = Refused (UnexpectedEof e n)
+
+-- a field that ends at e, of n bytes
+abbrev pub endChecked : ℕ → ℕ → Checked
+endChecked n e = cond (leb e n) Passed (tooShort e n)
 
 -- fields with these ends, of n bytes: 1 with the first end that is past them
 unfoldable pub endsChecked : ℕ → List ℕ → Checked
@@ -39,11 +40,3 @@ tableEnds p os ls =
     (p + (16 + 10 * ls + 2 * os)) ∷
     (p + (16 + 11 * ls + 2 * os)) ∷
     rootEnds (p + (16 + 12 * ls + 2 * os)) os
-
--- FRHP and version 0
-unfoldable pub startChecked : List ℕ → ℕ → Checked
-startChecked s p =
-    afterCheck (lenChecked s p 5) Refused
-    (cond (eqb (leAt s p 4) 0x50485246)
-    (cond (eqb (getD s (p + 4) 0) 0) Passed (Refused (InvalidFractalHeapVersion (getD s (p + 4) 0))))
-    (Refused InvalidFractalHeapSignature))

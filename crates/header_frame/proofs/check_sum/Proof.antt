@@ -7,9 +7,9 @@ use lib.ListN.{take, drop}
 use borrow.Author.Tests.{eq-eqb, ne-eqb}
 use Rattle.checksum.specs.Lookup3.{hashlittle}
 use Rattle.fields.proofs.Fields.{len-within}
-use Rattle.header_layout.specs.Layout.{sumChecked}
-use Rattle.header_layout.proofs.check_sum.Statement.{statement}
-use Rattle.header_layout.proofs.check_sum.Tie as tie
+use Rattle.header_frame.specs.Frame.{sumChecked}
+use Rattle.header_frame.proofs.check_sum.Statement.{statement}
+use Rattle.header_frame.proofs.check_sum.Tie as tie
 
 add-pos : tie.Need-add-pos
 add-pos c = search needs

@@ -7,9 +7,9 @@ use lib.Dec.{eqb}
 use Rattle.fields.specs.LittleEndian.{leAt}
 use borrow.Author.Tests.{eq-eqb, ne-eqb}
 use Rattle.fields.proofs.Fields.{len-within}
-use Rattle.header_tests.specs.Tests.{startChecked}
-use Rattle.header_tests.proofs.check_start.Statement.{statement}
-use Rattle.header_tests.proofs.check_start.Tie as tie
+use Rattle.header_frame.specs.Frame.{startChecked}
+use Rattle.header_frame.proofs.check_start.Statement.{statement}
+use Rattle.header_frame.proofs.check_start.Tie as tie
 
 ensure-len-requires : tie.Need-ensure-len-requires
 ensure-len-requires c κs = search needs
