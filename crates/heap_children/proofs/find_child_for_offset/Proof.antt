@@ -1,13 +1,11 @@
 -- `find_child_for_offset` meets its contract. Assumes nothing.
 use borrow.Author.Needs.{needs}
-use Rattle.heap_blocks.proofs.find_child_for_offset.Statement.{statement}
-use Rattle.heap_blocks.proofs.find_child_for_offset.Tie as tie
+use Rattle.heap_children.proofs.find_child_for_offset.Statement.{statement}
+use Rattle.heap_children.proofs.find_child_for_offset.Tie as tie
 use mathlib.Core.Path.{sym, _∙_}
 use borrow.Author.Tests.{eq-eqb, ne-eqb}
 use Rattle.fields.proofs.Fields.{len-within}
 use Rattle.heap_blocks.specs.Blocks.{childIn, entriesPlace}
-use mathlib.Core.Path.{sym, _∙_}
-use borrow.Author.Tests.{eq-eqb, ne-eqb}
 
 ensure-len-requires : tie.Need-ensure-len-requires
 ensure-len-requires c κs = search needs

@@ -1,15 +1,13 @@
 -- `scan_rows` meets its contract. Assumes nothing.
-use Rattle.heap_blocks.proofs.scan_rows.Statement.{statement}
-use Rattle.heap_blocks.proofs.scan_rows.Tie as tie
+use Rattle.heap_children.proofs.scan_rows.Statement.{statement}
+use Rattle.heap_children.proofs.scan_rows.Tie as tie
 use borrow.Author.Needs.{needs}
 use mathlib.Core.Path.{_≡_, sym, _∙_}
 use native.Mathlib.Omega.{arith}
 use native.Mathlib.Nat.{sub-zero}
 use Prim.Native.Nat.{_≤_, _-_, _+_}
 use Rattle.heap_blocks.specs.Blocks.{childScan}
 use Rattle.heap_blocks.proofs.Scanning.{rows-hit, rows-next, rows-stop, rows-none}
-use mathlib.Core.Path.{_≡_, sym, _∙_}
-use mathlib.Core.Path.{_≡_, sym, _∙_}
 
 abbrev Inv-loop : tie.InvT-loop
 Inv-loop table block at nrows start target offset-size width pos₀ offset₀ row₀ pos offset row = (row ≤ nrows) × (childScan table block offset-size target nrows 0 at start ≡ childScan table block offset-size target (nrows - row) row pos offset)

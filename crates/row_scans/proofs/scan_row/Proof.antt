@@ -1,12 +1,10 @@
 -- `scan_row` meets its contract. Assumes nothing.
 use borrow.Author.Needs.{needs}
-use Rattle.heap_blocks.proofs.scan_row.Statement.{statement}
-use Rattle.heap_blocks.proofs.scan_row.Tie as tie
+use Rattle.row_scans.proofs.scan_row.Statement.{statement}
+use Rattle.row_scans.proofs.scan_row.Tie as tie
 use mathlib.Core.Path.{sym}
 use native.Mathlib.Omega.{arith}
 use Rattle.heap_blocks.proofs.Scanning.{before, row-jumped}
-use mathlib.Core.Path.{sym}
-use mathlib.Core.Path.{sym}
 
 saturating-mul-requires : tie.Need-saturating-mul-requires
 saturating-mul-requires c κs = search needs

@@ -1,9 +1,9 @@
 -- `entries_size` meets its contract. Assumes nothing.
 use borrow.Author.Needs.{needs}
-use Rattle.heap_blocks.proofs.entries_size.Statement.{statement}
-use Rattle.heap_blocks.proofs.entries_size.Tie as tie
+use Rattle.row_scans.proofs.entries_size.Statement.{statement}
+use Rattle.row_scans.proofs.entries_size.Tie as tie
 use native.Mathlib.Omega.{arith}
 use Rattle.heap_blocks.proofs.Scanning.{entries-small}
 
 mul-result : tie.Need-mul-result
 mul-result c = record { fits = omega (arith, entries-small (c .args .width) (c .args .offset-size) (omega arith) (omega arith)) }

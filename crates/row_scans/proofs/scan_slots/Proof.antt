@@ -1,19 +1,14 @@
 -- `scan_slots` meets its contract. Assumes nothing.
-use Rattle.heap_blocks.proofs.scan_slots.Statement.{statement}
-use Rattle.heap_blocks.proofs.scan_slots.Tie as tie
-use mathlib.Core.Path.{sym, _∙_}
+use Rattle.row_scans.proofs.scan_slots.Statement.{statement}
+use Rattle.row_scans.proofs.scan_slots.Tie as tie
+use mathlib.Core.Path.{sym, _∙_, _≡_}
 use native.Mathlib.Omega.{arith}
 use native.Mathlib.Nat.{sub-zero}
-use Prim.Native.Nat.{_-_, _+_}
+use Prim.Native.Nat.{_-_, _+_, _≤_}
 use Rattle.fields.proofs.Fields.{offset-readable}
 use Rattle.heap_blocks.proofs.Scanning.{row-stop, row-hit, row-next, row-none}
 use borrow.Author.Needs.{needs}
-use mathlib.Core.Path.{_≡_, sym, _∙_}
-use Prim.Native.Nat.{_≤_, _-_, _+_}
 use Rattle.heap_blocks.specs.Blocks.{rowScan}
-use mathlib.Core.Path.{_≡_, sym, _∙_}
-use mathlib.Core.Path.{_≡_, sym, _∙_}
-use mathlib.Core.Path.{_≡_, sym, _∙_}
 
 abbrev Inv-loop : tie.InvT-loop
 Inv-loop block at offset-size size start target width pos₀ offset₀ column₀ pos offset column = (column ≤ width) × (rowScan block offset-size size target width at start ≡ rowScan block offset-size size target (width - column) pos offset)

@@ -1,15 +1,7 @@
 -- `is_before` meets its contract. Assumes nothing.
 use borrow.Author.Needs.{needs}
-use Rattle.heap_blocks.proofs.is_before.Statement.{statement}
-use Rattle.heap_blocks.proofs.is_before.Tie as tie
-use mathlib.Core.Path.{sym, _∙_}
-use borrow.Author.Tests.{le-leb, lt-leb}
-use mathlib.Core.Path.{sym, _∙_}
-use borrow.Author.Tests.{le-leb, lt-leb}
-use mathlib.Core.Path.{sym, _∙_}
-use borrow.Author.Tests.{le-leb, lt-leb}
-use mathlib.Core.Path.{sym, _∙_}
-use borrow.Author.Tests.{le-leb, lt-leb}
+use Rattle.row_scans.proofs.is_before.Statement.{statement}
+use Rattle.row_scans.proofs.is_before.Tie as tie
 use mathlib.Core.Path.{sym, _∙_}
 use borrow.Author.Tests.{le-leb, lt-leb}
 

@@ -1,7 +1,7 @@
 -- `child_of_block` meets its contract. Assumes nothing.
 use borrow.Author.Needs.{needs}
-use Rattle.heap_walk.proofs.child_of_block.Statement.{statement}
-use Rattle.heap_walk.proofs.child_of_block.Tie as tie
+use Rattle.heap_children.proofs.child_of_block.Statement.{statement}
+use Rattle.heap_children.proofs.child_of_block.Tie as tie
 use mathlib.Core.Path.{sym, _∙_}
 use native.Mathlib.Omega.{arith}
 use Rattle.fields.proofs.Fields.{len-within}
