@@ -11,7 +11,7 @@ use Rattle.refusals.specs.declared.Answer.{Answer}
 use Rattle.heap_blocks.specs.Blocks.{foundAnswer}
 use Rattle.fractal_heap.specs.declared.header.FractalHeapHeader.{FractalHeapHeader}
 use Rattle.fractal_heap.specs.Read.{managedAt}
-use Rattle.object_tools_c.specs.ObjectTools.{threeOf, answersFrom}
+use Rattle.object_numbers.specs.ObjectNumbers.{threeOf, answersFrom}
 
 module _ (h : FractalHeapHeader) (s : List ℕ) (w : ℕ) where
   length-answers : (n : ℕ) (ids : List ℕ) → length (answersFrom h s w n ids) ≡ 3 * n

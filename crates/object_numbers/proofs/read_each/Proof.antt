@@ -1,15 +1,15 @@
 -- `read_each` meets its contract: what is left to store, stored from here, is the whole store. Assumes nothing.
-use Rattle.object_tools_c.proofs.read_each.Statement.{statement}
-use Rattle.object_tools_c.proofs.read_each.Tie as tie
+use Rattle.object_numbers.proofs.read_each.Statement.{statement}
+use Rattle.object_numbers.proofs.read_each.Tie as tie
 use borrow.Author.Needs.{needs}
 use native.Mathlib.Omega.{arith}
 use Prim.Native.Nat.{_-_, _≤_}
 use lib.ListN.{length, length-set}
 use mathlib.Core.Path.{_≡_, refl, sym, ap, _∙_}
 use Rattle.heap_blocks.specs.Blocks.{foundAnswer}
-use Rattle.object_tools_c.specs.ObjectTools.{answersFrom}
+use Rattle.object_numbers.specs.ObjectNumbers.{answersFrom}
 use Rattle.fields.specs.LittleEndian.{put}
-use Rattle.object_tools_c.proofs.Stores.{rest, rest-start, rest-more, rest-done}
+use Rattle.object_numbers.proofs.Stores.{rest, rest-start, rest-more, rest-done}
 
 abbrev Inv-loop : tie.InvT-loop
 Inv-loop h file offset-size ids found₀ n i₀ found i =
@@ -45,38 +45,32 @@ read-managed-object-requires c κs = search needs
 answer-requires : tie.Need-answer-requires Inv-loop μ-loop
 answer-requires c κs = search needs
 
+mul-place : tie.Need-mul-place Inv-loop μ-loop
+mul-place c = omega arith
+
 cast-found : tie.Need-cast-found Inv-loop μ-loop
 cast-found c = omega arith
 
 mul-found : tie.Need-mul-found Inv-loop μ-loop
 mul-found c = omega arith
 
-mul-found-2 : tie.Need-mul-found-2 Inv-loop μ-loop
-mul-found-2 c = omega arith
-
 slice-write-found : tie.Need-slice-write-found Inv-loop μ-loop
 slice-write-found c = omega arith
-
-mul-found-3 : tie.Need-mul-found-3 Inv-loop μ-loop
-mul-found-3 c = omega arith
 
 add-found : tie.Need-add-found Inv-loop μ-loop
 add-found c = omega arith
 
-mul-found-4 : tie.Need-mul-found-4 Inv-loop μ-loop
-mul-found-4 c = omega arith
+mul-found-2 : tie.Need-mul-found-2 Inv-loop μ-loop
+mul-found-2 c = omega arith
 
 slice-write-found-2 : tie.Need-slice-write-found-2 Inv-loop μ-loop
 slice-write-found-2 c = simp length-set (omega arith)
 
-mul-found-5 : tie.Need-mul-found-5 Inv-loop μ-loop
-mul-found-5 c = omega arith
-
 add-found-2 : tie.Need-add-found-2 Inv-loop μ-loop
 add-found-2 c = omega arith
 
-mul-found-6 : tie.Need-mul-found-6 Inv-loop μ-loop
-mul-found-6 c = omega arith
+mul-found-3 : tie.Need-mul-found-3 Inv-loop μ-loop
+mul-found-3 c = omega arith
 
 slice-write-found-3 : tie.Need-slice-write-found-3 Inv-loop μ-loop
 slice-write-found-3 c = simp length-set (omega arith)
@@ -111,17 +105,15 @@ read-each-spec =
     part-read-managed-object-end
     read-managed-object-requires
     answer-requires
+    mul-place
     cast-found
     mul-found
-    mul-found-2
     slice-write-found
-    mul-found-3
     add-found
-    mul-found-4
+    mul-found-2
     slice-write-found-2
-    mul-found-5
     add-found-2
-    mul-found-6
+    mul-found-3
     slice-write-found-3
     add-i
     loop-less
