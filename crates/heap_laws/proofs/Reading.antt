@@ -1,9 +1,9 @@
 -- What is read lies in the file, or in the ID.
-use mathlib.Core.Path.{_≡_, refl, sym, ap, _∙_}
+use mathlib.Core.Path.{_≡_, refl}
 use mathlib.Core.List.{List}
 use mathlib.Core.Bool.{Bool, true, false, cond}
-use Prim.Native.Nat.{ℕ, _+_, _*_, _%_, _≤_}
-use lib.ListN.{length, getD}
+use Prim.Native.Nat.{ℕ, _+_, _≤_}
+use lib.ListN.{length}
 use lib.Dec.{leb, ltb, eqb}
 use borrow.Author.Tests.{leb-true}
 use Rattle.fields.specs.Fields.{undefinedAddr}

@@ -25,7 +25,9 @@ read-u32-le-requires c κs = omega (arith, len-within _ _ _ (sym (c .before .bef
 
 -- the signature stands there
 signed : (c : tie.After-shared-slice-known2) → eqb (leAt (c .before .before .before .before .before .before .before .args .file .now) (c .before .before .before .before .before .before .before .args .at) 4) 0x50485246 ≡ true
-signed c = eq-eqb (leAt (c .before .before .before .before .before .before .before .args .file .now) (c .before .before .before .before .before .before .before .args .at) 4) 0x50485246 (sym (c .before .before .read-u32-le .ensures) ∙ c .before .if1 .left)
+signed c =
+    let a = c .before .before .before .before .before .before .before .args in
+    eq-eqb (leAt (a .file .now) (a .at) 4) 0x50485246 (sym (c .before .before .read-u32-le .ensures) ∙ c .before .if1 .left)
 
 returns : tie.Need-returns
 unfolding startChecked

@@ -31,7 +31,9 @@ child-at-row-requires : tie.Need-child-at-row-requires Inv-loop μ-loop
 child-at-row-requires c κs = search needs
 
 returns : tie.Need-returns Inv-loop μ-loop
-returns c = c .child-at-row .ensures ∙ sym (c .before .before .before .before .before .before .before .loop .inv .1 ∙ rows-hit _ _ _ _ _ (c .before .before .before .before .before .before .before .before .before .args .nrows - (c .before .before .before .before .before .before .before .loop .row + 1)) _ _ _ (omega arith) _ _ _ _ (c .before .before .before .before .before .slot-size .ensures) (c .before .before .before .before .scan-row .ensures) (c .before .before .addr .given .1))
+returns c =
+    let l = c .before .before .before .before .before .before .before in
+    c .child-at-row .ensures ∙ sym (l .loop .inv .1 ∙ rows-hit _ _ _ _ _ (l .before .before .args .nrows - (l .loop .row + 1)) _ _ _ (omega arith) _ _ _ _ (c .before .before .before .before .before .slot-size .ensures) (c .before .before .before .before .scan-row .ensures) (c .before .before .addr .given .1))
 
 enum-known-next : tie.Need-enum-known-next Inv-loop μ-loop
 enum-known-next c = search needs
@@ -43,13 +45,17 @@ loop-less : tie.Need-loop-less Inv-loop μ-loop
 loop-less c = search needs
 
 loop-again : tie.Need-loop-again Inv-loop μ-loop
-loop-again c = (omega arith, c .before .before .before .before .before .before .loop .inv .1 ∙ rows-next _ _ _ _ _ (c .before .before .before .before .before .before .before .before .args .nrows - (c .before .before .before .before .before .before .loop .row + 1)) _ _ _ (omega arith) _ _ _ _ (c .before .before .before .before .slot-size .ensures) (c .before .before .before .scan-row .ensures) (c .before .next .given .1))
+loop-again c =
+    let l = c .before .before .before .before .before .before in
+    (omega arith, l .loop .inv .1 ∙ rows-next _ _ _ _ _ (l .before .before .args .nrows - (l .loop .row + 1)) _ _ _ (omega arith) _ _ _ _ (c .before .before .before .before .slot-size .ensures) (c .before .before .before .scan-row .ensures) (c .before .next .given .1))
 
 enum-known-e : tie.Need-enum-known-e Inv-loop μ-loop
 enum-known-e c = search needs
 
 returns-2 : tie.Need-returns-2 Inv-loop μ-loop
-returns-2 c = sym (c .before .before .before .before .before .before .loop .inv .1 ∙ rows-stop _ _ _ _ _ (c .before .before .before .before .before .before .before .before .args .nrows - (c .before .before .before .before .before .before .loop .row + 1)) _ _ _ (omega arith) _ _ _ (c .before .before .before .before .slot-size .ensures) (c .before .before .before .scan-row .ensures) (c .before .e .given .1))
+returns-2 c =
+    let l = c .before .before .before .before .before .before in
+    sym (l .loop .inv .1 ∙ rows-stop _ _ _ _ _ (l .before .before .args .nrows - (l .loop .row + 1)) _ _ _ (omega arith) _ _ _ (c .before .before .before .before .slot-size .ensures) (c .before .before .before .scan-row .ensures) (c .before .e .given .1))
 
 returns-3 : tie.Need-returns-3 Inv-loop μ-loop
 returns-3 c = sym (c .before .loop .inv .1 ∙ rows-none _ _ _ _ _ _ _ _ (omega arith))

@@ -26,7 +26,9 @@ enum-known-e : tie.Need-enum-known-e Inv-loop μ-loop
 enum-known-e c = search needs
 
 returns : tie.Need-returns Inv-loop μ-loop
-returns c = sym (c .before .before .before .before .before .loop .inv .1 ∙ row-stop _ _ _ _ _ (c .before .before .before .before .before .before .before .args .width - (c .before .before .before .before .before .loop .column + 1)) _ _ (omega arith) _ (sym (c .before .before .before .read-offset .ensures) ∙ c .before .e .given .1))
+returns c =
+    let l = c .before .before .before .before .before in
+    sym (l .loop .inv .1 ∙ row-stop _ _ _ _ _ (l .before .before .args .width - (l .loop .column + 1)) _ _ (omega arith) _ (sym (c .before .before .before .read-offset .ensures) ∙ c .before .e .given .1))
 
 enum-known-addr : tie.Need-enum-known-addr Inv-loop μ-loop
 enum-known-addr c = search needs
@@ -38,7 +40,9 @@ holds-requires : tie.Need-holds-requires Inv-loop μ-loop
 holds-requires c κs = search needs
 
 returns-2 : tie.Need-returns-2 Inv-loop μ-loop
-returns-2 c = sym (c .before .before .before .before .before .before .before .before .loop .inv .1 ∙ row-hit _ _ _ _ _ (c .before .before .before .before .before .before .before .before .before .before .args .width - (c .before .before .before .before .before .before .before .before .loop .column + 1)) _ _ (omega arith) _ _ _ (sym (c .before .before .before .before .before .before .read-offset .ensures) ∙ c .before .before .before .before .addr .given .1) (c .before .before .saturating-add .ensures) (c .before .holds .ensures) (c .if1 .taken))
+returns-2 c =
+    let l = c .before .before .before .before .before .before .before .before in
+    sym (l .loop .inv .1 ∙ row-hit _ _ _ _ _ (l .before .before .args .width - (l .loop .column + 1)) _ _ (omega arith) _ _ _ (sym (c .before .before .before .before .before .before .read-offset .ensures) ∙ c .before .before .before .before .addr .given .1) (c .before .before .saturating-add .ensures) (c .before .holds .ensures) (c .if1 .taken))
 
 add-pos : tie.Need-add-pos Inv-loop μ-loop
 add-pos c = omega (arith, offset-readable _ _ _ _ (sym (c .before .before .before .before .before .before .read-offset .ensures) ∙ c .before .before .before .before .addr .given .1) .room)
@@ -50,7 +54,9 @@ loop-less : tie.Need-loop-less Inv-loop μ-loop
 loop-less c = search needs
 
 loop-again : tie.Need-loop-again Inv-loop μ-loop
-loop-again c = (omega arith, c .before .before .before .before .before .before .before .before .loop .inv .1 ∙ row-next _ _ _ _ _ (c .before .before .before .before .before .before .before .before .before .before .args .width - (c .before .before .before .before .before .before .before .before .loop .column + 1)) _ _ (omega arith) _ _ _ (sym (c .before .before .before .before .before .before .read-offset .ensures) ∙ c .before .before .before .before .addr .given .1) (c .before .before .saturating-add .ensures) (c .before .holds .ensures) (c .if1 .left))
+loop-again c =
+    let l = c .before .before .before .before .before .before .before .before in
+    (omega arith, l .loop .inv .1 ∙ row-next _ _ _ _ _ (l .before .before .args .width - (l .loop .column + 1)) _ _ (omega arith) _ _ _ (sym (c .before .before .before .before .before .before .read-offset .ensures) ∙ c .before .before .before .before .addr .given .1) (c .before .before .saturating-add .ensures) (c .before .holds .ensures) (c .if1 .left))
 
 returns-3 : tie.Need-returns-3 Inv-loop μ-loop
 returns-3 c = sym (c .before .loop .inv .1 ∙ row-none _ _ _ _ _ _ _ (omega arith))
