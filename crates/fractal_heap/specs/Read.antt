@@ -2,12 +2,11 @@
 use Prim.Native.Nat.{ℕ}
 use mathlib.Core.List.{List}
 use mathlib.Core.Bool.{cond}
-use lib.Dec.{ltb, eqb}
-use Rattle.convert.specs.Undefined.{undefinedAddr}
-use Rattle.refusals.specs.declared.FormatError.the-variants.{UnexpectedEof, UnsupportedFilteredHeapObject}
-use Rattle.heap_blocks.specs.Blocks.{directAt, walkFrom}
+use lib.Dec.{ltb}
+use Rattle.refusals.specs.declared.FormatError.the-variants.{UnsupportedFilteredHeapObject}
 use Rattle.heap_blocks.specs.declared.Found.{Found}
 use Rattle.heap_blocks.specs.declared.Found.the-variants.{Refused}
+use Rattle.heap_walk.specs.Root.{fromRoot}
 use Rattle.heap_ids.specs.Id.{decodedId}
 use Rattle.fractal_heap.specs.declared.header.FractalHeapHeader.{FractalHeapHeader}
 use Rattle.fractal_heap.specs.declared.header.Parsed.{Parsed}
@@ -16,13 +15,11 @@ use Rattle.heap_ids.specs.declared.ManagedId.{ManagedId}
 use Rattle.heap_ids.specs.declared.ManagedId.the-variants.{Decoded, Refused as NoId}
 use Rattle.fractal_heap.specs.Header.{tableOf}
 
--- len bytes at heap offset t: no rows mean that the root is a direct block, at heap offset 0
+-- len bytes at heap offset t, from the root block on
 unfoldable pub rootAt : FractalHeapHeader → List ℕ → ℕ → ℕ → ℕ → Found
+unfolding fromRoot
 rootAt h s t len w =
-    cond (undefinedAddr (h .«root_block_address») w) (Refused (UnexpectedEof 1 0))
-    (cond (eqb (h .«current_rows_in_root_indirect_block») 0)
-    (directAt s (h .«root_block_address») 0 t len)
-    (walkFrom (tableOf h) s w t len 64 (h .«root_block_address») (h .«current_rows_in_root_indirect_block») 0))
+    fromRoot (tableOf h) s (h .«root_block_address») (h .«current_rows_in_root_indirect_block») t len w
 
 abbrev pub afterId : ManagedId → (ℕ → ℕ → Found) → Found
 afterId (Decoded offset len) next = next offset len

@@ -1,12 +1,16 @@
 // The header's fields, and parsing them from a file.
 ghost use mathlib.Core.Path.{_≡_};
 ghost use mathlib.Core.Bool.{true};
-ghost use Prim.Native.Nat.{_+_, _*_, _≤_};
+ghost use Prim.Native.Nat.{_+_, _≤_};
 ghost use lib.ListN.{length};
 ghost use Rattle.little_endian.specs.Widths.{legal};
 ghost use Rattle.header_layout.specs.Layout.{headerEnd};
 ghost use Rattle.fractal_heap.specs.Header.{headerFields, headerAt, parsedAnswer, tableOf};
-use fields::Checked;
+use fields::bytes::Checked;
+use header_fields::read_front;
+use header_fields::read_objects;
+use header_fields::read_root;
+use header_fields::read_table;
 use header_layout::check_header;
 use heap_rows::DoublingTable;
 use little_endian::read_le;
@@ -59,22 +63,23 @@ fn read_fields(file: &[u8], at: usize, offset_size: u8, length_size: u8) -> Frac
     requires { ⌜ at + headerEnd «offset_size» «length_size» ≤ length (now file) ⌝ }
     ensures { λ r. ⌜ r ≡ headerFields (now (file .entry)) at «offset_size» «length_size» ⌝ }
 {
-    let o = offset_size as usize;
-    let l = length_size as usize;
-    let table = at + (14 + 10 * l + 2 * o);
+    let front = read_front(file, at);
+    let objects = read_objects(file, at, offset_size, length_size);
+    let table = read_table(file, at, offset_size, length_size);
+    let root = read_root(file, at, offset_size, length_size);
     FractalHeapHeader {
-        heap_id_length: read_u16_le(file, at + 5),
-        io_filter_encoded_length: read_u16_le(file, at + 7),
-        max_managed_object_size: read_u32_le(file, at + 10),
-        btree_huge_objects_address: read_le(file, at + (14 + l), offset_size),
-        table_width: read_u16_le(file, table),
-        starting_block_size: read_le(file, table + 2, length_size),
-        max_direct_block_size: read_le(file, table + (2 + l), length_size),
-        max_heap_size: read_u16_le(file, table + (2 + 2 * l)),
-        start_root_rows: read_u16_le(file, table + (4 + 2 * l)),
-        root_block_address: read_le(file, table + (6 + 2 * l), offset_size),
-        current_rows_in_root_indirect_block: read_u16_le(file, table + (6 + 2 * l + o)),
-        managed_objects_count: read_le(file, at + (14 + 5 * l + 2 * o), length_size),
+        heap_id_length: front.heap_id_length,
+        io_filter_encoded_length: front.io_filter_encoded_length,
+        max_managed_object_size: front.max_managed_object_size,
+        btree_huge_objects_address: objects.btree_huge_objects_address,
+        table_width: table.table_width,
+        starting_block_size: table.starting_block_size,
+        max_direct_block_size: table.max_direct_block_size,
+        max_heap_size: table.max_heap_size,
+        start_root_rows: root.start_root_rows,
+        root_block_address: root.root_block_address,
+        current_rows_in_root_indirect_block: root.current_rows_in_root_indirect_block,
+        managed_objects_count: objects.managed_objects_count,
     }
 }
 

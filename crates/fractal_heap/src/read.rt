@@ -1,15 +1,14 @@
 // IDs and objects by a header: where the bytes of a managed object are in the file.
 ghost use mathlib.Core.Path.{_≡_};
-ghost use Rattle.heap_ids.specs.Id.{idTypeOf, decodedId};
-ghost use Rattle.fractal_heap.specs.Read.{rootAt, managedAt, idBy, objectBy};
+ghost use Rattle.heap_id_types.specs.IdTypes.{idTypeOf};
+ghost use Rattle.heap_ids.specs.Id.{decodedId};
+ghost use Rattle.fractal_heap.specs.Read.{managedAt, idBy, objectBy};
 use crate::header::FractalHeapHeader;
 use crate::header::Parsed;
-use convert::is_undefined_addr;
 use heap_blocks::Found;
-use heap_ids::IdType;
+use heap_id_types::IdType;
 use heap_ids::ManagedId;
-use heap_walk::read_from_direct_block;
-use heap_walk::read_from_indirect_block;
+use heap_walk::read_from_root;
 use refusals::FormatError;
 
 impl FractalHeapHeader {
@@ -17,7 +16,7 @@ impl FractalHeapHeader {
     pub fn heap_id_type(id: &[u8]) -> IdType
         ensures { λ r. ⌜ r ≡ idTypeOf (now (id .entry)) ⌝ }
     {
-        heap_ids::heap_id_type(id)
+        heap_id_types::heap_id_type(id)
     }
 
     // The heap offset and the length in a managed ID.
@@ -25,30 +24,6 @@ impl FractalHeapHeader {
         ensures { λ r. ⌜ r ≡ decodedId (self .«max_heap_size») (now (id .entry)) ⌝ }
     {
         heap_ids::decode_managed_id(self.max_heap_size, id)
-    }
-
-    // From the root block on. A direct root is read without a look at the offset size.
-    fn read_from_root(self, file: &[u8], target: u64, length: u64, offset_size: u8) -> Found
-        ensures { λ r. ⌜ r ≡ rootAt self (now (file .entry)) target length «offset_size» ⌝ }
-    {
-        let root = self.root_block_address;
-        if is_undefined_addr(root, offset_size) {
-            return Found::Refused(FormatError::UnexpectedEof(1, 0));
-        }
-        let nrows = self.current_rows_in_root_indirect_block;
-        if nrows == 0 {
-            read_from_direct_block(file, root, 0, target, length)
-        } else {
-            read_from_indirect_block(
-                self.table(),
-                file,
-                root,
-                nrows as u64,
-                target,
-                length,
-                offset_size,
-            )
-        }
     }
 
     // The managed object that an ID names: its position in the file, and its length.
@@ -61,7 +36,9 @@ impl FractalHeapHeader {
         match self.decode_managed_id(id) {
             ManagedId::Refused(e) => Found::Refused(e),
             ManagedId::Decoded(offset, length) => {
-                self.read_from_root(file, offset, length, offset_size)
+                let root = self.root_block_address;
+                let nrows = self.current_rows_in_root_indirect_block;
+                read_from_root(self.table(), file, root, nrows, offset, length, offset_size)
             }
         }
     }

@@ -14,8 +14,9 @@ use Rattle.fields.proofs.Fields.{len-within}
 use Rattle.fields.specs.declared.Checked.{Checked}
 use Rattle.fields.specs.declared.Checked.the-variants.{Passed, Refused}
 use Rattle.refusals.specs.declared.FormatError.{FormatError}
-use Rattle.header_layout.specs.Layout.{headerEnd, sumPlace, layoutChecked, sumChecked, headerChecked}
-use Rattle.header_tests.specs.Tests.{endsChecked, frontEnds, addressEnds, startChecked}
+use Rattle.header_layout.specs.Layout.{headerEnd, sumPlace, layoutChecked, headerChecked}
+use Rattle.header_ends.specs.Ends.{endsChecked, frontEnds, addressEnds}
+use Rattle.header_frame.specs.Frame.{startChecked, sumChecked}
 
 -- ---- tests that passed
 
@@ -38,11 +39,11 @@ held true x e h = record { holds = refl; next = h }
 held false x e h = let z : _≡_ {A = ℕ} 0 1 = cc in absurd (omega arith)
 
 -- no end is past the bytes
-pub ends-within : (n e : ℕ) (es : List ℕ) → endsChecked n (e ∷ es) ≡ Passed → e ≤ n
+ends-within : (n e : ℕ) (es : List ℕ) → endsChecked n (e ∷ es) ≡ Passed → e ≤ n
 unfolding endsChecked
 ends-within n e es h = leb-true e n (held (leb e n) (endsChecked n es) _ h .holds)
 
-pub ends-next : (n e : ℕ) (es : List ℕ) → endsChecked n (e ∷ es) ≡ Passed → endsChecked n es ≡ Passed
+ends-next : (n e : ℕ) (es : List ℕ) → endsChecked n (e ∷ es) ≡ Passed → endsChecked n es ≡ Passed
 unfolding endsChecked
 ends-next n e es h = held (leb e n) (endsChecked n es) _ h .next
 
@@ -73,7 +74,7 @@ layout-within s p os ls h =
     }
 
 -- where the checksum stands, from below and from above
-pub sum-after : (filter os ls : ℕ) → headerEnd os ls ≤ sumPlace filter os ls
+sum-after : (filter os ls : ℕ) → headerEnd os ls ≤ sumPlace filter os ls
 unfolding sumPlace
 sum-after filter os ls = by (ltb 0 filter)
   where
@@ -89,7 +90,7 @@ sum-before filter os ls ho hl = by (ltb 0 filter)
     by true = omega arith
     by false = omega arith
 
-pub sum-within : (s : List ℕ) (p place : ℕ) → sumChecked s p place ≡ Passed → p + place + 4 ≤ length s
+sum-within : (s : List ℕ) (p place : ℕ) → sumChecked s p place ≡ Passed → p + place + 4 ≤ length s
 unfolding sumChecked
 sum-within s p place h = len-within s (p + place) 4 (both (lenChecked s (p + place) 4) _ h .first)
 

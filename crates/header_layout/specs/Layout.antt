@@ -5,16 +5,15 @@
 use Prim.Native.Nat.{ℕ, _+_, _*_}
 use mathlib.Core.List.{List}
 use mathlib.Core.Bool.{cond}
-use lib.ListN.{length, take, drop}
-use lib.Dec.{ltb, eqb}
-use Rattle.little_endian.specs.LittleEndian.{leAt}
-use Rattle.little_endian.specs.Widths.{legal}
-use Rattle.fields.specs.Fields.{lenChecked, afterCheck}
-use Rattle.fields.specs.declared.Checked.{Checked}
-use Rattle.fields.specs.declared.Checked.the-variants.{Passed, Refused}
-use Rattle.refusals.specs.declared.FormatError.the-variants.{InvalidOffsetSize, InvalidLengthSize, ChecksumMismatch}
-use Rattle.checksum.specs.Lookup3.{hashlittle}
-use Rattle.header_tests.specs.Tests.{endsChecked, frontEnds, addressEnds, tableEnds, startChecked}
+use lib.ListN.{length}
+use lib.Dec.{ltb}
+use Rattle.fields.specs.LittleEndian.{leAt}
+use Rattle.fields.specs.Fields.{legal, afterCheck}
+use Rattle.fields.specs.declared.bytes.Checked.{Checked}
+use Rattle.fields.specs.declared.bytes.Checked.the-variants.{Refused}
+use Rattle.refusals.specs.declared.FormatError.the-variants.{InvalidOffsetSize, InvalidLengthSize}
+use Rattle.header_ends.specs.Ends.{endsChecked, frontEnds, addressEnds, tableEnds}
+use Rattle.header_frame.specs.Frame.{startChecked, sumChecked}
 
 -- where fields stand in the header: the B-tree of huge objects, after the next huge object's ID
 abbrev pub btreePlace : ℕ → ℕ
@@ -44,13 +43,6 @@ layoutChecked s p os ls =
     (afterCheck (endsChecked (length s) (addressEnds p os ls)) Refused
     (cond (legal ls) (endsChecked (length s) (tableEnds p os ls)) (Refused (InvalidLengthSize ls))))
     (Refused (InvalidOffsetSize os)))
-
--- the checksum at its place is that of all bytes of the header before it
-unfoldable pub sumChecked : List ℕ → ℕ → ℕ → Checked
-sumChecked s p place =
-    afterCheck (lenChecked s (p + place) 4) Refused
-    (cond (eqb (hashlittle (take place (drop p s))) (leAt s (p + place) 4)) Passed
-    (Refused (ChecksumMismatch (leAt s (p + place) 4) (hashlittle (take place (drop p s))))))
 
 -- all tests of the header at p
 unfoldable pub headerChecked : List ℕ → ℕ → ℕ → ℕ → Checked

@@ -3,17 +3,15 @@
 ghost use mathlib.Core.Path.{_≡_};
 ghost use Prim.Native.Nat.{_+_, _≤_};
 ghost use lib.ListN.{length};
-ghost use Rattle.header_layout.specs.Layout.{sumPlace, layoutChecked, sumChecked, headerChecked};
-use checksum::jenkins_lookup3;
-use fields::Checked;
-use fields::ensure_len;
-use fields::is_width;
-use header_tests::check_addresses;
-use header_tests::check_front;
-use header_tests::check_start;
-use header_tests::check_table;
-use little_endian::read_u16_le;
-use little_endian::read_u32_le;
+ghost use Rattle.header_layout.specs.Layout.{sumPlace, layoutChecked, headerChecked};
+use fields::bytes::Checked;
+use fields::bytes::is_width;
+use fields::bytes::read_u16_le;
+use header_ends::check_addresses;
+use header_ends::check_front;
+use header_ends::check_table;
+use header_frame::check_start;
+use header_frame::check_sum;
 use refusals::FormatError;
 
 // Every field, each width before the first field that has it.
@@ -21,15 +19,15 @@ fn check_layout(file: &[u8], at: usize, offset_size: u8, length_size: u8) -> Che
     requires { ⌜ at + 5 ≤ length (now file) ⌝ }
     ensures { λ r. ⌜ r ≡ layoutChecked (now (file .entry)) at «offset_size» «length_size» ⌝ }
 {
-    match check_front(file, at, length_size) {
+    match check_front(file.len(), at, length_size) {
         Checked::Refused(e) => Checked::Refused(e),
         Checked::Passed => {
             if is_width(offset_size) {
-                match check_addresses(file, at, offset_size, length_size) {
+                match check_addresses(file.len(), at, offset_size, length_size) {
                     Checked::Refused(e) => Checked::Refused(e),
                     Checked::Passed => {
                         if is_width(length_size) {
-                            check_table(file, at, offset_size, length_size)
+                            check_table(file.len(), at, offset_size, length_size)
                         } else {
                             Checked::Refused(FormatError::InvalidLengthSize(length_size))
                         }
@@ -49,27 +47,6 @@ fn sum_place(filter: u16, offset_size: u8, length_size: u8) -> usize
     let l = length_size as usize;
     let end = 22 + 12 * l + 3 * (offset_size as usize);
     if filter > 0 { end + (l + 4) } else { end }
-}
-
-// The checksum at its place is that of the header's bytes before it.
-fn check_sum(file: &[u8], at: usize, place: usize) -> Checked
-    requires { ⌜ at ≤ length (now file) ⌝ }
-    requires { ⌜ place ≤ 65536 ⌝ }
-    ensures { λ r. ⌜ r ≡ sumChecked (now (file .entry)) at place ⌝ }
-{
-    let pos = at + place;
-    match ensure_len(file, pos, 4) {
-        Checked::Refused(e) => Checked::Refused(e),
-        Checked::Passed => {
-            let stored = read_u32_le(file, pos);
-            let computed = jenkins_lookup3(&file[at..pos]);
-            if computed == stored {
-                Checked::Passed
-            } else {
-                Checked::Refused(FormatError::ChecksumMismatch(stored, computed))
-            }
-        }
-    }
 }
 
 // All tests of the header at `at`.

@@ -7,21 +7,17 @@ use Prim.Native.Nat.{ℕ, zero, suc, _+_, _-_, _*_, _^_, _≤_, _<_}
 use native.Mathlib.Omega.{arith}
 use native.Mathlib.Nat.{mul-le-mul}
 use lib.ListN.{length}
-use lib.Dec.{leb, ltb}
-use borrow.Author.Tests.{le-leb, lt-leb, le-ltb, lt-ltb, leb-true}
-use Rattle.little_endian.specs.LittleEndian.{leAt}
-use Rattle.numbers.specs.Numbers.{saturated}
-use Rattle.little_endian.specs.Widths.{legal}
-use Rattle.fields.specs.Fields.{offsetAt}
-use Rattle.convert.specs.Undefined.{undefinedAddr}
-use Rattle.fields.specs.declared.Field.the-variants.{Value, Refused as NoValue}
+use lib.Dec.{leb}
+use borrow.Author.Tests.{le-ltb, leb-true}
+use Rattle.fields.specs.LittleEndian.{leAt}
+use Rattle.fields.specs.Fields.{saturated, legal, offsetAt, undefinedAddr}
+use Rattle.fields.specs.declared.bytes.Field.the-variants.{Value, Refused as NoValue}
 use Rattle.refusals.specs.declared.FormatError.{FormatError}
 use Rattle.fields.proofs.Fields.{offset-read}
 use Rattle.heap_rows.specs.declared.DoublingTable.{DoublingTable}
 use Rattle.heap_rows.specs.Rows.{slotSize}
 use Rattle.heap_blocks.specs.declared.RowScan.{RowScan}
 use Rattle.heap_blocks.specs.declared.RowScan.the-variants.{Hit, Past, Refused as NoRow}
-use Rattle.heap_blocks.specs.declared.HeapChild.{HeapChild}
 use Rattle.heap_blocks.specs.declared.HeapChild.the-variants.{Missing, Refused as NoChild}
 use Rattle.heap_blocks.specs.Blocks.{holdsOffset, rowScan, childOf, childScan}
 

@@ -1,9 +1,8 @@
 -- Laws of the walk, one block at a time; and that what is found lies in the file.
-use mathlib.Core.Path.{_≡_, refl, sym, ap, _∙_}
+use mathlib.Core.Path.{_≡_, refl}
 use mathlib.Core.List.{List}
 use mathlib.Core.Bool.{Bool, true, false, cond}
 use Prim.Native.Nat.{ℕ, zero, suc, _+_, _-_, _^_, _≤_}
-use native.Mathlib.Omega.{arith}
 use native.Mathlib.Nat.{le-of-eq}
 use lib.ListN.{length, take, drop, length-drop}
 use lib.Seq.{take-all}

@@ -1,7 +1,7 @@
 -- Where an object of a heap lies, from the root block down, as the original walks. HDF5 File Format
 -- Specification, Fractal Heap: the entries of an indirect block stand row by row; an undefined address
 -- is a block that is not there. w is the size of offsets, t the wanted heap offset.
-use Prim.Native.Nat.{ℕ, zero, suc, _+_, _-_, _*_, _^_, _/_}
+use Prim.Native.Nat.{ℕ, zero, suc, _+_, _-_, _^_, _/_}
 use mathlib.Core.List.{List}
 use mathlib.Core.Bool.{Bool, cond, not, _&&_}
 use lib.ListN.{length, drop}

@@ -1,7 +1,7 @@
 -- Laws of IDs: the number in them, and its parts at any number of heap bits.
 use mathlib.Core.Path.{_≡_, refl, sym, ap, _∙_}
 use mathlib.Core.List.{List}
-use Prim.Native.Nat.{ℕ, zero, suc, _+_, _-_, _*_, _^_, _/_, _%_, _≤_, _<_, min}
+use Prim.Native.Nat.{ℕ, _+_, _-_, _*_, _^_, _/_, _%_, _≤_, _<_, min}
 use native.Mathlib.Omega.{arith}
 use native.Mathlib.Nat.{mod-eq-of-lt, div-eq-of-lt, lt-of-lt-of-le, lt-of-le-of-lt, one-mul}
 use native.Mathlib.Decide.{decLt}
@@ -9,13 +9,10 @@ use mathlib.Core.Logic.{dite}
 use lib.Pow.{pow-lt, pow-mono, shr-le}
 use lib.ListN.{length, getD, take, drop, length-drop}
 use lib.Seq.{take-all, getD-drop}
-use lib.Dec.{eqb}
-use borrow.Author.Tests.{eq-eqb, ne-eqb}
-use Rattle.little_endian.specs.LittleEndian.{value, leAt}
-use Rattle.little_endian.proofs.LittleEndian.{value-lt, leAt-add, leAt-byte, leAt-end, leAt-last}
-use Rattle.heap_ids.specs.declared.ManagedId.{ManagedId}
+use Rattle.fields.specs.LittleEndian.{value, leAt}
+use Rattle.fields.proofs.LittleEndian.{value-lt, leAt-add, leAt-byte, leAt-end}
 use Rattle.heap_ids.specs.declared.ManagedId.the-variants.{Decoded}
-use Rattle.heap_ids.specs.Id.{typeOf, splitId, decodedId}
+use Rattle.heap_ids.specs.Id.{splitId}
 
 -- ---- bits
 

@@ -1,9 +1,9 @@
 -- What is read lies in the file, or in the ID.
-use mathlib.Core.Path.{_≡_, refl, sym, ap, _∙_}
+use mathlib.Core.Path.{_≡_, refl}
 use mathlib.Core.List.{List}
 use mathlib.Core.Bool.{Bool, true, false, cond}
-use Prim.Native.Nat.{ℕ, _+_, _*_, _%_, _≤_}
-use lib.ListN.{length, getD}
+use Prim.Native.Nat.{ℕ, _+_, _≤_}
+use lib.ListN.{length}
 use lib.Dec.{leb, ltb, eqb}
 use borrow.Author.Tests.{leb-true}
 use Rattle.convert.specs.Undefined.{undefinedAddr}
@@ -15,7 +15,8 @@ use Rattle.fractal_heap.specs.declared.header.FractalHeapHeader.{FractalHeapHea
 use Rattle.heap_ids.specs.declared.ManagedId.{ManagedId}
 use Rattle.heap_ids.specs.declared.ManagedId.the-variants.{Decoded, Refused as NoId}
 use Rattle.fractal_heap.specs.Header.{tableOf}
-use Rattle.heap_ids.specs.Id.{decodedId, tinyIn, tinyAt}
+use Rattle.heap_ids.specs.Id.{decodedId}
+use Rattle.tiny_objects.specs.Tiny.{tinyIn, tinyAt}
 use Rattle.fractal_heap.specs.Read.{rootAt, afterId, managedAt}
 
 -- what holds of both ways of a test holds of the test

@@ -11,7 +11,6 @@ use fractal_heap::header::FractalHeapHeader;
 use fractal_heap::header::Parsed;
 use refusals::Answer;
 use refusals::refused;
-use slot::put_answer;
 
 // The twelve fields in the original's order.
 fn put_fields(fields: &mut [u64], h: FractalHeapHeader)

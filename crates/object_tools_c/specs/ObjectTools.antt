@@ -1,26 +1,14 @@
 -- What the C functions over objects for tests and tools hand back beyond an answer in its slot.
-use Prim.Native.Nat.{ℕ, zero, suc, _/_}
+use Prim.Native.Nat.{ℕ, _/_}
 use mathlib.Core.Bool.{Bool, cond}
-use mathlib.Core.List.{List, [], _∷_, _++_}
-use lib.ListN.{length, take, drop}
+use mathlib.Core.List.{List}
+use lib.ListN.{length}
 use lib.Dec.{ltb}
-use Rattle.little_endian.specs.LittleEndian.{put}
-use Rattle.refusals.specs.declared.Answer.{Answer}
-use Rattle.heap_blocks.specs.Blocks.{foundAnswer}
-use Rattle.fractal_heap.specs.declared.header.FractalHeapHeader.{FractalHeapHeader}
+use Rattle.fields.specs.LittleEndian.{put}
 use Rattle.fractal_heap.specs.declared.header.Parsed.{Parsed}
 use Rattle.fractal_heap.specs.declared.header.Parsed.the-variants.{Header, Refused}
 use Rattle.fractal_heap.specs.Header.{parsedAnswer}
-use Rattle.fractal_heap.specs.Read.{managedAt}
-
-unfoldable pub threeOf : Answer → List ℕ
-threeOf a = a .number ∷ a .first ∷ a .second ∷ []
-
--- the answers for n IDs of eight bytes
-unfoldable pub answersFrom : FractalHeapHeader → List ℕ → ℕ → ℕ → List ℕ → List ℕ
-answersFrom h s w zero ids = []
-answersFrom h s w (suc n) ids =
-    threeOf (foundAnswer (managedAt h s (take 8 ids) w)) ++ answersFrom h s w n (drop 8 ids)
+use Rattle.object_numbers.specs.ObjectNumbers.{answersFrom}
 
 -- a list that is too short for all answers gives 13
 unfoldable pub tooFew : List ℕ → List ℕ → Bool

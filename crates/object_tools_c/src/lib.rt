@@ -1,21 +1,20 @@
 // C functions over IDs and objects, for tests, comparisons and tools; the loader's functions are apart from
 // these. Each returns the refusal's number, 0 where there is none.
 ghost use mathlib.Core.Path.{_≡_};
-ghost use Prim.Native.Nat.{_*_, _/_, _≤_};
-ghost use lib.ListN.{length};
-ghost use Rattle.little_endian.specs.LittleEndian.{put};
-ghost use Rattle.slot.specs.Slot.{slotNumber, slotBytes};
+ghost use Rattle.fields.specs.Answers.{slotNumber, slotBytes};
 ghost use Rattle.heap_blocks.specs.Blocks.{foundAnswer};
 ghost use Rattle.fractal_heap.specs.Header.{headerAt};
 ghost use Rattle.fractal_heap.specs.Read.{objectBy};
-ghost use Rattle.heap_ids.specs.Id.{idTypeOf, idTypeAnswer, tinyAt};
-ghost use Rattle.object_tools_c.specs.ObjectTools.{answersFrom, eachNumber, eachList};
-use convert::to_usize;
+ghost use Rattle.heap_id_types.specs.IdTypes.{idTypeOf, idTypeAnswer};
+ghost use Rattle.tiny_objects.specs.Tiny.{tinyAt};
+ghost use Rattle.object_tools_c.specs.ObjectTools.{eachNumber, eachList};
+use fields::convert::to_usize;
 use fractal_heap::header::FractalHeapHeader;
 use fractal_heap::header::Parsed;
-use heap_ids::read_tiny_object;
+use object_numbers::read_each;
 use refusals::refused;
 use slot::put_answer;
+use tiny_objects::read_tiny_object;
 
 // Reading with an offset size of its own, which may be any byte.
 #[no_mangle]
@@ -53,23 +52,6 @@ pub extern "C" fn tools_heap_id_type(id: &[u8], slot: &mut [u8]) -> u32
     ensures { λ _. ⌜ now (slot .exit) ≡ slotBytes (now (slot .entry)) (idTypeAnswer (idTypeOf (now (id .entry)))) ⌝ }
 {
     put_answer(slot, FractalHeapHeader::heap_id_type(id).answer())
-}
-
-// Reads every eight bytes of `ids` as an ID; three places of `found` for each: number and values.
-fn read_each(h: FractalHeapHeader, file: &[u8], offset_size: u8, ids: &[u8], found: &mut [u64])
-    requires { ⌜ 3 * (length (now ids) / 8) ≤ length (now found) ⌝ }
-    ensures { λ _. ⌜ now (found .exit) ≡ put (now (found .entry)) 0 (answersFrom h (now (file .entry)) «offset_size» (length (now (ids .entry)) / 8) (now (ids .entry))) ⌝ }
-{
-    let n = ids.len() / 8;
-    let mut i: usize = 0;
-    while i < n {
-        let a = h.read_managed_object(file, &ids[8 * i..8 * i + 8], offset_size)
-            .answer();
-        found[3 * i] = a.number as u64;
-        found[3 * i + 1] = a.first;
-        found[3 * i + 2] = a.second;
-        i = i + 1;
-    }
 }
 
 // The header once, then every ID; 13 and nothing stored where the list is too short for all.

@@ -14,7 +14,8 @@ use Rattle.little_endian.proofs.LittleEndian.{length-le, value-le, value-append
 use Rattle.table.specs.Table.{fixed}
 use Rattle.table.specs.Sizes.{offsetBytes}
 use Rattle.heap_ids.specs.declared.ManagedId.the-variants.{Decoded}
-use Rattle.heap_ids.specs.Id.{typeOf, splitId, decodedId}
+use Rattle.heap_id_types.specs.IdTypes.{typeOf}
+use Rattle.heap_ids.specs.Id.{splitId, decodedId}
 use Rattle.fractal_heap.specs.declared.header.FractalHeapHeader.{FractalHeapHeader}
 use Rattle.managed_ids.specs.Ids.{managedId, idLength, idChecked, idWritten}
 use Rattle.managed_ids.proofs.Ids.{id-length, held, id-passed}

@@ -13,7 +13,6 @@ ghost use Rattle.reads.specs.Case.{Whole, Within};
 use convert::to_usize;
 use fractal_heap::header::FractalHeapHeader;
 use fractal_heap::header::Parsed;
-use heap_ids::read_tiny_object;
 use libc::STDIN_FILENO;
 use libc::STDOUT_FILENO;
 use little_endian::read_u16_le;
@@ -21,6 +20,7 @@ use little_endian::read_u32_le;
 use little_endian::read_u64_le;
 use refusals::Answer;
 use refusals::refused;
+use tiny_objects::read_tiny_object;
 
 // A case in the list: where its file and its ID begin, and where the next case does.
 enum Case {

@@ -19,7 +19,8 @@ use Rattle.heap_rows.specs.Rows.{blockSize, directRows, sizeToRows, slotSize}
 use Rattle.heap_blocks.specs.declared.Found.{Found}
 use Rattle.heap_blocks.specs.declared.Found.the-variants.{At, Refused as NotFound}
 use Rattle.heap_ids.specs.declared.ManagedId.the-variants.{Decoded}
-use Rattle.heap_ids.specs.Id.{decodedId, tinyAt}
+use Rattle.heap_ids.specs.Id.{decodedId}
+use Rattle.tiny_objects.specs.Tiny.{tinyAt}
 
 -- the fixed geometry as a header has it
 abbrev pub fixedTable : DoublingTable

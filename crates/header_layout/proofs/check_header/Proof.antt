@@ -3,8 +3,9 @@ use borrow.Author.Needs.{needs}
 use Prim.Native.Nat.{ℕ, _+_}
 use mathlib.Core.Path.{_≡_, sym, ap, _∙_}
 use native.Mathlib.Omega.{arith}
-use Rattle.little_endian.specs.LittleEndian.{leAt}
-use Rattle.header_layout.specs.Layout.{sumPlace, sumChecked, headerChecked}
+use Rattle.fields.specs.LittleEndian.{leAt}
+use Rattle.header_layout.specs.Layout.{sumPlace, headerChecked}
+use Rattle.header_frame.specs.Frame.{sumChecked}
 use Rattle.header_layout.proofs.Header.{start-within, layout-within, sum-before}
 use Rattle.header_layout.proofs.check_header.Statement.{statement}
 use Rattle.header_layout.proofs.check_header.Tie as tie
@@ -41,7 +42,9 @@ check-sum-requires c κs = (omega (arith, start-within _ _ (sym (c .before .befo
 
 -- the checksum's place by the filter length that was read
 place : (c : tie.After-sum-place) → c .sum-place .result ≡ sumPlace (leAt (c .before .before .before .before .before .before .before .before .before .args .file .now) (c .before .before .before .before .before .before .before .before .before .args .at + 7) 2) (c .before .before .before .before .before .before .before .before .before .args .offset-size) (c .before .before .before .before .before .before .before .before .before .args .length-size)
-place c = c .sum-place .ensures ∙ ap (λ (n : ℕ). sumPlace n (c .before .before .before .before .before .before .before .before .before .args .offset-size) (c .before .before .before .before .before .before .before .before .before .args .length-size)) (c .before .read-u16-le .ensures)
+place c =
+    let a = c .before .before .before .before .before .before .before .before .before .args in
+    c .sum-place .ensures ∙ ap (λ (n : ℕ). sumPlace n (a .offset-size) (a .length-size)) (c .before .read-u16-le .ensures)
 
 returns : tie.Need-returns
 unfolding headerChecked
@@ -53,7 +56,9 @@ returns-2 c = rw (sym (c .before .before .before .before .before .before .check-
 
 returns-3 : tie.Need-returns-3
 unfolding headerChecked
-returns-3 c = rw (sym (c .before .before .before .before .before .before .before .before .check-start .ensures) ∙ c .before .before .before .before .before .before .enum-told .given .1, sym (c .before .before .before .before .before .check-layout .ensures) ∙ c .before .before .before .enum-told2 .given .1) (c .check-sum .ensures ∙ ap (λ (n : ℕ). sumChecked (c .before .before .before .before .before .before .before .before .before .before .args .file .now) (c .before .before .before .before .before .before .before .before .before .before .args .at) n) (place (c .before)))
+returns-3 c =
+    let a = c .before .before .before .before .before .before .before .before .before .before .args in
+    rw (sym (c .before .before .before .before .before .before .before .before .check-start .ensures) ∙ c .before .before .before .before .before .before .enum-told .given .1, sym (c .before .before .before .before .before .check-layout .ensures) ∙ c .before .before .before .enum-told2 .given .1) (c .check-sum .ensures ∙ ap (λ (n : ℕ). sumChecked (a .file .now) (a .at) n) (place (c .before)))
 
 pub check-header-spec : {M : Type 1} → statement M
 check-header-spec =

@@ -4,10 +4,6 @@ use Rattle.heap_blocks.proofs.child_at_row.Statement.{statement}
 use Rattle.heap_blocks.proofs.child_at_row.Tie as tie
 use borrow.Author.Tests.{lt-ltb, le-ltb}
 use Rattle.heap_blocks.specs.Blocks.{childOf}
-use borrow.Author.Tests.{lt-ltb, le-ltb}
-use borrow.Author.Tests.{lt-ltb, le-ltb}
-use borrow.Author.Tests.{lt-ltb, le-ltb}
-use borrow.Author.Tests.{lt-ltb, le-ltb}
 
 block-size-for-row-requires : tie.Need-block-size-for-row-requires
 block-size-for-row-requires c κs = search needs

@@ -6,14 +6,6 @@ use mathlib.Core.Path.{sym}
 use borrow.Author.Tests.{lt-ltb, le-leb, lt-leb}
 use Rattle.heap_blocks.specs.Blocks.{holdsOffset}
 use Rattle.heap_blocks.proofs.Scanning.{not-yet}
-use mathlib.Core.Path.{sym}
-use borrow.Author.Tests.{lt-ltb, le-leb, lt-leb}
-use mathlib.Core.Path.{sym}
-use borrow.Author.Tests.{lt-ltb, le-leb, lt-leb}
-use mathlib.Core.Path.{sym}
-use borrow.Author.Tests.{lt-ltb, le-leb, lt-leb}
-use mathlib.Core.Path.{sym}
-use borrow.Author.Tests.{lt-ltb, le-leb, lt-leb}
 
 returns : tie.Need-returns
 unfolding holdsOffset

@@ -1,14 +1,9 @@
 -- `decode_managed_id` meets its contract. Assumes nothing.
+use borrow.Author.Tests.{eq-eqb, ne-eqb}
+use Rattle.heap_ids.specs.Id.{decodedId}
 use borrow.Author.Needs.{needs}
 use Rattle.heap_ids.proofs.decode_managed_id.Statement.{statement}
 use Rattle.heap_ids.proofs.decode_managed_id.Tie as tie
-use mathlib.Core.Path.{ap}
-use native.Mathlib.Omega.{arith}
-use borrow.Author.Tests.{eq-eqb, ne-eqb}
-use Prim.Native.Nat.{_-_}
-use lib.ListN.{length}
-use Rattle.heap_ids.proofs.Ids.{split-least}
-use Rattle.heap_ids.specs.Id.{decodedId}
 
 returns : tie.Need-returns
 unfolding decodedId
@@ -24,33 +19,18 @@ returns-2 : tie.Need-returns-2
 unfolding decodedId
 returns-2 c = rw (ne-eqb _ _ (c .before .before .before .if1 .left), ← c .before .type-of .ensures, ne-eqb _ _ (c .if2 .taken))
 
+sub-split-id : tie.Need-sub-split-id
+sub-split-id c = search needs
+
 id-number-requires : tie.Need-id-number-requires
 id-number-requires c κs = search needs
 
-sub-least : tie.Need-sub-least
-sub-least c = search needs
-
-least-requires : tie.Need-least-requires
-least-requires c κs = search needs
-
-mul-saturating-sub : tie.Need-mul-saturating-sub
-mul-saturating-sub c = search needs
-
-saturating-sub-requires : tie.Need-saturating-sub-requires
-saturating-sub-requires c κs = search needs
-
-high-bits-requires : tie.Need-high-bits-requires
-high-bits-requires c κs = search needs
-
-low-bits-requires : tie.Need-low-bits-requires
-low-bits-requires c κs = search needs
-
-low-bits-requires-2 : tie.Need-low-bits-requires-2
-low-bits-requires-2 c κs = search needs
+split-id-requires : tie.Need-split-id-requires
+split-id-requires c κs = search needs
 
 returns-3 : tie.Need-returns-3
 unfolding decodedId
-returns-3 c = rw (ne-eqb _ _ (c .before .before .before .before .before .before .before .before .before .if1 .left), ← c .before .before .before .before .before .before .before .type-of .ensures, eq-eqb _ _ (c .before .before .before .before .before .before .if2 .left), ← c .before .before .before .before .before .id-number .ensures, c .low-bits2 .ensures, c .before .low-bits .ensures, c .before .before .high-bits .ensures, c .before .before .before .saturating-sub .ensures, c .before .before .before .before .least .ensures) (split-least (c .before .before .before .before .before .before .before .before .before .before .before .args .max-heap-size) (length (c .before .before .before .before .before .before .before .before .before .before .before .args .id .now) - 1) (c .before .before .before .before .before .id-number .result) (omega arith) (omega arith))
+returns-3 c = rw (ne-eqb _ _ (c .before .before .before .before .before .if1 .left), ← c .before .before .before .type-of .ensures, eq-eqb _ _ (c .before .before .if2 .left), ← c .before .id-number .ensures) (c .split-id .ensures)
 
 pub decode-managed-id-spec : {M : Type 1} → statement M
 decode-managed-id-spec =
@@ -60,12 +40,7 @@ decode-managed-id-spec =
     shared-slice-read-type-of
     type-of-requires
     returns-2
+    sub-split-id
     id-number-requires
-    sub-least
-    least-requires
-    mul-saturating-sub
-    saturating-sub-requires
-    high-bits-requires
-    low-bits-requires
-    low-bits-requires-2
+    split-id-requires
     returns-3)

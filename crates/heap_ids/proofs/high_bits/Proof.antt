@@ -5,11 +5,6 @@ use Rattle.heap_ids.proofs.high_bits.Tie as tie
 use mathlib.Core.Path.{sym}
 use native.Mathlib.Omega.{arith}
 use Rattle.heap_ids.proofs.Ids.{div-wide}
-use mathlib.Core.Path.{sym}
-use mathlib.Core.Path.{sym}
-use mathlib.Core.Path.{sym}
-use mathlib.Core.Path.{sym}
-use mathlib.Core.Path.{sym}
 
 shr-result : tie.Need-shr-result
 shr-result c = search needs

@@ -6,11 +6,6 @@ use mathlib.Core.Path.{sym}
 use native.Mathlib.Omega.{arith}
 use lib.Pow.{pow-pos}
 use Rattle.heap_ids.proofs.Ids.{one-shl, mod-wide}
-use mathlib.Core.Path.{sym}
-use mathlib.Core.Path.{sym}
-use mathlib.Core.Path.{sym}
-use mathlib.Core.Path.{sym}
-use mathlib.Core.Path.{sym}
 
 shl-result : tie.Need-shl-result
 shl-result c = search needs

@@ -8,11 +8,6 @@ use Prim.Native.Nat.{ℕ, _≤_, _<_, _^_}
 use lib.ListN.{length}
 use Rattle.little_endian.specs.LittleEndian.{leAt}
 use Rattle.heap_ids.proofs.Ids.{number-none, number-more, number-small}
-use mathlib.Core.Path.{_≡_, refl, ap, _∙_}
-use mathlib.Core.Path.{_≡_, refl, ap, _∙_}
-use mathlib.Core.Path.{_≡_, refl, ap, _∙_}
-use mathlib.Core.Path.{_≡_, refl, ap, _∙_}
-use mathlib.Core.Path.{_≡_, refl, ap, _∙_}
 
 abbrev Inv-loop : tie.InvT-loop
 Inv-loop id number₀ i₀ number i = (0 < i) × (i ≤ length id) × (number ≡ leAt id i 8)

@@ -27,7 +27,9 @@ read-from-direct-block-requires : tie.Need-read-from-direct-block-requires Inv-l
 read-from-direct-block-requires c κs = search needs
 
 returns : tie.Need-returns Inv-loop μ-loop
-returns c = c .read-from-direct-block .ensures ∙ sym (c .before .before .before .before .before .before .loop .inv .1 ∙ walk-direct _ _ _ _ _ _ (c .before .before .before .before .before .before .loop .depth - 1) _ _ _ (omega arith) _ (c .before .before .before .before .child-of-block .ensures) _ _ _ (c .before .before .child .given .1))
+returns c =
+    let l = c .before .before .before .before .before .before in
+    c .read-from-direct-block .ensures ∙ sym (l .loop .inv .1 ∙ walk-direct _ _ _ _ _ _ (l .loop .depth - 1) _ _ _ (omega arith) _ (c .before .before .before .before .child-of-block .ensures) _ _ _ (c .before .before .child .given .1))
 
 enum-known-child-2 : tie.Need-enum-known-child-2 Inv-loop μ-loop
 enum-known-child-2 c = search needs
@@ -39,7 +41,9 @@ loop-less : tie.Need-loop-less Inv-loop μ-loop
 loop-less c = search needs
 
 loop-again : tie.Need-loop-again Inv-loop μ-loop
-loop-again c = (omega arith, c .before .before .before .before .before .loop .inv .1 ∙ walk-deeper _ _ _ _ _ _ (c .before .before .before .before .before .loop .depth - 1) _ _ _ (omega arith) _ (c .before .before .before .child-of-block .ensures) _ _ _ (c .before .child2 .given .1))
+loop-again c =
+    let l = c .before .before .before .before .before in
+    (omega arith, l .loop .inv .1 ∙ walk-deeper _ _ _ _ _ _ (l .loop .depth - 1) _ _ _ (omega arith) _ (c .before .before .before .child-of-block .ensures) _ _ _ (c .before .child2 .given .1))
 
 enum-told : tie.Need-enum-told Inv-loop μ-loop
 enum-told c = search needs
@@ -48,13 +52,17 @@ saturating-add-requires : tie.Need-saturating-add-requires Inv-loop μ-loop
 saturating-add-requires c κs = search needs
 
 returns-2 : tie.Need-returns-2 Inv-loop μ-loop
-returns-2 c = rw (c .saturating-add .ensures) (sym (c .before .before .before .before .before .loop .inv .1 ∙ walk-missing _ _ _ _ _ _ (c .before .before .before .before .before .loop .depth - 1) _ _ _ (omega arith) _ (c .before .before .before .child-of-block .ensures) (c .before .enum-told .given .1)))
+returns-2 c =
+    let l = c .before .before .before .before .before in
+    rw (c .saturating-add .ensures) (sym (l .loop .inv .1 ∙ walk-missing _ _ _ _ _ _ (l .loop .depth - 1) _ _ _ (omega arith) _ (c .before .before .before .child-of-block .ensures) (c .before .enum-told .given .1)))
 
 enum-known-e : tie.Need-enum-known-e Inv-loop μ-loop
 enum-known-e c = search needs
 
 returns-3 : tie.Need-returns-3 Inv-loop μ-loop
-returns-3 c = sym (c .before .before .before .before .before .loop .inv .1 ∙ walk-stop _ _ _ _ _ _ (c .before .before .before .before .before .loop .depth - 1) _ _ _ (omega arith) _ (c .before .before .before .child-of-block .ensures) _ (c .before .e .given .1))
+returns-3 c =
+    let l = c .before .before .before .before .before in
+    sym (l .loop .inv .1 ∙ walk-stop _ _ _ _ _ _ (l .loop .depth - 1) _ _ _ (omega arith) _ (c .before .before .before .child-of-block .ensures) _ (c .before .e .given .1))
 
 returns-4 : tie.Need-returns-4 Inv-loop μ-loop
 returns-4 c = sym (c .before .loop .inv .1 ∙ walk-end _ _ _ _ _ _ _ _ _ (omega arith))

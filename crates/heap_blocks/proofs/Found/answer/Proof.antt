@@ -4,10 +4,6 @@ use Rattle.heap_blocks.proofs.Found.answer.Statement.{statement}
 use Rattle.heap_blocks.proofs.Found.answer.Tie as tie
 use mathlib.Core.Path.{sym, ap}
 use Rattle.heap_blocks.specs.Blocks.{foundAnswer}
-use mathlib.Core.Path.{sym, ap}
-use mathlib.Core.Path.{sym, ap}
-use mathlib.Core.Path.{sym, ap}
-use mathlib.Core.Path.{sym, ap}
 
 enum-known-self : tie.Need-enum-known-self
 enum-known-self c = search needs

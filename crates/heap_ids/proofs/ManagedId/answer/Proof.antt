@@ -4,11 +4,6 @@ use Rattle.heap_ids.proofs.ManagedId.answer.Statement.{statement}
 use Rattle.heap_ids.proofs.ManagedId.answer.Tie as tie
 use mathlib.Core.Path.{sym, ap}
 use Rattle.heap_ids.specs.Id.{decodedAnswer}
-use mathlib.Core.Path.{sym, ap}
-use mathlib.Core.Path.{sym, ap}
-use mathlib.Core.Path.{sym, ap}
-use mathlib.Core.Path.{sym, ap}
-use mathlib.Core.Path.{sym, ap}
 
 enum-known-self : tie.Need-enum-known-self
 enum-known-self c = search needs

@@ -1,8 +1,6 @@
 -- `decode_managed_id` meets its contract. Assumes nothing.
 use borrow.Author.Needs.{needs}
-use Rattle.fractal_heap.proofs.header.FractalHeapHeader.decode_managed_id.Statement.{
-  statement,
-}
+use Rattle.fractal_heap.proofs.header.FractalHeapHeader.decode_managed_id.Statement.{statement}
 use Rattle.fractal_heap.proofs.header.FractalHeapHeader.decode_managed_id.Tie as tie
 
 decode-managed-id-requires : tie.Need-decode-managed-id-requires

@@ -6,11 +6,6 @@ use mathlib.Core.Path.{sym, _∙_}
 use native.Mathlib.Omega.{arith}
 use Rattle.fractal_heap.specs.Header.{headerAt}
 use Rattle.header_layout.proofs.Header.{header-fits}
-use mathlib.Core.Path.{sym, _∙_}
-use mathlib.Core.Path.{sym, _∙_}
-use mathlib.Core.Path.{sym, _∙_}
-use mathlib.Core.Path.{sym, _∙_}
-use mathlib.Core.Path.{sym, _∙_}
 
 check-header-requires : tie.Need-check-header-requires
 check-header-requires c κs = search needs

@@ -3,11 +3,6 @@ use Rattle.fractal_heap.proofs.header.FractalHeapHeader.table.Statement
 use Rattle.fractal_heap.proofs.header.FractalHeapHeader.table.Tie as tie
 use mathlib.Core.Path.{refl}
 use Rattle.fractal_heap.specs.Header.{tableOf}
-use mathlib.Core.Path.{refl}
-use mathlib.Core.Path.{refl}
-use mathlib.Core.Path.{refl}
-use mathlib.Core.Path.{refl}
-use mathlib.Core.Path.{refl}
 
 returns : tie.Need-returns
 unfolding tableOf

@@ -4,11 +4,6 @@ use Rattle.fractal_heap.proofs.header.Parsed.answer.Statement.{statemen
 use Rattle.fractal_heap.proofs.header.Parsed.answer.Tie as tie
 use mathlib.Core.Path.{sym, ap}
 use Rattle.fractal_heap.specs.Header.{parsedAnswer}
-use mathlib.Core.Path.{sym, ap}
-use mathlib.Core.Path.{sym, ap}
-use mathlib.Core.Path.{sym, ap}
-use mathlib.Core.Path.{sym, ap}
-use mathlib.Core.Path.{sym, ap}
 
 enum-told : tie.Need-enum-told
 enum-told c = search needs

@@ -15,10 +15,14 @@ read-managed-object-requires : tie.Need-read-managed-object-requires
 read-managed-object-requires c κs = search needs
 
 returns : tie.Need-returns
-returns c = sym (ap (λ p. objectBy p (c .before .before .before .before .before .args .file .now) (c .before .before .before .before .before .args .id .now) (c .before .before .before .before .before .args .offset-size)) (c .before .self .given .1))
+returns c =
+    let a = c .before .before .before .before .before .args in
+    sym (ap (λ p. objectBy p (a .file .now) (a .id .now) (a .offset-size)) (c .before .self .given .1))
 
 returns-2 : tie.Need-returns-2
-returns-2 c = c .read-managed-object .ensures ∙ sym (ap (λ p. objectBy p (c .before .before .before .before .before .before .args .file .now) (c .before .before .before .before .before .before .args .id .now) (c .before .before .before .before .before .before .args .offset-size)) (c .before .before .self2 .given .1))
+returns-2 c =
+    let a = c .before .before .before .before .before .before .args in
+    c .read-managed-object .ensures ∙ sym (ap (λ p. objectBy p (a .file .now) (a .id .now) (a .offset-size)) (c .before .before .self2 .given .1))
 
 pub read-managed-object-spec : {M : Type 1} → statement M
 read-managed-object-spec =

@@ -1,0 +1,28 @@
+-- What frames a header: HDF5 File Format Specification, Fractal Heap: the signature FRHP and the version at its start,
+-- and the checksum of all bytes before it.
+use Prim.Native.Nat.{ℕ, _+_}
+use mathlib.Core.List.{List}
+use mathlib.Core.Bool.{cond}
+use lib.ListN.{getD, take, drop}
+use lib.Dec.{eqb}
+use Rattle.fields.specs.LittleEndian.{leAt}
+use Rattle.fields.specs.Fields.{lenChecked, afterCheck}
+use Rattle.fields.specs.declared.bytes.Checked.{Checked}
+use Rattle.fields.specs.declared.bytes.Checked.the-variants.{Passed, Refused}
+use Rattle.refusals.specs.declared.FormatError.the-variants.{InvalidFractalHeapSignature, InvalidFractalHeapVersion, ChecksumMismatch}
+use Rattle.checksum.specs.Lookup3.{hashlittle}
+
+-- FRHP and version 0
+unfoldable pub startChecked : List ℕ → ℕ → Checked
+startChecked s p =
+    afterCheck (lenChecked s p 5) Refused
+    (cond (eqb (leAt s p 4) 0x50485246)
+    (cond (eqb (getD s (p + 4) 0) 0) Passed (Refused (InvalidFractalHeapVersion (getD s (p + 4) 0))))
+    (Refused InvalidFractalHeapSignature))
+
+-- the checksum at its place is that of all bytes of the header before it
+unfoldable pub sumChecked : List ℕ → ℕ → ℕ → Checked
+sumChecked s p place =
+    afterCheck (lenChecked s (p + place) 4) Refused
+    (cond (eqb (hashlittle (take place (drop p s))) (leAt s (p + place) 4)) Passed
+    (Refused (ChecksumMismatch (leAt s (p + place) 4) (hashlittle (take place (drop p s))))))

@@ -1,0 +1,20 @@
+-- Where the walk begins: at the root block of a heap. w is the size of offsets.
+use Prim.Native.Nat.{ℕ}
+use mathlib.Core.List.{List}
+use mathlib.Core.Bool.{cond}
+use lib.Dec.{eqb}
+use Rattle.fields.specs.Fields.{undefinedAddr}
+use Rattle.refusals.specs.declared.FormatError.the-variants.{UnexpectedEof}
+use Rattle.heap_rows.specs.declared.DoublingTable.{DoublingTable}
+use Rattle.heap_blocks.specs.Blocks.{directAt, walkFrom}
+use Rattle.heap_blocks.specs.declared.Found.{Found}
+use Rattle.heap_blocks.specs.declared.Found.the-variants.{Refused}
+
+-- len bytes at heap offset t, from the root block of n rows at a on: no rows mean that the root is a direct block,
+-- at heap offset 0
+unfoldable pub fromRoot : DoublingTable → List ℕ → ℕ → ℕ → ℕ → ℕ → ℕ → Found
+fromRoot table s a n t len w =
+    cond (undefinedAddr a w) (Refused (UnexpectedEof 1 0))
+    (cond (eqb n 0)
+    (directAt s a 0 t len)
+    (walkFrom table s w t len 64 a n 0))

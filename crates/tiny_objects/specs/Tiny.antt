@@ -1,0 +1,25 @@
+-- Tiny objects. HDF5 File Format Specification, Fractal Heap. Where the original reads an ID otherwise than the
+-- format, its reading stands here (docs/DIFFERENCES.md).
+use Prim.Native.Nat.{ℕ, _+_, _*_, _%_}
+use mathlib.Core.List.{List}
+use mathlib.Core.Bool.{cond}
+use lib.ListN.{length, getD}
+use lib.Dec.{leb, ltb, eqb}
+use Rattle.refusals.specs.declared.FormatError.the-variants.{UnexpectedEof}
+use Rattle.heap_blocks.specs.declared.Found.{Found}
+use Rattle.heap_blocks.specs.declared.Found.the-variants.{At, Refused as NotFound}
+
+-- len bytes at start of an ID of n bytes
+unfoldable pub tinyIn : ℕ → ℕ → ℕ → Found
+tinyIn start len n =
+    cond (leb (start + len) n) (At start len) (NotFound (UnexpectedEof (start + len) n))
+
+-- the tiny object in the ID s, where IDs have l bytes: above 17 a length of 12 bits in two bytes, else
+-- of 4 bits in one; one is added
+unfoldable pub tinyAt : ℕ → List ℕ → Found
+tinyAt l s =
+    cond (ltb 17 l)
+    (cond (ltb (length s) 2) (NotFound (UnexpectedEof 2 (length s)))
+    (tinyIn 2 (getD s 0 0 % 16 * 256 + getD s 1 0 + 1) (length s)))
+    (cond (eqb (length s) 0) (NotFound (UnexpectedEof 1 0))
+    (tinyIn 1 (getD s 0 0 % 16 + 1) (length s)))
