@@ -3,9 +3,9 @@ use mathlib.Core.Path.{sym, _∙_}
 use native.Mathlib.Omega.{arith}
 use borrow.Author.Tests.{ltb-true, ltb-false}
 use Rattle.table.specs.Table.{fixed}
 use Rattle.plan_steps.proofs.Stepping.{size-fits, step-open, same-is}
-use Rattle.plan_steps.proofs.advance.Statement.{statement}
-use Rattle.plan_steps.proofs.advance.Tie as tie
+use Rattle.plan_search.proofs.advance.Statement.{statement}
+use Rattle.plan_search.proofs.advance.Tie as tie
 
 too-full-requires : tie.Need-too-full-requires
 too-full-requires c κs = (c .pre .0, omega (arith, size-fits ((c) .args .offset-size) ((c) .args .size) (omega arith) ((c) .pre .1)))

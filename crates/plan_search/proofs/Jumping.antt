@@ -12,9 +12,9 @@ use Rattle.table.specs.Slots.{slotBits, slotAt, slotEnd}
 use Rattle.table.specs.declared.Slot.{Slot}
 use Rattle.table.proofs.Powers.{le-of-not-lt, pow-split}
 use Rattle.table.proofs.Slots.{Start, end-gt, end-le, start-here, start-next, end-start}
 use Rattle.plan_steps.specs.Steps.{openAt}
-use Rattle.plan_steps.specs.Spans.{ceilBits}
+use Rattle.plan_search.specs.Spans.{ceilBits}
 use Rattle.plan_steps.proofs.Opening.{open-pass}
 
 module _ (t : Table) (g : t .startBits ≤ t .directBits) (k : t .startBits ≤ t .heapBits) where
   -- from a slot's start to the next multiple of 2 ^ e no slot holds n

@@ -1,9 +1,9 @@
 -- `open_block` meets its contract. Assumes nothing.
 use borrow.Author.Needs.{needs}
 use native.Mathlib.Omega.{arith}
 use Rattle.plan_steps.proofs.Stepping.{size-fits, in-heap, new-is, ends-is}
-use Rattle.plan_steps.proofs.open_block.Statement.{statement}
-use Rattle.plan_steps.proofs.open_block.Tie as tie
+use Rattle.plan_search.proofs.open_block.Statement.{statement}
+use Rattle.plan_search.proofs.open_block.Tie as tie
 
 direct-block-header-requires : tie.Need-direct-block-header-requires
 direct-block-header-requires c κs = search needs

@@ -4,12 +4,12 @@ use Prim.Native.Nat.{_-_}
 use mathlib.Core.Path.{sym, _∙_, subst}
 use native.Mathlib.Omega.{arith}
 use lib.ListN.{length}
 use Rattle.plan_steps.specs.declared.State.{State}
 use Rattle.plan_steps.proofs.Stepping.{limit-small}
 use Rattle.plan_steps.proofs.Running.{Going, going-start, going-on, going-ends, going-done, sound-bounded}
 use Rattle.plan_steps.proofs.Filling.{next-later, next-opens, going-fill}
-use Rattle.plan_steps.proofs.run_all.Statement.{statement}
-use Rattle.plan_steps.proofs.run_all.Tie as tie
+use Rattle.plan_runs.proofs.run_all.Statement.{statement}
+use Rattle.plan_runs.proofs.run_all.Tie as tie
 
 abbrev Inv-loop : tie.InvT-loop
 Inv-loop sizes offset-size s₀ i₀ s i = Going offset-size sizes s i

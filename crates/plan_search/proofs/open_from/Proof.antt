@@ -4,13 +4,13 @@ use mathlib.Core.Path.{_≡_, refl, sym, ap, _∙_, subst}
 use native.Mathlib.Omega.{arith}
 use Rattle.table.specs.Table.{fixed}
 use Rattle.table.specs.declared.Slot.{Slot}
 use Rattle.plan_steps.specs.Steps.{openAt}
-use Rattle.plan_steps.specs.Spans.{ceilBits}
+use Rattle.plan_search.specs.Spans.{ceilBits}
 use Rattle.plan_steps.specs.declared.Open.the-variants.{At}
 use Rattle.plan_steps.proofs.Opening.{open-here, open-full}
-use Rattle.plan_steps.proofs.Jumping.{Jumped, jumped}
-use Rattle.plan_steps.proofs.open_from.Statement.{statement}
-use Rattle.plan_steps.proofs.open_from.Tie as tie
+use Rattle.plan_search.proofs.Jumping.{Jumped, jumped}
+use Rattle.plan_search.proofs.open_from.Statement.{statement}
+use Rattle.plan_search.proofs.open_from.Tie as tie
 
 abbrev Inv-loop : tie.InvT-loop
 Inv-loop cursor need span from₀ from = (from ≤ 2 ^ 40) × (span ≡ 2 ^ ceilBits need) × (openAt fixed need cursor ≡ openAt fixed need from)
