@@ -11,11 +11,12 @@ use Rattle.table.specs.Sizes.{directHeader, indirectSize}
 use Rattle.table.specs.Capacity.{sum, capacities, capacity}
 use Rattle.table.proofs.Capacity.{take-capacities, capacity-small}
 use Rattle.plan_steps.specs.Steps.{blockEnd}
-use Rattle.plan.specs.Answer.{rootRows, rowTotals, totals}
-use Rattle.plan.specs.Requires.{Totalled}
+use Rattle.plan_end.specs.End.{rootRows}
+use Rattle.plan_end.specs.Requires.{Totalled}
+use Rattle.plan_end.proofs.Room.{Reach, reach, no-rows}
+use Rattle.plan.specs.Answer.{rowTotals, totals}
 use Rattle.plan_steps.specs.declared.State.{State}
 use Rattle.plan.specs.declared.ManagedPlan.{ManagedPlan}
-use Rattle.plan.proofs.Room.{Reach, reach, no-rows}
 
 -- the capacities of all rows give the capacity of some
 pub capacity-is : (h n : ℕ) (per : List ℕ) → n ≤ 29 → per ≡ capacities fixed h 29 → 4 * sum (take n per) ≡ capacity fixed h n

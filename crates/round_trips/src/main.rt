@@ -7,6 +7,8 @@ use checksum::jenkins_lookup3;
 use fields::bytes::saturating_add;
 use fractal_heap::header::FractalHeapHeader;
 use managed_ids::write_managed_id;
+use object_reads::fixed_header;
+use object_reads::read_object;
 use plan::ManagedPlan;
 use plan::Planned;
 use refusals::Answer;
@@ -19,8 +21,6 @@ use report::number;
 use report::text;
 use round_trip::RoundTrip;
 use round_trip::round_trip;
-use whole_way::fixed_header;
-use whole_way::read_object;
 
 // The most objects of a list, and the bytes of the file.
 const PLACES: usize = 64;

@@ -7,10 +7,10 @@ use Rattle.fields.specs.declared.bytes.Checked.the-variants.{Passed}
 use Rattle.table.specs.Table.{fixed}
 use Rattle.plan_checks.specs.Checks.{inputChecked}
 use Rattle.plan_checks.proofs.Checking.{all-small, passing}
-use Rattle.plan.specs.Requires.{Totalled}
+use Rattle.plan_end.specs.Requires.{Totalled}
 use Rattle.plan.specs.Answer.{totals as totalsOf}
 use Rattle.plan.specs.declared.Planned.the-variants.{Accepted}
-use Rattle.plan.proofs.Room.{totalled}
+use Rattle.plan_end.proofs.Room.{totalled}
 use Rattle.plan.proofs.Answering.{answers, refuses}
 use Rattle.plan.proofs.planned_for.Statement.{statement}
 use Rattle.plan.proofs.planned_for.Tie as tie

@@ -5,7 +5,8 @@ use mathlib.Core.Path.{sym, ap, _∙_}
 use Rattle.plan.specs.declared.Planned.{Planned}
 use Rattle.table.specs.Table.{fixed}
 use Rattle.plan_steps.specs.Steps.{planOffsets, planStarts}
-use Rattle.round_trip.specs.RoundTrip.{serializedAt, nonempty, cameBack}
+use Rattle.region_in_file.specs.InFile.{serializedAt}
+use Rattle.round_trip.specs.RoundTrip.{nonempty, cameBack}
 use Rattle.round_trip.proofs.Files.{by-answer, file-by, root-sum, rows-small, all-came}
 use borrow.Author.Needs.{needs}
 use Rattle.round_trip.proofs.round_trip.Statement.{statement}
