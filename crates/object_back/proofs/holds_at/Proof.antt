@@ -13,7 +13,9 @@ has-room-requires : tie.Need-has-room-requires
 has-room-requires c κs = search needs
 
 add-end : tie.Need-add-end
-add-end c = omega (arith, leb-true (c .before .before .before .before .args .place + c .before .before .before .before .args .size) (length (c .before .before .before .before .args .file .now)) (sym (c .before .has-room .ensures) ∙ c .if1 .taken))
+add-end c =
+    let a = c .before .before .before .before .args in
+    omega (arith, leb-true (a .place + a .size) (length (a .file .now)) (sym (c .before .has-room .ensures) ∙ c .if1 .taken))
 
 sub-same-bytes : tie.Need-sub-same-bytes
 sub-same-bytes c = search needs

@@ -27,7 +27,10 @@ shared-slice-read-if2-2 : tie.Need-shared-slice-read-if2-2 Inv-loop μ-loop
 shared-slice-read-if2-2 c = omega arith
 
 returns-2 : tie.Need-returns-2 Inv-loop μ-loop
-returns-2 c = sym (c .before .before .before .before .loop .inv .2 ∙ same-stop (c .before .before .before .before .before .before .args .left .now) (c .before .before .before .before .before .before .args .right .now) (c .before .before .before .before .loop .i) (omega arith) (omega arith) (c .if2 .taken))
+returns-2 c =
+    let a = c .before .before .before .before .before .before .args in
+    let loop = c .before .before .before .before .loop in
+    sym (loop .inv .2 ∙ same-stop (a .left .now) (a .right .now) (loop .i) (omega arith) (omega arith) (c .if2 .taken))
 
 add-i : tie.Need-add-i Inv-loop μ-loop
 add-i c = omega arith
@@ -36,7 +39,10 @@ loop-less : tie.Need-loop-less Inv-loop μ-loop
 loop-less c = omega arith
 
 loop-again : tie.Need-loop-again Inv-loop μ-loop
-loop-again c = (omega arith, omega arith, c .before .before .before .before .loop .inv .2 ∙ same-next (c .before .before .before .before .before .before .args .left .now) (c .before .before .before .before .before .before .args .right .now) (c .before .before .before .before .loop .i) (omega arith) (omega arith) (c .if2 .left))
+loop-again c =
+    let a = c .before .before .before .before .before .before .args in
+    let loop = c .before .before .before .before .loop in
+    (omega arith, omega arith, loop .inv .2 ∙ same-next (a .left .now) (a .right .now) (loop .i) (omega arith) (omega arith) (c .if2 .left))
 
 returns-3 : tie.Need-returns-3 Inv-loop μ-loop
 returns-3 c = sym (c .before .loop .inv .2 ∙ same-end (c .before .before .before .args .left .now) (c .before .before .before .args .right .now) (c .before .loop .i) (omega arith) (omega arith))

@@ -11,13 +11,19 @@ has-room-requires : tie.Need-has-room-requires
 has-room-requires c κs = search needs
 
 add-result : tie.Need-add-result
-add-result c = omega (arith, leb-true (c .before .before .args .from + c .before .before .args .size) (c .before .before .args .total) (sym (c .before .has-room .ensures) ∙ c .if1 .taken))
+add-result c =
+    let a = c .before .before .args in
+    omega (arith, leb-true (a .from + a .size) (a .total) (sym (c .before .has-room .ensures) ∙ c .if1 .taken))
 
 returns : tie.Need-returns
-returns c = omega (arith, leb-true (c .before .before .args .from + c .before .before .args .size) (c .before .before .args .total) (sym (c .before .has-room .ensures) ∙ c .if1 .taken))
+returns c =
+    let a = c .before .before .args in
+    omega (arith, leb-true (a .from + a .size) (a .total) (sym (c .before .has-room .ensures) ∙ c .if1 .taken))
 
 returns-2 : tie.Need-returns-2
-returns-2 c = omega (arith, leb-false (c .before .before .args .from + c .before .before .args .size) (c .before .before .args .total) (sym (c .before .has-room .ensures) ∙ c .if1 .left))
+returns-2 c =
+    let a = c .before .before .args in
+    omega (arith, leb-false (a .from + a .size) (a .total) (sym (c .before .has-room .ensures) ∙ c .if1 .left))
 
 pub part-end-spec : {M : Type 1} → statement M
 part-end-spec = tie.close (tie.spec has-room-requires add-result returns returns-2)

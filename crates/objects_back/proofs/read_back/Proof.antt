@@ -51,7 +51,9 @@ back-one-requires : tie.Need-back-one-requires Inv-loop μ-loop
 back-one-requires c κs = search needs
 
 add-back : tie.Need-add-back Inv-loop μ-loop
-add-back c = omega (arith, one-more _ _ _ _ _ _ _ _ _ _ (c .before .before .before .before .before .before .loop .inv) (c .before .before .before .before .before .loop-test .taken) _ (c .before .before .before .part-end .ensures) _ (c .back-one .ensures), c .before .before .before .before .before .loop-test .taken)
+add-back c =
+    let loop-test = c .before .before .before .before .before .loop-test in
+    omega (arith, one-more _ _ _ _ _ _ _ _ _ _ (c .before .before .before .before .before .before .loop .inv) (loop-test .taken) _ (c .before .before .before .part-end .ensures) _ (c .back-one .ensures), loop-test .taken)
 
 add-i : tie.Need-add-i Inv-loop μ-loop
 add-i c = omega (arith, c .before .before .before .before .before .loop-test .taken)

@@ -21,16 +21,25 @@ enum-known-b : tie.Need-enum-known-b
 enum-known-b c = search needs
 
 in-new-requires : tie.Need-in-new-requires
-in-new-requires c κs = ((c .before .before .before .before .before .before) .pre .0, (omega (arith, size-fits ((c .before .before .before .before .before .before) .args .offset-size) ((c .before .before .before .before .before .before) .args .size) (omega arith) ((c .before .before .before .before .before .before) .pre .1)), in-heap _ _ _ _ ((c .before .before .before) .open-from .ensures) (c .before .b .given .1)))
+in-new-requires c κs =
+    let a = c .before .before .before .before .before .before .args in
+    let pre = c .before .before .before .before .before .before .pre in
+    (pre .0, (omega (arith, size-fits (a .offset-size) (a .size) (omega arith) (pre .1)), in-heap _ _ _ _ (c .before .before .before .open-from .ensures) (c .before .b .given .1)))
 
 add-t11 : tie.Need-add-t11
-add-t11 c = omega (arith, in-heap _ _ _ _ ((c .before .before .before .before .before) .open-from .ensures) ((c .before .before .before) .b .given .1) .ends, (c .before .before .before .before .before .before .before) .direct-block-header .ensures, size-fits ((c .before .before .before .before .before .before .before .before) .args .offset-size) ((c .before .before .before .before .before .before .before .before) .args .size) (omega arith) ((c .before .before .before .before .before .before .before .before) .pre .1))
+add-t11 c =
+    let a = c .before .before .before .before .before .before .before .before .args in
+    let pre = c .before .before .before .before .before .before .before .before .pre in
+    let direct-block-header = c .before .before .before .before .before .before .before .direct-block-header in
+    omega (arith, in-heap _ _ _ _ (c .before .before .before .before .before .open-from .ensures) (c .before .before .before .b .given .1) .ends, direct-block-header .ensures, size-fits (a .offset-size) (a .size) (omega arith) (pre .1))
 
 enum-told : tie.Need-enum-told
 enum-told c = search needs
 
 returns : tie.Need-returns
-returns c = new-is _ _ _ _ ((c .before .before .before .before .before .before .before) .direct-block-header .ensures) _ ((c .before .before .before .before .before) .open-from .ensures) _ _ ((c .before .before .before) .b .given .1) (c .before .in-new .ensures)
+returns c =
+    let direct-block-header = c .before .before .before .before .before .before .before .direct-block-header in
+    new-is _ _ _ _ (direct-block-header .ensures) _ (c .before .before .before .before .before .open-from .ensures) _ _ (c .before .before .before .b .given .1) (c .before .in-new .ensures)
 
 returns-2 : tie.Need-returns-2
 returns-2 c = ends-is _ _ _ _ ((c .before .before .before .before) .direct-block-header .ensures) _ ((c .before .before) .open-from .ensures) (c .enum-told .given .1)

@@ -32,7 +32,10 @@ returns c = sym ((c .before .before .before .before) .loop .inv .2 ∙ open-here
 
 jump : (c : tie.After-struct-known2 Inv-loop μ-loop)
     → Jumped ((c .before .before .before .before .before .before .before) .args .need) ((c .before .before .before .before .before) .loop .from) ((c .before .before .before .before .before .before) .span-of .result) ((c .before .before .before) .locate .result .start + (c .before .before .before) .locate .result .size)
-jump c = jumped _ _ _ ((c .before .before .before) .locate .result) ((c .before .before .before .before .before .before) .span-of .ensures) ((c .before .before .before .before .before .before .before) .pre .1) ((c .before .before .before) .locate .ensures) (omega (arith, (c .before .before .before .before) .loop-test .taken)) (c .before .if1 .left)
+jump c =
+    let pre = c .before .before .before .before .before .before .before .pre in
+    let locate = c .before .before .before .locate in
+    jumped _ _ _ (locate .result) (c .before .before .before .before .before .before .span-of .ensures) (pre .1) (locate .ensures) (omega (arith, c .before .before .before .before .loop-test .taken)) (c .before .if1 .left)
 
 add-from : tie.Need-add-from Inv-loop μ-loop
 add-from c = omega (arith, jump c .sum)
