@@ -6,6 +6,7 @@ use fractal_heap::header::FractalHeapHeader;
 use heap_blocks::Found;
 use object_reads::read_object;
 
+// Whether two slices hold the same bytes.
 pub fn same_bytes(left: &[u8], right: &[u8]) -> bool
     ensures { λ r. ⌜ r ≡ sameBytes (now (left .entry)) (now (right .entry)) ⌝ }
 {

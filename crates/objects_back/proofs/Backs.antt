@@ -27,7 +27,7 @@ module _ (h : FractalHeapHeader) (s : List ℕ) (w o n : ℕ) (bs : List ℕ) wh
   unfolding backOne
   one-nonempty t e k = rw (lt-ltb 0 n (omega arith)) (ap (λ (b : Bool). cond b 1 0) k)
 
-pub back-most : (h : FractalHeapHeader) (s : List ℕ) (w o n : ℕ) (bs : List ℕ) → backOne h s w o n bs ≤ 1
+back-most : (h : FractalHeapHeader) (s : List ℕ) (w o n : ℕ) (bs : List ℕ) → backOne h s w o n bs ≤ 1
 unfolding backOne
 back-most h s w o n bs = by (ltb 0 n && comesBack h s w o n bs)
   where
@@ -42,7 +42,7 @@ module _ (h : FractalHeapHeader) (s : List ℕ) (w : ℕ) where
   none-back (x ∷ xs) js = refl
 
   -- from one object to the next: its bytes are those from f to e
-  pub back-next : (xs os js : List ℕ) (i f e : ℕ) → i < length xs → i < length os → f ≤ length js → e ≡ min (f + getD xs i 0) (length js)
+  back-next : (xs os js : List ℕ) (i f e : ℕ) → i < length xs → i < length os → f ≤ length js → e ≡ min (f + getD xs i 0) (length js)
       → backs h s w (drop i xs) (drop i os) (drop f js)
       ≡ backOne h s w (getD os i 0) (getD xs i 0) (take (e - f) (drop f js)) + backs h s w (drop (i + 1) xs) (drop (i + 1) os) (drop e js)
   unfolding backs
@@ -53,7 +53,7 @@ module _ (h : FractalHeapHeader) (s : List ℕ) (w : ℕ) where
       let dropped : drop e js ≡ drop x (drop f js) = ap (λ (q : ℕ). drop q js) d ∙ drop-min (f + x) js ∙ sym (drop-drop x f js) in
       rw (taken, dropped, drop-cons xs i 0 l, drop-cons os i 0 m, add-one i)
 
-  pub back-end : (xs os js : List ℕ) (i : ℕ) → min (length xs) (length os) ≤ i → backs h s w (drop i xs) (drop i os) js ≡ 0
+  back-end : (xs os js : List ℕ) (i : ℕ) → min (length xs) (length os) ≤ i → backs h s w (drop i xs) (drop i os) js ≡ 0
   unfolding backs
   back-end xs os js i l =
       dite (decLe (length xs) i)

@@ -27,6 +27,7 @@ fn back_one(
     }
 }
 
+// The smaller of two counts.
 fn least(x: usize, y: usize) -> usize
     ensures { λ r. ⌜ r ≡ min x y ⌝ }
 {

@@ -88,7 +88,7 @@ module _ (w : ℕ) (l : w ≤ 255) where
       go (Placed s₁ o) q e ih = ih s₁ (roomy-step s x s₁ o R q) e
       go Ends q e ih = absurd (let z : _≡_ {A = ℕ} 0 1 = cc in omega arith)
 
-  pub roomy : (xs : List ℕ) (s : State) → run fixed w xs ≡ Done s → Roomy w s
+  roomy : (xs : List ℕ) (s : State) → run fixed w xs ≡ Done s → Roomy w s
   unfolding run
   roomy xs s e = roomy-from xs (initial fixed w) 0 s (record { sound = sound-initial w; room = omega arith }) e
 

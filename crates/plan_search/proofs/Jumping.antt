@@ -56,7 +56,7 @@ module _ (t : Table) (g : t .startBits ≤ t .directBits) (k : t .startBits ≤ 
       go (yes x) ih = let h : c < 2 ^ t .heapBits = omega arith in on x h (unfold slotAt in start-here t g k c s h) (decLe e b) ih
 
   -- a slot that is too small, and then every slot that begins before the next multiple
-  pub pass-jump : (n e c : ℕ) (s : Slot) → s ≡ slotAt t c → c < 2 ^ t .heapBits → e ≤ t .heapBits → s .size < n → ((j : ℕ) → n ≤ 2 ^ j → e ≤ j)
+  pass-jump : (n e c : ℕ) (s : Slot) → s ≡ slotAt t c → c < 2 ^ t .heapBits → e ≤ t .heapBits → s .size < n → ((j : ℕ) → n ≤ 2 ^ j → e ≤ j)
       → (openAt t n c ≡ openAt t n ((s .start + s .size + (2 ^ e - 1)) / 2 ^ e * 2 ^ e))
       × (c < (s .start + s .size + (2 ^ e - 1)) / 2 ^ e * 2 ^ e) × ((s .start + s .size + (2 ^ e - 1)) / 2 ^ e * 2 ^ e ≤ 2 ^ t .heapBits)
   pass-jump n e c s is h eh l least =
@@ -76,7 +76,7 @@ module _ (t : Table) (g : t .startBits ≤ t .directBits) (k : t .startBits ≤ 
       (open-pass t n c h small ∙ ap (openAt t n) xe ∙ jump (2 ^ e) n e x q (subst (Start t) xe (end-start t g k c h)) (omega arith) (omega arith) (omega arith) w least, omega arith, w)
 
 -- the exponent is the least
-pub ceil-least : (n j : ℕ) → n ≤ 65536 → n ≤ 2 ^ j → ceilBits n ≤ j
+ceil-least : (n j : ℕ) → n ≤ 65536 → n ≤ 2 ^ j → ceilBits n ≤ j
 unfolding ceilBits
 ceil-least n j h l =
     let a = leading-length 64 (n - 1) (omega arith) in
@@ -87,7 +87,7 @@ ceil-least n j h l =
     let x : ¬ (j < m) = λ g. let z : 2 ^ suc j ≤ 2 ^ m = pow-mono g in omega arith in
     omega arith
 
-pub ceil-small : (n : ℕ) → n ≤ 65536 → ceilBits n ≤ 16
+ceil-small : (n : ℕ) → n ≤ 65536 → ceilBits n ≤ 16
 ceil-small n h = ceil-least n 16 h h
 
 -- and the shift that makes it

@@ -9,6 +9,7 @@ ghost use Rattle.region_in_file.specs.InFile.{serializedAt, fileWritten}
 use fractal_heap_write::serialize;
 use plan::Planned;
 
+// Where the part begins: at the address, or at the file's end where the address lies past it.
 fn least(x: u64, y: usize) -> usize
     ensures { λ r. ⌜ r ≡ min x y ⌝ }
 {

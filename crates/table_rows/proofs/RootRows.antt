@@ -11,7 +11,7 @@ use Rattle.table.proofs.Rows.{row-mono, row-lo, row-up, row-29, heap-rows}
 
 module _ (t : Table) (x : ℕ) where
   -- n rows reach x and no fewer do
-  pub covering-is : (f m n : ℕ) → m ≤ n → n < m + f → ((j : ℕ) → m ≤ j → j < n → rowOffset t j < x) → x ≤ rowOffset t n → coveringIn t f m x ≡ Rows n
+  covering-is : (f m n : ℕ) → m ≤ n → n < m + f → ((j : ℕ) → m ≤ j → j < n → rowOffset t j < x) → x ≤ rowOffset t n → coveringIn t f m x ≡ Rows n
   unfolding coveringIn
   covering-is zero m n l u less enough = absurd (omega arith)
   covering-is (suc f) m n l u less enough = go (ℕ-discrete m n) (λ v. covering-is f (suc m) n v (omega arith) (λ j a b. less j (omega arith) b) enough)
@@ -21,7 +21,7 @@ module _ (t : Table) (x : ℕ) where
       go (no e) ih = rw (lt-leb x (rowOffset t m) (less m (omega arith) (omega arith)), coveringIn) (ih (omega arith))
 
   -- no row count reaches x
-  pub covering-none : (f m : ℕ) → ((j : ℕ) → j < m + f → rowOffset t j < x) → coveringIn t f m x ≡ Beyond
+  covering-none : (f m : ℕ) → ((j : ℕ) → j < m + f → rowOffset t j < x) → coveringIn t f m x ≡ Beyond
   unfolding coveringIn
   covering-none zero m less = refl
   covering-none (suc f) m less =

@@ -9,7 +9,7 @@ use Rattle.table.specs.Table.{fixed}
 use Rattle.plan_steps.specs.Steps.{planOffsets, planStarts}
 use Rattle.region_in_file.specs.InFile.{serializedAt, fileWritten}
 use Rattle.round_trip.specs.RoundTrip.{nonempty, cameBack}
-use Rattle.round_trip.proofs.Files.{by-answer, file-by, root-sum, rows-small, all-came}
+use Rattle.round_trip.proofs.WholeWay.{by-answer, file-by, root-sum, rows-small, all-came}
 use borrow.Author.Needs.{needs}
 use Rattle.round_trip.proofs.round_trip.Statement.{statement}
 use Rattle.round_trip.proofs.round_trip.Tie as tie
