@@ -12,7 +12,8 @@ use Rattle.plan_steps.specs.Steps.{planOffsets, planStarts}
 use Rattle.plan_steps.specs.declared.State.{State}
 use Rattle.plan.specs.declared.ManagedPlan.{ManagedPlan}
 use Rattle.plan.specs.declared.Planned.the-variants.{Accepted}
-use Rattle.plan.specs.Answer.{oneBlock, closed, answer}
+use Rattle.plan_end.specs.End.{oneBlock, closed}
+use Rattle.plan.specs.Answer.{answer}
 use Rattle.plan.proofs.Answering.{accepted}
 use Rattle.plan_laws.proofs.Tally.{counted, tallied}
 use Rattle.region_directs.specs.Directs.{directs}

@@ -16,7 +16,8 @@ use Rattle.plan_checks.specs.Checks.{inputChecked}
 use Rattle.plan_checks.proofs.Checking.{Passing, passing, tests-other}
 use Rattle.plan.specs.declared.ManagedPlan.{ManagedPlan}
 use Rattle.plan.specs.declared.Planned.the-variants.{Accepted, Refused}
-use Rattle.plan.specs.Answer.{closed, totals, ranPlan, ifChecked, answer}
+use Rattle.plan_end.specs.End.{closed}
+use Rattle.plan.specs.Answer.{totals, ranPlan, ifChecked, answer}
 
 -- planning goes through, and gives p
 pub record Went (w : ℕ) (xs : List ℕ) (p : ManagedPlan) : Type 0 where

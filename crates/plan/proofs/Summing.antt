@@ -11,11 +11,12 @@ use Rattle.table.specs.Sizes.{directHeader, indirectSize}
 use Rattle.table.specs.Capacity.{sum, capacities, capacity}
 use Rattle.table.proofs.Capacity.{take-capacities, capacity-small}
 use Rattle.plan_steps.specs.Steps.{blockEnd}
-use Rattle.plan.specs.Answer.{rootRows, rowTotals, totals}
-use Rattle.plan.specs.Requires.{Totalled}
+use Rattle.plan_end.specs.End.{rootRows}
+use Rattle.plan_end.specs.Requires.{Totalled}
+use Rattle.plan_end.proofs.Room.{Reach, reach, no-rows}
+use Rattle.plan.specs.Answer.{rowTotals, totals}
 use Rattle.plan_steps.specs.declared.State.{State}
 use Rattle.plan.specs.declared.ManagedPlan.{ManagedPlan}
-use Rattle.plan.proofs.Room.{Reach, reach, no-rows}
 
 -- the capacities of all rows give the capacity of some
 pub capacity-is : (h n : ℕ) (per : List ℕ) → n ≤ 29 → per ≡ capacities fixed h 29 → 4 * sum (take n per) ≡ capacity fixed h n
@@ -46,52 +47,39 @@ module _ (w : ℕ) (s : State) (T : Totalled w s) (r : ℕ) (e : r ≡ rootRows 
       let k = ap (capacity fixed (directHeader fixed w)) e in
       omega arith
 
-  pub bare-is : (h : ℕ) → r ≡ 0 → h ≡ directHeader fixed w
-      → _≡_ {A = ManagedPlan} (record {
-        «block_count» = 1;
-        «region_size» = 1024;
-        «root_rows» = 0;
-        «root_place» = 0;
-        «managed_space» = 1024;
-        «allocated_space» = 1024;
-        «free_space» = 1024 - h - s .used;
-        «allocation_iterator» = 0;
-      }) (totals fixed w s)
+  -- the totals where the one block is the root, from its header's size
+  abbrev bareWith : ℕ → ManagedPlan
+  bareWith h = record {
+    «block_count» = 1;
+    «region_size» = 1024;
+    «root_rows» = 0;
+    «root_place» = 0;
+    «managed_space» = 1024;
+    «allocated_space» = 1024;
+    «free_space» = 1024 - h - s .used;
+    «allocation_iterator» = 0;
+  }
+
+  pub bare-is : (h : ℕ) → r ≡ 0 → h ≡ directHeader fixed w → bareWith h ≡ totals fixed w s
   unfolding totals
-  bare-is h z f =
-      rw (eq-eqb (rootRows fixed (blockEnd s)) 0 (sym e ∙ z), totals)
-      (λ i. record {
-        «block_count» = 1;
-        «region_size» = 1024;
-        «root_rows» = 0;
-        «root_place» = 0;
-        «managed_space» = 1024;
-        «allocated_space» = 1024;
-        «free_space» = 1024 - f i - s .used;
-        «allocation_iterator» = 0;
-      })
+  bare-is h z f = rw (eq-eqb (rootRows fixed (blockEnd s)) 0 (sym e ∙ z), totals) (ap bareWith f)
+
+  -- and where it is an indirect block, from that block's size, the capacity of its rows and what they span
+  abbrev rowsWith : ℕ → ℕ → ℕ → ManagedPlan
+  rowsWith own cap span = record {
+    «block_count» = s .count;
+    «region_size» = s .indirect + own + s .allocated;
+    «root_rows» = r;
+    «root_place» = s .indirect;
+    «managed_space» = span;
+    «allocated_space» = s .allocated;
+    «free_space» = cap - s .used;
+    «allocation_iterator» = blockEnd s;
+  }
 
   module _ (n : r ≡ 0 → ⊥) (own cap span : ℕ) (a : own ≡ indirectSize fixed w r) (b : cap ≡ capacity fixed (directHeader fixed w) r) (c : span ≡ rowOffset fixed r) where
-    pub rows-is : _≡_ {A = ManagedPlan} (record {
-      «block_count» = s .count;
-      «region_size» = s .indirect + own + s .allocated;
-      «root_rows» = r;
-      «root_place» = s .indirect;
-      «managed_space» = span;
-      «allocated_space» = s .allocated;
-      «free_space» = cap - s .used;
-      «allocation_iterator» = blockEnd s;
-    }) (totals fixed w s)
+    pub rows-is : rowsWith own cap span ≡ totals fixed w s
     unfolding totals
     rows-is =
         rw (ne-eqb (rootRows fixed (blockEnd s)) 0 (λ q. n (e ∙ q)), totals)
-        ((λ i. record {
-          «block_count» = s .count;
-          «region_size» = s .indirect + a i + s .allocated;
-          «root_rows» = r;
-          «root_place» = s .indirect;
-          «managed_space» = c i;
-          «allocated_space» = s .allocated;
-          «free_space» = b i - s .used;
-          «allocation_iterator» = blockEnd s;
-        }) ∙ ap (rowTotals fixed w s) e)
+        ((λ i. rowsWith (a i) (b i) (c i)) ∙ ap (rowTotals fixed w s) e)

@@ -5,45 +5,21 @@ use mathlib.Core.List.{List, [], _∷_}
 use lib.Dec.{eqb}
 use Rattle.refusals.specs.Refusals.{refusal}
 use Rattle.refusals.specs.declared.FormatError.the-variants.{HeapSpaceExhausted}
-use Rattle.fields.specs.declared.Checked.{Checked}
-use Rattle.fields.specs.declared.Checked.the-variants.{Passed, Refused as NotPassed}
-use Rattle.table.specs.Table.{Table, fixed, rowOffset, covering}
-use Rattle.table.specs.declared.Covering.{Covering}
-use Rattle.table.specs.declared.Covering.the-variants.{Rows, Beyond}
+use Rattle.fields.specs.declared.bytes.Checked.{Checked}
+use Rattle.fields.specs.declared.bytes.Checked.the-variants.{Passed, Refused as NotPassed}
+use Rattle.table.specs.Table.{Table, fixed, rowOffset}
 use Rattle.table.specs.Sizes.{directHeader, indirectSize}
 use Rattle.table.specs.Capacity.{capacity}
 use Rattle.plan_steps.specs.declared.State.{State}
 use Rattle.plan_steps.specs.declared.Run.{Run}
 use Rattle.plan_steps.specs.declared.Run.the-variants.{Done, Short}
 use Rattle.plan_steps.specs.Steps.{blockEnd, run}
+use Rattle.plan_end.specs.End.{closed, rootRows}
 use Rattle.plan_checks.specs.Checks.{inputChecked}
 use Rattle.plan_lists.specs.Lists.{fronted}
 use Rattle.plan.specs.declared.ManagedPlan.{ManagedPlan}
 use Rattle.plan.specs.declared.Planned.{Planned}
 use Rattle.plan.specs.declared.Planned.the-variants.{Accepted, Refused}
-
--- without objects there is one block of the starting size, at 0
-abbrev pub oneBlock : Table → ℕ → State
-oneBlock t w = record {
-  start = 0;
-  size = 2 ^ t .startBits;
-  fill = directHeader t w;
-  count = 1;
-  allocated = 2 ^ t .startBits;
-  used = 0;
-  indirect = 0;
-}
-
-unfoldable pub closed : Table → ℕ → State → State
-closed t w s = cond (eqb (s .count) 0) (oneBlock t w) s
-
-abbrev pub rowsIn : Covering → ℕ
-rowsIn (Rows n) = n
-rowsIn Beyond = 0
-
--- the fewest rows that reach e, the last block's end; none where that block is the one of the starting size at 0
-unfoldable pub rootRows : Table → ℕ → ℕ
-rootRows t e = cond (eqb e (2 ^ t .startBits)) 0 (rowsIn (covering t e))
 
 -- the root is a block of the starting size at 0
 abbrev pub bareTotals : Table → ℕ → State → ManagedPlan

@@ -5,17 +5,17 @@ ghost use mathlib.Core.Path.{_≡_};
 ghost use lib.ListN.{length};
 ghost use Rattle.table.specs.Table.{fixed};
 ghost use Rattle.plan_steps.specs.Steps.{planOffsets, planStarts};
-ghost use Rattle.plan.specs.Answer.{closed, rootRows, totals, answer, written};
-ghost use Rattle.plan.specs.Requires.{Totalled};
-use fields::Checked;
+ghost use Rattle.plan_end.specs.Requires.{Totalled};
+ghost use Rattle.plan.specs.Answer.{totals, answer, written};
+use fields::bytes::Checked;
 use plan_checks::check_input;
+use plan_end::close;
+use plan_end::root_rows;
 use plan_lists::write_lists;
+use plan_runs::run_all;
 use plan_steps::Run;
 use plan_steps::State;
-use plan_steps::run_all;
 use refusals::FormatError;
-use table::Covering;
-use table::root_rows_covering;
 use table::row_offset;
 use table_capacity::capacity_sum;
 use table_capacity::rows_capacity;
@@ -36,37 +36,6 @@ pub struct ManagedPlan {
 pub enum Planned {
     Accepted(ManagedPlan),
     Refused(FormatError),
-}
-
-// The state at the end; without objects one block is placed.
-pub fn close(s: State, offset_size: u8) -> State
-    ensures { λ r. ⌜ r ≡ closed fixed «offset_size» s ⌝ }
-{
-    if s.count == 0 {
-        return State {
-            start: 0,
-            size: 1024,
-            fill: direct_block_header(offset_size),
-            count: 1,
-            allocated: 1024,
-            used: 0,
-            indirect: 0,
-        };
-    }
-    s
-}
-
-// The root's rows where the last block ends at `end`.
-fn root_rows(end: u64) -> u64
-    ensures { λ r. ⌜ r ≡ rootRows fixed end ⌝ }
-{
-    if end == 1024 {
-        return 0;
-    }
-    match root_rows_covering(end) {
-        Covering::Rows(n) => n,
-        Covering::Beyond => 0,
-    }
 }
 
 // What the heap header says of a plan that ends in a state.

@@ -20,7 +20,7 @@ use Rattle.plan_checks.specs.Checks.{sizesChecked, placesChecked, widthC
 -- ---- one size
 
 module _ (limit i x : ℕ) (xs : List ℕ) where
-  pub size-over : limit < x → sizesChecked limit i (x ∷ xs) ≡ NotPassed (ObjectTooLarge i x)
+  size-over : limit < x → sizesChecked limit i (x ∷ xs) ≡ NotPassed (ObjectTooLarge i x)
   unfolding sizesChecked
   size-over l = rw (lt-leb x limit l, sizesChecked)
 

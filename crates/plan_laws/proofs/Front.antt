@@ -18,7 +18,8 @@ use Rattle.plan_steps.specs.declared.Run.the-variants.{Done}
 use Rattle.plan.specs.declared.ManagedPlan.{ManagedPlan}
 use Rattle.plan.specs.declared.Planned.the-variants.{Accepted}
 use Rattle.plan_steps.specs.Steps.{initial, stepOf, runFrom, offsetsFrom, startsFrom, run, planOffsets, planStarts}
-use Rattle.plan.specs.Answer.{closed, totals, answer}
+use Rattle.plan_end.specs.End.{closed}
+use Rattle.plan.specs.Answer.{totals, answer}
 use Rattle.plan_checks.specs.Checks.{sizesChecked}
 use Rattle.plan_steps.proofs.Running.{run-stops, run-goes, offsets-go, starts-go-same, starts-go-new}
 use Rattle.plan_laws.specs.Plans.{FrontPart}

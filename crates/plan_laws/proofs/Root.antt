@@ -20,9 +20,10 @@ use Rattle.plan_steps.specs.declared.Run.the-variants.{Done}
 use Rattle.plan.specs.declared.ManagedPlan.{ManagedPlan}
 use Rattle.plan.specs.declared.Planned.the-variants.{Accepted}
 use Rattle.plan_steps.specs.Steps.{initial, blockEnd, runFrom, run, planStarts}
-use Rattle.plan.specs.Answer.{oneBlock, closed, rootRows, bareTotals, rowTotals, totals, answer}
+use Rattle.plan_end.specs.End.{oneBlock, closed, rootRows}
+use Rattle.plan.specs.Answer.{bareTotals, rowTotals, totals, answer}
 use Rattle.plan_steps.proofs.Stepping.{start-zero}
-use Rattle.plan.proofs.Room.{no-rows, rows-of-end}
+use Rattle.plan_end.proofs.Room.{no-rows, rows-of-end}
 use Rattle.plan_laws.specs.Plans.{FewestRows, OneBlock}
 use Rattle.plan.proofs.Answering.{Went, accepted}
 use Rattle.plan_laws.proofs.Laying.{filledTo, Blocks, blocks, still-ok, starts-some, ran-ok, ran-laid}

@@ -16,7 +16,8 @@ use Rattle.plan_steps.specs.declared.Run.the-variants.{Done}
 use Rattle.plan.specs.declared.ManagedPlan.{ManagedPlan}
 use Rattle.plan.specs.declared.Planned.the-variants.{Accepted}
 use Rattle.plan_steps.specs.Steps.{initial, blockEnd, run, runFrom, planStarts}
-use Rattle.plan.specs.Answer.{closed, rootRows, bareTotals, rowTotals, totals, answer}
+use Rattle.plan_end.specs.End.{closed, rootRows}
+use Rattle.plan.specs.Answer.{bareTotals, rowTotals, totals, answer}
 use Rattle.plan.proofs.Answering.{accepted}
 use Rattle.plan_laws.specs.Plans.{sizesAt, Tallied}
 use Rattle.plan_laws.proofs.Laying.{Laid, end, same, new, count-starts, blocks, starts-some, ran-laid}

@@ -40,7 +40,7 @@ pub record Fronted (new old l : List ℕ) (n : ℕ) : Type 0 where
   pub front : take n l ≡ new
   pub tail : drop n l ≡ drop n old
 
-pub fronted-is : {new old l : List ℕ} {n : ℕ} → Fronted new old l n → l ≡ fronted new old
+fronted-is : {new old l : List ℕ} {n : ℕ} → Fronted new old l n → l ≡ fronted new old
 unfolding fronted
 fronted-is {new} {old} {l} {n} F =
     let e : length new ≡ n = ap length (sym (F .front)) ∙ length-take-le n l (F .inside) in
@@ -94,15 +94,15 @@ module _ (i : ℕ) (new old : List ℕ) (l : i + length new ≤ length old) wher
   unfolding overwritten
   over-is = sym (append-assoc (take i old) new (drop (i + length new) old))
 
-  pub over-length : length (overwritten i new old) ≡ length old
+  over-length : length (overwritten i new old) ≡ length old
   over-length =
       ap length over-is ∙ length-append (take i old ++ new) (drop (i + length new) old)
       ∙ (let a = front-length in let b = length-drop (i + length new) old in omega arith)
 
-  pub over-front : take (i + length new) (overwritten i new old) ≡ take i old ++ new
+  over-front : take (i + length new) (overwritten i new old) ≡ take i old ++ new
   over-front = ap (take (i + length new)) over-is ∙ take-at (take i old ++ new) (drop (i + length new) old) (i + length new) front-length
 
-  pub over-tail : drop (i + length new) (overwritten i new old) ≡ drop (i + length new) old
+  over-tail : drop (i + length new) (overwritten i new old) ≡ drop (i + length new) old
   over-tail = ap (drop (i + length new)) over-is ∙ ap (λ (n : ℕ). drop n ((take i old ++ new) ++ drop (i + length new) old)) (sym front-length) ∙ drop-append-seam (take i old ++ new) (drop (i + length new) old)
 
 -- ---- the loop over the blocks

@@ -9,12 +9,12 @@ ghost use Rattle.plan_steps.specs.Steps.{initial, offsetsFrom, startsFrom, plan
 ghost use Rattle.plan_steps.specs.Filling.{fillOffsets, filledFrom};
 ghost use Rattle.plan_steps.specs.Requires.{Bounded, Small, Runs};
 ghost use Rattle.plan_lists.specs.Lists.{fronted, overwritten};
+use plan_search::open_block;
 use plan_steps::Filled;
 use plan_steps::State;
 use plan_steps::Step;
 use plan_steps::in_current;
 use plan_steps::initial;
-use plan_steps::open_block;
 use plan_steps::too_full;
 
 // The objects from `from` on that fit into the current block, and their offsets.

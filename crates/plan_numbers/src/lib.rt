@@ -11,6 +11,7 @@ use plan::Planned;
 use refusals::Answer;
 use refusals::refused;
 
+// The numbers of a plan, in the order of its fields.
 fn put_numbers(totals: &mut [u64], p: ManagedPlan)
     requires { ⌜ 8 ≤ length (now totals) ⌝ }
     ensures { λ _. ⌜ now (totals .exit) ≡ fronted (numbers p) (now (totals .entry)) ⌝ }
@@ -25,6 +26,7 @@ fn put_numbers(totals: &mut [u64], p: ManagedPlan)
     totals[7] = p.allocation_iterator;
 }
 
+// The pair of a refusal.
 fn put_pair(totals: &mut [u64], a: Answer)
     requires { ⌜ 8 ≤ length (now totals) ⌝ }
     ensures { λ _. ⌜ now (totals .exit) ≡ fronted (a .first ∷ a .second ∷ []) (now (totals .entry)) ⌝ }

@@ -32,11 +32,11 @@ module _ (s : State) (x : ℕ) (xs : List ℕ) where
   unfolding fillState
   state-full l = rw (lt-leb (s .fill + x) (s .size) l, fillState)
 
-  pub offsets-fit : s .fill + x ≤ s .size → fillOffsets s (x ∷ xs) ≡ (s .start + s .fill) ∷ fillOffsets (filled s x) xs
+  offsets-fit : s .fill + x ≤ s .size → fillOffsets s (x ∷ xs) ≡ (s .start + s .fill) ∷ fillOffsets (filled s x) xs
   unfolding fillOffsets
   offsets-fit l = rw (le-leb (s .fill + x) (s .size) l, fillOffsets)
 
-  pub offsets-full : s .size < s .fill + x → fillOffsets s (x ∷ xs) ≡ []
+  offsets-full : s .size < s .fill + x → fillOffsets s (x ∷ xs) ≡ []
   unfolding fillOffsets
   offsets-full l = rw (lt-leb (s .fill + x) (s .size) l, fillOffsets)
 
@@ -86,7 +86,7 @@ module _ (t : Table) (w : ℕ) where
       go true e ih = fill-more s x xs (fillState (filled s x) xs) (fillOffsets (filled s x) xs) (leb-true (s .fill + x) (s .size) e) ih
       go false e ih = fill-none s (x ∷ xs) (λ u. leb-false (s .fill + x) (s .size) e)
 
-pub sound-fill : (w : ℕ) → w ≤ 255 → (xs : List ℕ) (s : State) → Sound w s → Sound w (fillState s xs)
+sound-fill : (w : ℕ) → w ≤ 255 → (xs : List ℕ) (s : State) → Sound w s → Sound w (fillState s xs)
 unfolding fillState
 sound-fill w l [] s S = S
 sound-fill w l (x ∷ xs) s S = go (leb (s .fill + x) (s .size)) refl (sound-fill w l xs (filled s x))
@@ -98,7 +98,7 @@ sound-fill w l (x ∷ xs) s S = go (leb (s .fill + x) (s .size)) refl (sound-fil
 
 -- ---- the loop over them
 
-pub bounded-fill : (s : State) (x : ℕ) → Bounded s → s .fill + x ≤ s .size → Bounded (filled s x)
+bounded-fill : (s : State) (x : ℕ) → Bounded s → s .fill + x ≤ s .size → Bounded (filled s x)
 bounded-fill s x B l =
     let a = B .heap in let b = B .objects in
     record { heap = a; filling = omega arith; blocks = B .blocks; spent = B .spent; objects = omega arith; between = B .between }
@@ -118,7 +118,7 @@ module _ (xs : List ℕ) (s : State) (next : ℕ) where
     step-on : drop (suc next) xs ≡ drop (next + 1) xs
     step-on = ap (λ (j : ℕ). drop j xs) (sym (add-one next))
 
-    pub state-on : s .fill + getD xs next 0 ≤ s .size → fillState s (drop next xs) ≡ fillState (filled s (getD xs next 0)) (drop (next + 1) xs)
+    state-on : s .fill + getD xs next 0 ≤ s .size → fillState s (drop next xs) ≡ fillState (filled s (getD xs next 0)) (drop (next + 1) xs)
     state-on f =
         ap (fillState s) (drop-cons xs next 0 l) ∙ state-fits s (getD xs next 0) (drop (suc next) xs) f ∙ ap (fillState (filled s (getD xs next 0))) step-on
 
@@ -181,13 +181,13 @@ module _ (w : ℕ) (xs : List ℕ) (s : State) (i : ℕ) (f : Filled) (e : f ≡
   pub next-later : i ≤ f .next
   next-later = let z = next-is in omega arith
 
-  pub next-inside : i ≤ length xs → f .next ≤ length xs
+  next-inside : i ≤ length xs → f .next ≤ length xs
   next-inside l = let z = next-is in let a = fill fixed w (drop i xs) s .inside in let b = length-drop i xs in omega arith
 
   rest-is : drop (length (fillOffsets s (drop i xs))) (drop i xs) ≡ drop (f .next) xs
   rest-is = drop-drop (length (fillOffsets s (drop i xs))) i xs ∙ ap (λ (j : ℕ). drop j xs) (sym next-is)
 
-  pub run-from-next : runFrom fixed w s (drop i xs) i ≡ runFrom fixed w (f .state) (drop (f .next) xs) (f .next)
+  run-from-next : runFrom fixed w s (drop i xs) i ≡ runFrom fixed w (f .state) (drop (f .next) xs) (f .next)
   run-from-next =
       fill fixed w (drop i xs) s .same-run i
       ∙ ap₂ (λ (y : State) (j : ℕ). runFrom fixed w y (drop (length (fillOffsets s (drop i xs))) (drop i xs)) j) (sym state-is) (sym next-is)

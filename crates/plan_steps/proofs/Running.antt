@@ -47,11 +47,11 @@ module _ (t : Table) (w : ℕ) (s : State) (x : ℕ) (xs : List ℕ) where
 -- ---- one turn of a loop
 
 module _ (t : Table) (w : ℕ) (xs : List ℕ) (s : State) (i : ℕ) (l : i < length xs) where
-  pub run-ends : stepOf t w s (getD xs i 0) ≡ Ends → runFrom t w s (drop i xs) i ≡ Short i
+  run-ends : stepOf t w s (getD xs i 0) ≡ Ends → runFrom t w s (drop i xs) i ≡ Short i
   run-ends e = ap (λ (ys : List ℕ). runFrom t w s ys i) (drop-cons xs i 0 l) ∙ run-stops t w s (getD xs i 0) (drop (suc i) xs) i e
 
   module _ (s′ : State) (o : ℕ) (e : stepOf t w s (getD xs i 0) ≡ Placed s′ o) where
-    pub run-placed : runFrom t w s (drop i xs) i ≡ runFrom t w s′ (drop (i + 1) xs) (i + 1)
+    run-placed : runFrom t w s (drop i xs) i ≡ runFrom t w s′ (drop (i + 1) xs) (i + 1)
     run-placed =
         ap (λ (ys : List ℕ). runFrom t w s ys i) (drop-cons xs i 0 l) ∙ run-goes t w s (getD xs i 0) (drop (suc i) xs) s′ o e i
         ∙ ap (λ (j : ℕ). runFrom t w s′ (drop j xs) j) (sym (add-one i))

@@ -1,24 +1,19 @@
 -- An empty object: where the reader finds it, and where it answers 1.
-use Prim.Native.Nat.{ℕ, suc, _+_, _-_, _*_, _^_, _≤_, _<_}
+use Prim.Native.Nat.{ℕ, suc, _+_, _-_, _^_, _≤_, _<_}
 use mathlib.Core.Path.{_≡_, ap, _∙_}
 use mathlib.Core.Logic.{_⊎_, inl, inr}
 use mathlib.Core.List.{List, [], _∷_}
 use native.Mathlib.Omega.{arith}
 use native.Mathlib.Decide.{ℕ-discrete, decLe, decLt}
 use lib.ListN.{length, getD}
-use lib.Pow.{pow-mono}
 use borrow.Author.Tests.{le-ltb}
-use Rattle.little_endian.proofs.Widths.{legal-small}
 use Rattle.refusals.specs.declared.FormatError.the-variants.{UnexpectedEof, HeapIdTooLarge}
 use Rattle.fields.specs.declared.Checked.the-variants.{Refused as NotPassed}
 use Rattle.table.specs.Table.{Table, fixed, rowOffset}
 use Rattle.table.specs.Slots.{slotAt}
 use Rattle.table_laws.proofs.Format.{direct-local, fixed-slot}
-use Rattle.plan_steps.specs.Steps.{planOffsets, planStarts}
 use Rattle.plan.specs.declared.ManagedPlan.{ManagedPlan}
-use Rattle.plan_laws.proofs.Objects.{in-one-body}
-use Rattle.region_directs.specs.Directs.{objectsIn}
-use Rattle.numbers.proofs.Saturating.{sat-fits}
+use Rattle.heap_rows.proofs.Saturating.{sat-fits}
 use Rattle.heap_blocks.specs.declared.Found.the-variants.{At, Refused}
 use Rattle.heap_blocks.specs.Blocks.{directAt}
 use Rattle.fractal_heap.specs.declared.header.FractalHeapHeader.{FractalHeapHeader}
@@ -27,8 +22,7 @@ use Rattle.managed_ids.specs.Ids.{idChecked}
 use Rattle.read_laws.proofs.Missing.{Clear, none, more}
 use Rattle.read_back.specs.ReadBack.{Call, Written, HoldsRegion, HeaderOf, offsetOf, EmptyRead, accepts, refuses, EmptyAnswered}
 use Rattle.read_back.proofs.Ids.{id-passes}
-use Rattle.read_back.proofs.Directs.{block-least}
-use Rattle.read_back.proofs.Finding.{planned, tests, width-legal, start, placeOf, in-region, block-has, by-bare, by-missing, root-finds}
+use Rattle.read_back.proofs.Finding.{starts, block-of, start, placeOf, place-fits, block-inside, by-bare, by-missing, root-finds}
 use Rattle.read_back.proofs.Theorem.{by-id, in-block}
 
 -- the n-th of the blocks ss holds x
@@ -57,49 +51,34 @@ no-id o e id = rw (le-ltb o (2 ^ 40) (omega arith))
 
 module _ (c : Call) (p : ManagedPlan) (W : Written c p)
     (F : List ℕ) (H : HoldsRegion F c p) (h : FractalHeapHeader) (T : HeaderOf h c p) (x : ℕ) where
-  abbrev xs : List ℕ
-  xs = c .sizes
-
-  abbrev js : List ℕ
-  js = c .objects
-
-  abbrev header : ℕ
-  header = c .header-address
-
   abbrev w : ℕ
   w = c .width
 
-  abbrev its : (n : ℕ) → n < length (planStarts fixed w xs) → ℕ
+  abbrev its : (n : ℕ) → n < length (starts c p W) → ℕ
   its n l = start c p W n l
 
-  abbrev place : (n : ℕ) → n < length (planStarts fixed w xs) → ℕ
+  abbrev place : (n : ℕ) → n < length (starts c p W) → ℕ
   place n l = placeOf c p W n l
 
   -- what is read of the n-th block, as far as its end
-  module _ (n : ℕ) (l : n < length (planStarts fixed w xs)) (hi : x ≤ its n l + slotAt fixed (its n l) .size) where
+  module _ (n : ℕ) (l : n < length (starts c p W)) (hi : x ≤ its n l + slotAt fixed (its n l) .size) where
     in-file : place n l + (x - its n l) ≤ length F
-    in-file =
-        let k = block-has c p W n l F H .within in
-        let m = block-least fixed w header (its n l) (slotAt fixed (its n l) .size) (objectsIn (its n l) (slotAt fixed (its n l) .size) (planOffsets fixed w xs) xs js) in
-        omega arith
+    in-file = let k = block-inside c p W n l F H in omega arith
 
     nothing-read : directAt F (place n l) (its n l) x 0 ≡ At (place n l + (x - its n l)) 0
     nothing-read =
         let f = in-file in
-        let r = in-region c p W n l in
-        let e = tests c p W .end in
-        let k = legal-small w (width-legal c p W) in
-        let q : 2 ^ (8 * w) ≤ 2 ^ 64 = pow-mono {i = 8 * w} {j = 64} (omega arith) in
+        let r = place-fits c p W n l in
         in-block F (place n l) (its n l) x 0 (omega arith) (omega arith)
 
     found-there : x < 2 ^ 40 → rootAt h F x 0 w ≡ directAt F (place n l) (its n l) x 0 → EmptyRead F h w x (p .«root_rows»)
     found-there s e = accepts (place n l + (x - its n l)) in-file (λ id k. by-id h F w x 0 c p T s (omega arith) id k ∙ e ∙ nothing-read)
 
   -- at an offset that lies at or before the end of the n-th block
-  read-empty : (n : ℕ) (l : n < length (planStarts fixed w xs)) → x ≤ its n l + slotAt fixed (its n l) .size → x < 2 ^ 40 → EmptyRead F h w x (p .«root_rows»)
-  read-empty n l hi s = go (ℕ-discrete (p .«root_rows») 0) (holder fixed x (planStarts fixed w xs))
+  read-empty : (n : ℕ) (l : n < length (starts c p W)) → x ≤ its n l + slotAt fixed (its n l) .size → x < 2 ^ 40 → EmptyRead F h w x (p .«root_rows»)
+  read-empty n l hi s = go (ℕ-discrete (p .«root_rows») 0) (holder fixed x (starts c p W))
     where
-      go : Dec (p .«root_rows» ≡ 0) → Holder fixed x (planStarts fixed w xs) ⊎ Clear fixed x (planStarts fixed w xs) → EmptyRead F h w x (p .«root_rows»)
+      go : Dec (p .«root_rows» ≡ 0) → Holder fixed x (starts c p W) ⊎ Clear fixed x (starts c p W) → EmptyRead F h w x (p .«root_rows»)
       go (yes z) k = found-there n l hi s (by-bare c p W n l F H h T x 0 z)
       go (no z) (inl K) =
           let u = K .to in
@@ -115,7 +94,7 @@ pub empty-answered : (c : Call) (p : ManagedPlan) → Written c p → (file : Li
 unfolding rowOffset
 empty-answered c p W file H h T i l e =
     let x = offsetOf (c .width) (c .sizes) i in
-    let B = in-one-body (c .sizes) (c .offset-places) (c .block-places) (c .width) p (planned c p W) i l in
+    let B = block-of c p W i l in
     let z = fixed-slot (B .slot) .size-is in
     let t = B .to in
     let d = direct-local fixed (omega arith) (omega arith) (B .slot) .inside in

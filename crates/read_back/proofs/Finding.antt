@@ -6,9 +6,11 @@ use mathlib.Core.List.{List, [], _∷_, _++_}
 use native.Mathlib.Omega.{arith}
 use native.Mathlib.Decide.{ℕ-discrete}
 use lib.ListN.{length, take, drop, getD, length-append}
+use lib.Pow.{pow-mono}
 use lib.Seq.{take-at}
 use borrow.Author.Tests.{eq-eqb, ne-eqb}
-use Rattle.little_endian.specs.Widths.{legal}
+use Rattle.fields.specs.Fields.{legal}
+use Rattle.fields.proofs.Fields.{legal-small}
 use Rattle.table.specs.Table.{fixed, rowBits, rowOffset}
 use Rattle.table.specs.Slots.{slotAt}
 use Rattle.table.specs.Capacity.{sum}
@@ -20,12 +22,14 @@ use Rattle.plan_lists.specs.Lists.{fronted}
 use Rattle.plan.specs.declared.ManagedPlan.{ManagedPlan}
 use Rattle.plan.specs.declared.Planned.the-variants.{Accepted}
 use Rattle.plan.specs.Answer.{answer}
-use Rattle.plan.proofs.Answering.{accepted}
-use Rattle.plan_laws.specs.Plans.{sizesAt}
+use Rattle.plan_checks.proofs.Checking.{Passing}
+use Rattle.plan.proofs.Answering.{Went, accepted}
+use Rattle.plan_laws.specs.Plans.{sizesAt, InPlacedBlock}
+use Rattle.plan_laws.proofs.Objects.{in-one-body}
 use Rattle.plan_laws.proofs.Root.{no-root-rows}
 use Rattle.plan_laws.proofs.Tally.{tallied}
 use Rattle.region_walk.specs.Walk.{allSlots, block}
-use Rattle.region_directs.specs.Directs.{directs}
+use Rattle.region_directs.specs.Directs.{objectsIn, directs}
 use Rattle.region_laws.proofs.Starts.{Placed, none, more, before, from, before-none, nth-from, end-reached, size-within}
 use Rattle.region_laws.proofs.Geometry.{BlockAt, root-block}
 use Rattle.region_laws.proofs.Indirect.{rooted, indirect-planned, bare-planned}
@@ -45,7 +49,7 @@ use Rattle.read_laws.proofs.Standing.{missed}
 use Rattle.read_laws.proofs.Finding.{Coming, found}
 use Rattle.read_laws.proofs.Missing.{Clear, not-found}
 use Rattle.read_back.specs.ReadBack.{Call, Written, HoldsRegion, HeaderOf}
-use Rattle.read_back.proofs.Directs.{blockAt, directs-has}
+use Rattle.read_back.proofs.Directs.{blockAt, block-least, directs-has}
 
 -- ---- an accepted call
 
@@ -93,8 +97,16 @@ module _ (c : Call) (p : ManagedPlan) (W : Written c p) where
   pub tests : Fit w (sum xs) (length js) (p .«region_size») (length (c .lent)) header address
   tests = fit w (sum xs) (length js) (p .«region_size») (length (c .lent)) header address (written xs o b (length js) (length (c .lent)) address header w p (W .accepted) .1)
 
+  -- planning passed its tests and went through
+  pub went : Passing xs o b w × Went w xs p
+  went = accepted xs o b w p planned
+
   pub width-legal : legal w ≡ true
-  width-legal = accepted xs o b w p planned .0 .width
+  width-legal = went .0 .width
+
+  -- the block that the i-th object lies in
+  pub block-of : (i : ℕ) → i < length xs → InPlacedBlock w xs i
+  block-of = in-one-body xs o b w p planned
 
   indirect-length : length indirectPart ≡ indirectBytes w header (p .«root_rows») starts
   indirect-length = let a = indirects-planned xs o b w p planned header address firstDirect in let c = indirect-bytes xs o b w p planned header in omega arith
@@ -139,6 +151,22 @@ module _ (c : Call) (p : ManagedPlan) (W : Written c p) where
         let e = tallied xs o b w p planned .allocated in
         omega arith
 
+    -- and no address in it is too large
+    pub place-fits : placeOf + slotAt fixed start .size ≤ 2 ^ 64 - 1
+    place-fits =
+        let i = in-region in
+        let e = tests .end in
+        let k = legal-small w width-legal in
+        let q : 2 ^ (8 * w) ≤ 2 ^ 64 = pow-mono {i = 8 * w} {j = 64} (omega arith) in
+        omega arith
+
+    -- its bytes
+    abbrev pub bytesOf : List ℕ
+    bytesOf = blockAt fixed w header offsets xs js start
+
+    pub bytes-least : slotAt fixed start .size ≤ length bytesOf
+    bytes-least = block-least fixed w header start (slotAt fixed start .size) (objectsIn start (slotAt fixed start .size) offsets xs js)
+
     coming : Coming fixed start placeOf (drop (suc n) starts) 0 starts firstDirect
     coming = record { placed = starts-placed; ahead = omega arith; there = there; stands = refl }
 
@@ -155,10 +183,13 @@ module _ (c : Call) (p : ManagedPlan) (W : Written c p) where
           has-some F address R (omega arith) (ap (λ (k : ℕ). take k (drop address F)) m ∙ H .holds ∙ take-at R (drop (length R) (c .lent)) (p .«region_size») m)
 
       -- the block stands there
-      pub block-has : Has F placeOf (blockAt fixed w header offsets xs js start)
+      pub block-has : Has F placeOf bytesOf
       block-has =
           directs-has fixed w header offsets xs js F firstDirect start (drop (suc n) starts) starts direct-length there
           (subst (λ (y : ℕ). Has F (address + y) directPart) indirect-length (has-right F address indirectPart directPart region-has))
+
+      pub block-inside : placeOf + slotAt fixed start .size ≤ length F
+      block-inside = let k = block-has .within in let m = bytes-least in omega arith
 
       -- ---- under a header
 

@@ -1,15 +1,13 @@
 -- Every object comes back: document 01's demand 3, and what it means for an ID that was given early.
-use Prim.Native.Nat.{ℕ, _+_, _-_, _*_, _^_, _≤_, _<_, max}
+use Prim.Native.Nat.{ℕ, _+_, _-_, _^_, _≤_, _<_, max}
 use mathlib.Core.Path.{_≡_, refl, sym, ap, ap₂, _∙_, subst, subst₂}
 use mathlib.Core.List.{List}
 use native.Mathlib.Omega.{arith}
 use native.Mathlib.Decide.{ℕ-discrete}
 use lib.ListN.{length, take, drop, getD, length-drop, take-append-drop}
-use lib.Pow.{pow-mono}
 use lib.Seq.{take-append-le, drop-append-le, take-take, take-all, length-take-le, getD-take}
 use borrow.Author.Tests.{le-ltb, le-leb}
 use Rattle.fields.specs.Fields.{lenChecked}
-use Rattle.little_endian.proofs.Widths.{legal-small}
 use Rattle.table.specs.Table.{fixed, rowOffset}
 use Rattle.table.specs.Slots.{slotAt}
 use Rattle.table.specs.Sizes.{directHeader, maxManaged}
@@ -20,13 +18,11 @@ use Rattle.plan_steps.specs.Steps.{planOffsets}
 use Rattle.plan.specs.declared.ManagedPlan.{ManagedPlan}
 use Rattle.plan.specs.declared.Planned.the-variants.{Accepted}
 use Rattle.plan.specs.Answer.{answer}
-use Rattle.plan.proofs.Answering.{accepted}
 use Rattle.plan_checks.proofs.Checking.{all-small}
 use Rattle.plan_laws.specs.Plans.{InPlacedBlock}
 use Rattle.plan_laws.proofs.Front.{front-part}
 use Rattle.plan_laws.proofs.Objects.{no-shared-byte, in-one-body, no-header-touched}
 use Rattle.plan_laws.proofs.Free.{free-is-count}
-use Rattle.region_directs.specs.Directs.{objectsIn}
 use Rattle.region_directs.proofs.Objects.{objects-at}
 use Rattle.heap_blocks.specs.declared.Found.the-variants.{At}
 use Rattle.heap_blocks.specs.Blocks.{directAt}
@@ -38,8 +34,7 @@ use Rattle.managed_ids.specs.Ids.{managedId, idWritten}
 use Rattle.read_laws.proofs.Holding.{has-part}
 use Rattle.read_back.specs.ReadBack.{Call, Written, HoldsRegion, HeaderOf, offsetOf, ComesBack, partOf, PlanKept, HeapKept, EarlyIdHolds}
 use Rattle.read_back.proofs.Ids.{decodes, id-passes, id-is}
-use Rattle.read_back.proofs.Directs.{block-least, blockAt}
-use Rattle.read_back.proofs.Finding.{planned, tests, start, placeOf, in-region, block-has, root-finds}
+use Rattle.read_back.proofs.Finding.{planned, tests, went, block-of, start, placeOf, place-fits, bytesOf, bytes-least, block-has, block-inside, root-finds}
 
 -- ---- the reader by an ID
 
@@ -64,17 +59,8 @@ module _ (c : Call) (p : ManagedPlan) (W : Written c p)
   abbrev xs : List ℕ
   xs = c .sizes
 
-  abbrev o : ℕ
-  o = c .offset-places
-
-  abbrev b : ℕ
-  b = c .block-places
-
   abbrev js : List ℕ
   js = c .objects
-
-  abbrev header : ℕ
-  header = c .header-address
 
   abbrev w : ℕ
   w = c .width
@@ -87,7 +73,7 @@ module _ (c : Call) (p : ManagedPlan) (W : Written c p)
 
   -- the block that it lies in
   B : InPlacedBlock w xs i
-  B = in-one-body xs o b w p (planned c p W) i l
+  B = block-of c p W i l
 
   abbrev its : ℕ
   its = start c p W (B .n) (B .placed)
@@ -100,7 +86,7 @@ module _ (c : Call) (p : ManagedPlan) (W : Written c p)
 
   size-small : size < 2 ^ 16
   unfolding maxManaged directHeader
-  size-small = let z = all-small (maxManaged fixed w) 0 xs (accepted xs o b w p (planned c p W) .0 .sizes) i l in omega arith
+  size-small = let z = all-small (maxManaged fixed w) 0 xs (went c p W .0 .sizes) i l in omega arith
 
   -- where its offset lies in the block, and so not at the block's end
   module _ (u : offset < its + B .size) where
@@ -113,12 +99,8 @@ module _ (c : Call) (p : ManagedPlan) (W : Written c p)
         let f = B .from in
         let t = B .to in
         let z = slot-size in
-        let r = in-region c p W (B .n) (B .placed) in
-        let e = tests c p W .end in
-        let k = block-has c p W (B .n) (B .placed) F H .within in
-        let m = block-least fixed w header its (slotAt fixed its .size) (objectsIn its (slotAt fixed its .size) (planOffsets fixed w xs) xs js) in
-        let n = legal-small w (accepted xs o b w p (planned c p W) .0 .width) in
-        let q : 2 ^ (8 * w) ≤ 2 ^ 64 = pow-mono {i = 8 * w} {j = 64} (omega arith) in
+        let r = place-fits c p W (B .n) (B .placed) in
+        let k = block-inside c p W (B .n) (B .placed) F H in
         root-finds c p W (B .n) (B .placed) F H h T offset size (omega arith) (omega arith)
         ∙ in-block F place its offset size (omega arith) (omega arith)
 
@@ -126,23 +108,23 @@ module _ (c : Call) (p : ManagedPlan) (W : Written c p)
     unfolding partOf
     bytes = go (ℕ-discrete size 0)
       where
-        from-block : take size (drop (place + (offset - its)) F) ≡ take size (drop (offset - its) (blockAt fixed w header (planOffsets fixed w xs) xs js its))
+        from-block : take size (drop (place + (offset - its)) F) ≡ take size (drop (offset - its) (bytesOf c p W (B .n) (B .placed)))
         from-block =
             let f = B .from in
             let t = B .to in
             let z = slot-size in
-            let m = block-least fixed w header its (slotAt fixed its .size) (objectsIn its (slotAt fixed its .size) (planOffsets fixed w xs) xs js) in
-            has-part F place (blockAt fixed w header (planOffsets fixed w xs) xs js its) (offset - its) size (block-has c p W (B .n) (B .placed) F H) (omega arith)
+            let m = bytes-least c p W (B .n) (B .placed) in
+            has-part F place (bytesOf c p W (B .n) (B .placed)) (offset - its) size (block-has c p W (B .n) (B .placed) F H) (omega arith)
 
         go : Dec (size ≡ 0) → take size (drop (place + (offset - its)) F) ≡ take size (drop (sum (take i xs)) js)
         go (yes e) = ap (λ (n : ℕ). take n (drop (place + (offset - its)) F)) e ∙ sym (ap (λ (n : ℕ). take n (drop (sum (take i xs)) js)) e)
         go (no e) =
-            let G = accepted xs o b w p (planned c p W) .1 in
+            let G = went c p W .1 in
             let S = fixed-slot (B .slot) in
             let f = B .from in
             let z = slot-size in
             from-block
-            ∙ objects-at fixed (omega arith) (omega arith) w xs js (sym (tests c p W .bytes)) (G .state) (G .ran) header its (slotAt fixed its .size) i l (omega arith)
+            ∙ objects-at fixed (omega arith) (omega arith) w xs js (sym (tests c p W .bytes)) (G .state) (G .ran) (c .header-address) its (slotAt fixed its .size) i l (omega arith)
             (record { starts = S .starts; inside = S .inside; size-is = refl }) (omega arith) (omega arith)
 
     back : ComesBack F h w offset size (partOf xs js i)

@@ -22,9 +22,6 @@ has-some F p l s e =
     let c = length-drop p F in
     record { within = omega arith; same = e }
 
-pub has-all : (l : List ℕ) → Has l 0 l
-has-all l = record { within = omega arith; same = take-length l }
-
 -- a part of what stands there
 pub has-part : (F : List ℕ) (p : ℕ) (l : List ℕ) (q m : ℕ) → Has F p l → q + m ≤ length l → take m (drop (p + q) F) ≡ take m (drop q l)
 has-part F p l q m H u =

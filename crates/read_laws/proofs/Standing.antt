@@ -72,7 +72,7 @@ module _ (t : Table) (w header : ℕ) (F : List ℕ) (p at : ℕ) (es : List ℕ
   unfolding indirectBlock
   head-has = has-left F p (blockHead t w indirectSignature header at ++ es) (le 4 (hashlittle (blockHead t w indirectSignature header at ++ es))) H
 
-  pub entries-has : Has (drop p F) (5 + w + offsetBytes t) es
+  entries-has : Has (drop p F) (5 + w + offsetBytes t) es
   entries-has =
       has-drop F p (5 + w + offsetBytes t) es (subst (λ (y : ℕ). Has F (p + y) es) (indirect-head-length t w header at) (has-right F p (blockHead t w indirectSignature header at) es head-has))
 

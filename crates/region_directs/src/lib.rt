@@ -11,10 +11,10 @@ ghost use Rattle.plan_steps.specs.Steps.{initial, planOffsets, planStarts, star
 ghost use Rattle.plan_steps.specs.Requires.{Small, Runs};
 ghost use Rattle.region_blocks.specs.Storing.{stored};
 ghost use Rattle.region_directs.specs.Directs.{directs};
+use plan_runs::fill_block;
+use plan_search::open_block;
 use plan_steps::Step;
-use plan_steps::fill_block;
 use plan_steps::initial;
-use plan_steps::open_block;
 use region_blocks::Site;
 use region_blocks::write_direct_block;
 

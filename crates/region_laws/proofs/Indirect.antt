@@ -14,9 +14,10 @@ use Rattle.plan_steps.specs.declared.Run.the-variants.{Done}
 use Rattle.plan.specs.declared.ManagedPlan.{ManagedPlan}
 use Rattle.plan.specs.declared.Planned.the-variants.{Accepted}
 use Rattle.plan_steps.specs.Steps.{initial, blockEnd, run, planOffsets, planStarts}
-use Rattle.plan.specs.Answer.{closed, rootRows, bareTotals, rowTotals, totals, answer}
+use Rattle.plan_end.specs.End.{closed, rootRows}
+use Rattle.plan.specs.Answer.{bareTotals, rowTotals, totals, answer}
 use Rattle.plan.proofs.Answering.{accepted}
-use Rattle.plan.proofs.Room.{Reach, reach, no-rows}
+use Rattle.plan_end.proofs.Room.{Reach, reach, no-rows}
 use Rattle.plan_laws.proofs.Laying.{Laid, end, same, new, blocks, still-ok, starts-some, ran-ok, ran-laid}
 use Rattle.plan_laws.proofs.Root.{no-root-rows, one-block}
 use Rattle.plan_laws.proofs.Tally.{tallied}

@@ -1,17 +1,17 @@
 // The whole way of a run: its region is written into a part of a file, every nonempty object gets its ID and is read
 // by it, and its bytes are compared. The contract says that all of them come back.
 ghost use mathlib.Core.Path.{_≡_};
-ghost use Prim.Native.Nat.{min};
 ghost use lib.ListN.{length};
 ghost use Rattle.table.specs.Table.{fixed};
 ghost use Rattle.plan_steps.specs.Steps.{planOffsets, planStarts};
 ghost use Rattle.plan.specs.Answer.{written};
-ghost use Rattle.round_trip.specs.RoundTrip.{serializedAt, fileWritten, nonempty, cameBack};
-use fractal_heap_write::serialize;
+ghost use Rattle.region_in_file.specs.InFile.{serializedAt, fileWritten};
+ghost use Rattle.round_trip.specs.RoundTrip.{nonempty, cameBack};
+use object_reads::fixed_header;
+use objects_back::read_back;
 use plan::Planned;
 use refusals::FormatError;
-use whole_way::fixed_header;
-use whole_way::read_back;
+use region_in_file::serialize_at;
 
 // How many nonempty objects came back, or the writer's refusal.
 pub enum RoundTrip {
@@ -19,42 +19,7 @@ pub enum RoundTrip {
     Refused(FormatError),
 }
 
-fn least(x: u64, y: usize) -> usize
-    ensures { λ r. ⌜ r ≡ min x y ⌝ }
-{
-    if x < y as u64 { x as usize } else { y }
-}
-
-// Writes the region of the objects into `file` from the region's address on.
-pub fn serialize_at(
-    sizes: &[u64],
-    offsets: &mut [u64],
-    blocks: &mut [u64],
-    objects: &[u8],
-    file: &mut [u8],
-    region_address: u64,
-    heap_header_address: u64,
-    offset_size: u8,
-) -> Planned
-    ensures { λ r. ⌜ r ≡ serializedAt (now (sizes .entry)) (length (now (offsets .entry))) (length (now (blocks .entry))) (now (objects .entry)) (now (file .entry)) «region_address» «heap_header_address» «offset_size» ⌝ }
-    ensures { λ r. ⌜ now (offsets .exit) ≡ written r (planOffsets fixed «offset_size» (now (sizes .entry))) (now (offsets .entry)) ⌝ }
-    ensures { λ r. ⌜ now (blocks .exit) ≡ written r (planStarts fixed «offset_size» (now (sizes .entry))) (now (blocks .entry)) ⌝ }
-    ensures { λ r. ⌜ now (file .exit) ≡ fileWritten r «offset_size» «heap_header_address» «region_address» (now (sizes .entry)) (now (objects .entry)) (now (file .entry)) ⌝ }
-{
-    let start = least(region_address, file.len());
-    serialize(
-        sizes,
-        offsets,
-        blocks,
-        objects,
-        &mut file[start..],
-        region_address,
-        heap_header_address,
-        offset_size,
-    )
-}
-
-// The same, and then reads all nonempty objects back.
+// Writes the region of the objects into `file` from the region's address on, and then reads all nonempty objects back.
 pub fn round_trip(
     sizes: &[u64],
     offsets: &mut [u64],

@@ -6,7 +6,8 @@
 use checksum::jenkins_lookup3;
 use fractal_heap::header::FractalHeapHeader;
 use managed_ids::write_managed_id;
-use numbers::saturating_add;
+use object_reads::fixed_header;
+use object_reads::read_object;
 use plan::ManagedPlan;
 use plan::Planned;
 use refusals::Answer;
@@ -19,8 +20,6 @@ use report::number;
 use report::text;
 use round_trip::RoundTrip;
 use round_trip::round_trip;
-use whole_way::fixed_header;
-use whole_way::read_object;
 
 // The most objects of a list, and the bytes of the file.
 const PLACES: usize = 64;

@@ -18,7 +18,7 @@ use Rattle.table.specs.Sizes.{offsetBytes, directHeader}
 use Rattle.table.specs.Capacity.{sum, blockCapacity, capacities, capacity}
 use Rattle.table.proofs.Rows.{row, row-mono, slot-rows}
 
-pub sum-append : (xs ys : List ℕ) → sum (xs ++ ys) ≡ sum xs + sum ys
+sum-append : (xs ys : List ℕ) → sum (xs ++ ys) ≡ sum xs + sum ys
 unfolding sum
 sum-append [] ys = sym (native.Mathlib.Nat.zero-add (sum ys))
 sum-append (x ∷ xs) ys = let z = sum-append xs ys in omega arith
@@ -36,7 +36,7 @@ sum-take-le l i n h =
     omega arith
 
 module _ (t : Table) (h : ℕ) where
-  pub length-capacities : (n : ℕ) → length (capacities t h n) ≡ n
+  length-capacities : (n : ℕ) → length (capacities t h n) ≡ n
   unfolding capacities
   length-capacities zero = refl
   length-capacities (suc n) = let z = length-capacities n in length-append (capacities t h n) _ ∙ (omega arith)
@@ -103,7 +103,7 @@ module _ (t : Table) (h : ℕ) where
             subst (λ (k : ℕ). capacity t h k ≤ rowOffset t k) e (omega arith)
 
     -- rows hold no more than they span
-    pub capacity-le : (n : ℕ) → capacity t h n ≤ rowOffset t n
+    capacity-le : (n : ℕ) → capacity t h n ≤ rowOffset t n
     capacity-le n = below-le n n (omega arith)
 
 -- ---- the fixed table
@@ -113,7 +113,7 @@ capacity-small h n l =
     let m : rowOffset fixed n ≤ 2 ^ 40 = (let z = row-mono fixed n 29 l in unfold rowOffset in z) in
     le-trans (capacity-le fixed h (omega arith) (omega arith) n) m
 
-pub sum-small : (h n : ℕ) → n ≤ 29 → 4 * sum (capacities fixed h n) ≤ 2 ^ 40
+sum-small : (h n : ℕ) → n ≤ 29 → 4 * sum (capacities fixed h n) ≤ 2 ^ 40
 sum-small h n l = unfold capacity in capacity-small h n l
 
 pub header-small : (w : ℕ) → w ≤ 255 → directHeader fixed w ≤ 1024

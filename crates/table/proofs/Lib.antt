@@ -1,6 +1,6 @@
 pub mod Powers
+pub mod Lists
 pub mod Rows
 pub mod Slots
 pub mod Locating
-pub mod RootRows
 pub mod Capacity

@@ -9,7 +9,8 @@ use lib.Dec.{leb, ltb}
 use lib.Count.{leadingZeros, leading-top}
 use lib.Pow.{pow-pos, pow-mono, pow-lt, pow-add, shr-lt}
 use borrow.Author.Tests.{leb-true, leb-false, le-leb, lt-leb, lt-ltb, le-ltb}
-use Rattle.table.specs.Table.{Table, fixed, rowBits, rowOffset, rowIn, rowOf}
+use Rattle.table.specs.Table.{Table, fixed, rowBits, rowOffset, rowIn, rowOf, placeOf}
+use Rattle.table.specs.declared.RowCol.{RowCol}
 use Rattle.table.specs.Slots.{slotStart}
 use Rattle.table.proofs.Powers.{pow-lt-cancel, le-of-not-lt}
 
@@ -185,6 +186,15 @@ row-clz x l h =
 
 pub row-29 : (x : ℕ) → x < 2 ^ 40 → rowOf fixed x < 29
 row-29 x h = row-lt fixed x 29 (unfold rowOffset in h)
+
+-- row and column, from the row, its start and its blocks' size
+pub place-is : (x r start size : ℕ) → r ≡ rowOf fixed x → start ≡ rowOffset fixed r → size ≡ 2 ^ rowBits fixed r
+    → _≡_ {A = RowCol} (record { row = r; col = (x - start) / size }) (placeOf fixed x)
+unfolding placeOf
+place-is x r start size e f g =
+    let starts : start ≡ rowOffset fixed (rowOf fixed x) = f ∙ ap (rowOffset fixed) e in
+    let sizes : size ≡ 2 ^ rowBits fixed (rowOf fixed x) = g ∙ ap (λ (k : ℕ). 2 ^ rowBits fixed k) e in
+    λ i. record { row = e i; col = (x - starts i) / sizes i }
 
 -- eight rows are direct
 pub direct-rows : (r : ℕ) → ltb r 8 ≡ leb (rowBits fixed r) 16

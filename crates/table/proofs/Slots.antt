@@ -15,7 +15,7 @@ use Rattle.table.proofs.Powers.{pow-lt-cancel, le-of-not-lt, digits-uni
 use Rattle.table.proofs.Rows.{Top, heap-rows, top-row}
 
 module _ (t : Table) where
-  pub top-lt-absurd : (q b r q′ b′ r′ : ℕ) → Top t q b → Top t q′ b′ → r < 2 ^ b → q * 2 ^ b + r ≡ q′ * 2 ^ b′ + r′ → b < b′ → ⊥
+  top-lt-absurd : (q b r q′ b′ r′ : ℕ) → Top t q b → Top t q′ b′ → r < 2 ^ b → q * 2 ^ b + r ≡ q′ * 2 ^ b′ + r′ → b < b′ → ⊥
   top-lt-absurd q b r q′ b′ r′ T T′ hr e l =
       let h1 : 2 ^ t .widthBits * 2 ^ b′ ≤ q′ * 2 ^ b′ = mul-le-mul-right (2 ^ b′) (T′ .hi (lt-of-le-of-lt (T .lo) l)) in
       let h2 : (suc q) * 2 ^ b ≤ 2 ^ suc (t .widthBits) * 2 ^ b = mul-le-mul-right (2 ^ b) (T .up) in
@@ -48,7 +48,7 @@ module _ (t : Table) where
       let e″ : q * 2 ^ b + r ≡ q′ * 2 ^ b + r′ = sym e ∙ p ∙ e′ ∙ ap (λ (k : ℕ). q′ * 2 ^ k + r′) (sym z) in
       slotted-unique s r′ d (digits-unique q q′ b r r′ h h″ e″ .1) s′
 
-  pub slot-in-is : (f x : ℕ) → t .startBits ≤ t .directBits → x < 2 ^ f → x < 2 ^ t .heapBits → Slotted t x (slotIn t f x)
+  slot-in-is : (f x : ℕ) → t .startBits ≤ t .directBits → x < 2 ^ f → x < 2 ^ t .heapBits → Slotted t x (slotIn t f x)
   unfolding slotIn
   slot-in-is zero x g h k =
       let e : x ≡ 0 * 2 ^ t .startBits + x = omega arith in
@@ -126,7 +126,7 @@ module _ (t : Table) where
           here = e ∙ (let z : 0 ≡ 0 * 2 ^ t .startBits = omega arith in ap (λ (y : ℕ). q * 2 ^ b + y) z) ∙ join q b (t .startBits) 0 (T .lo);
         }
 
-    pub top-next : (q b : ℕ) → Top t q b → Start t (suc q * 2 ^ b)
+    top-next : (q b : ℕ) → Top t q b → Start t (suc q * 2 ^ b)
     top-next q b T = go (decLt (suc q) (2 ^ suc (t .widthBits)))
       where
         go : Dec (suc q < 2 ^ suc (t .widthBits)) → Start t (suc q * 2 ^ b)

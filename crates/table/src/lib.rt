@@ -1,11 +1,11 @@
 // The doubling table of a fractal heap at the fixed geometry: width 4, starting block 1,024, largest
-// direct block 65,536, heap space 2^40. The definitions in specs/ have the table as a parameter; those of
-// sizes, slots and capacities serve the functions of table_sizes, table_slots and table_capacity.
+// direct block 65,536, heap space 2^40. The definitions in specs/ have the table as a parameter; they also serve the
+// functions of table_rows, table_sizes, table_slots and table_capacity.
 // Functions with a `requires` serve our own crates and are no part of the interface.
 ghost use mathlib.Core.Path.{_≡_};
 ghost use Prim.Native.Nat.{_^_, _<_, _≤_};
 ghost use lib.Dec.{leb};
-ghost use Rattle.table.specs.Table.{fixed, rowBits, rowOffset, rowOf, placeOf, covering};
+ghost use Rattle.table.specs.Table.{fixed, rowBits, rowOffset, rowOf, placeOf};
 
 pub struct RowCol {
     pub row: u64,
@@ -55,7 +55,7 @@ pub fn row_offset(row: u64) -> u64
 }
 
 // The row of an offset.
-fn row_of(offset: u64) -> u64
+pub fn row_of(offset: u64) -> u64
     requires { ⌜ offset ≤ 2 ^ 40 ⌝ }
     ensures { λ r. ⌜ r ≡ rowOf fixed offset ⌝ }
 {
@@ -76,25 +76,4 @@ pub fn lookup(offset: u64) -> RowCol
         row,
         col: (offset - row_offset(row)) / row_block_size(row),
     }
-}
-
-// The rows of an indirect block that spans `size` bytes: the row that would begin where it ends.
-pub fn size_to_rows(size: u64) -> u64
-    requires { ⌜ size ≤ 2 ^ 40 ⌝ }
-    ensures { λ r. ⌜ r ≡ rowOf fixed size ⌝ }
-{
-    row_of(size)
-}
-
-// The fewest rows of a root that span `span` bytes.
-pub fn root_rows_covering(span: u64) -> Covering
-    ensures { λ r. ⌜ r ≡ covering fixed span ⌝ }
-{
-    if span == 0 {
-        return Covering::Rows(1);
-    }
-    if span > 0x100_0000_0000 {
-        return Covering::Beyond;
-    }
-    Covering::Rows(row_of(span - 1) + 1)
 }

@@ -16,7 +16,7 @@ use Rattle.table.proofs.Slots.{Slotted, top, sub, Start, slotted-unique, slotte
 use Rattle.table_laws.specs.Count.{InBody}
 
 -- the rows of the largest root span the heap
-pub heap-span : (t : Table) → t .startBits + t .widthBits ≤ t .heapBits → rowOffset t (maxRows t) ≡ 2 ^ t .heapBits
+heap-span : (t : Table) → t .startBits + t .widthBits ≤ t .heapBits → rowOffset t (maxRows t) ≡ 2 ^ t .heapBits
 unfolding rowOffset maxRows
 heap-span t k =
     let a = t .startBits + t .widthBits in

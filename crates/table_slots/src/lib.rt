@@ -13,7 +13,7 @@ use table::is_direct;
 use table::lookup;
 use table::row_block_size;
 use table::row_offset;
-use table::size_to_rows;
+use table_rows::size_to_rows;
 use table_sizes::indirect_block_size;
 
 // The table's own slot that holds an offset.

@@ -13,7 +13,8 @@ use Rattle.table.specs.Capacity.{sum, blockCapacity, capacities, capacity}
 use Rattle.plan_steps.specs.Steps.{openIn, openAt, stepOf, runFrom, offsetsFrom, startsFrom, run, planOffsets, planStarts}
 use Rattle.plan.specs.declared.ManagedPlan.{ManagedPlan}
 use Rattle.plan.specs.declared.Planned.the-variants.{Accepted}
-use Rattle.plan.specs.Answer.{closed, rootRows, totals, answer}
+use Rattle.plan_end.specs.End.{closed, rootRows}
+use Rattle.plan.specs.Answer.{totals, answer}
 use Rattle.plan_checks.specs.Checks.{sizesChecked, placesChecked, widthChecked, inputChecked}
 use Rattle.little_endian.specs.LittleEndian.{le, value, leAt}
 use lib.Count.{leadingZeros}

@@ -16,10 +16,14 @@ same-length : tie.Need-same-length
 same-length c = search needs
 
 returns : tie.Need-returns
-returns c = (offsets-none ((c .before .before .before .before) .args .offset-size) ((c .before .before .before .before) .args .sizes .now) ((c .before .before .before .before) .args .offsets .now) (c .if1 .taken), blocks-none ((c .before .before .before .before) .args .offset-size) ((c .before .before .before .before) .args .sizes .now) ((c .before .before .before .before) .args .blocks .now) (c .if1 .taken) (omega (arith, (c .before .before .before .before) .pre .1 .0 .1)))
+returns c =
+    let a = c .before .before .before .before .args in
+    (offsets-none (a .offset-size) (a .sizes .now) (a .offsets .now) (c .if1 .taken), blocks-none (a .offset-size) (a .sizes .now) (a .blocks .now) (c .if1 .taken) (omega (arith, c .before .before .before .before .pre .1 .0 .1)))
 
 write-plan-requires : tie.Need-write-plan-requires
-write-plan-requires c κs = ((c .before .before .before .before .before .before) .pre .0, ((omega (arith, (c .before .before .before .before .before .before) .pre .1 .0 .0), omega (arith, (c .before .before .before .before .before .before) .pre .1 .0 .1)), (c .before .before .before .before .before .before) .pre .1 .1))
+write-plan-requires c κs =
+    let pre = c .before .before .before .before .before .before .pre in
+    (pre .0, ((omega (arith, pre .1 .0 .0), omega (arith, pre .1 .0 .1)), pre .1 .1))
 
 same-length-2 : tie.Need-same-length-2
 same-length-2 c = search needs
@@ -28,7 +32,11 @@ same-length-3 : tie.Need-same-length-3
 same-length-3 c = search needs
 
 returns-2 : tie.Need-returns-2
-returns-2 c = ((c .before .before .before .before) .write-plan .ensures .0 ∙ ap (λ (y : List ℕ). fronted y ((c .before .before .before .before .before .before .before .before .before .before .before) .args .offsets .now)) (offsets-some ((c .before .before .before .before .before .before .before .before .before .before .before) .args .offset-size) ((c .before .before .before .before .before .before .before .before .before .before .before) .args .sizes .now)), (c .before .before .before .before) .write-plan .ensures .1 ∙ ap (λ (y : List ℕ). fronted y ((c .before .before .before .before .before .before .before .before .before .before .before) .args .blocks .now)) (blocks-some ((c .before .before .before .before .before .before .before .before .before .before .before) .args .offset-size) ((c .before .before .before .before .before .before .before .before .before .before .before) .args .sizes .now) ((c .before .before .before .before .before .before .before) .if1 .left)))
+returns-2 c =
+    let a = c .before .before .before .before .before .before .before .before .before .before .before .args in
+    let if1 = c .before .before .before .before .before .before .before .if1 in
+    let write-plan = c .before .before .before .before .write-plan in
+    (write-plan .ensures .0 ∙ ap (λ (y : List ℕ). fronted y (a .offsets .now)) (offsets-some (a .offset-size) (a .sizes .now)), write-plan .ensures .1 ∙ ap (λ (y : List ℕ). fronted y (a .blocks .now)) (blocks-some (a .offset-size) (a .sizes .now) (if1 .left)))
 
 pub write-lists-spec : {M : Type 1} → statement M
 write-lists-spec =

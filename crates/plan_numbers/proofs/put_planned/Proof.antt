@@ -32,7 +32,10 @@ same-length-2 : tie.Need-same-length-2
 same-length-2 c = search needs
 
 returns-2 : tie.Need-returns-2
-returns-2 c = rw (c .before .before .before .before .before .before .answer2 .given .1) (ap (λ (a : Pair). a .number) (c .before .before .before .before .refused .ensures), c .before .before .put-pair .ensures ∙ ap (λ (a : Pair). fronted (a .first ∷ a .second ∷ []) (c .before .before .before .before .before .before .before .before .before .args .totals .now)) (c .before .before .before .before .refused .ensures))
+returns-2 c =
+    let args = c .before .before .before .before .before .before .before .before .before .args in
+    let refused = c .before .before .before .before .refused in
+    rw (c .before .before .before .before .before .before .answer2 .given .1) (ap (λ (a : Pair). a .number) (refused .ensures), c .before .before .put-pair .ensures ∙ ap (λ (a : Pair). fronted (a .first ∷ a .second ∷ []) (args .totals .now)) (refused .ensures))
 
 pub put-planned-spec : {M : Type 1} → statement M
 put-planned-spec =

@@ -35,10 +35,15 @@ little : (w e s r : ℕ) → w ≤ 255 → r ≡ entered fixed w e s → r ≤ 2
 little w e s r l q = let z = entered-small w e s l in omega arith
 
 add-t12 : tie.Need-add-t12
-add-t12 c = omega (arith, (c .before .before .before .before .before .before .before .before) .pre .0 .between, little ((c .before .before .before .before .before .before .before .before) .args .offset-size) _ _ _ (omega arith) (c .before .entered-blocks .ensures))
+add-t12 c =
+    let a = c .before .before .before .before .before .before .before .before .args in
+    let pre = c .before .before .before .before .before .before .before .before .pre in
+    omega (arith, pre .0 .between, little (a .offset-size) _ _ _ (omega arith) (c .before .entered-blocks .ensures))
 
 returns : tie.Need-returns
-returns c = λ i. record { start = (c .before .before .before .before .before .before .before .before) .args .b .start; size = (c .before .before .before .before .before .before .before .before) .args .b .size; fill = (c .before .before .before .before .before .before) .direct-block-header .ensures i + (c .before .before .before .before .before .before .before .before) .args .size; count = (c .before .before .before .before .before .before .before .before) .args .s .count + 1; allocated = (c .before .before .before .before .before .before .before .before) .args .s .allocated + (c .before .before .before .before .before .before .before .before) .args .b .size; used = (c .before .before .before .before .before .before .before .before) .args .s .used + (c .before .before .before .before .before .before .before .before) .args .size; indirect = (c .before .before .before .before .before .before .before .before) .args .s .indirect + c .before .entered-blocks .ensures i }
+returns c =
+    let a = c .before .before .before .before .before .before .before .before .args in
+    λ i. record { start = a .b .start; size = a .b .size; fill = c .before .before .before .before .before .before .direct-block-header .ensures i + a .size; count = a .s .count + 1; allocated = a .s .allocated + a .b .size; used = a .s .used + a .size; indirect = a .s .indirect + c .before .entered-blocks .ensures i }
 
 pub in-new-spec : {M : Type 1} → statement M
 in-new-spec =

@@ -3,8 +3,8 @@ use borrow.Author.Needs.{needs}
 use mathlib.Core.Path.{ap}
 use native.Mathlib.Omega.{arith}
 use lib.Pow.{pow-pos}
-use Rattle.table.specs.Table.{fixed, rowBits, rowOffset, placeOf}
-use Rattle.table.proofs.Rows.{row-29, row-lo}
+use Rattle.table.specs.Table.{fixed, rowBits, rowOffset}
+use Rattle.table.proofs.Rows.{row-29, row-lo, place-is}
 use Rattle.table.proofs.lookup.Statement.{statement}
 use Rattle.table.proofs.lookup.Tie as tie
 
@@ -24,8 +24,7 @@ div-t6 : tie.Need-div-t6
 div-t6 c = omega (arith, pow-pos (rowBits fixed (c .before .before .row-of .result)))
 
 returns : tie.Need-returns
-unfolding placeOf
-returns c = cc
+returns c = place-is (c .before .before .before .args .offset) _ _ _ (c .before .before .row-of .ensures) (c .before .row-offset .ensures) (c .row-block-size .ensures)
 
 pub lookup-spec : {M : Type 1} → statement M
 lookup-spec =

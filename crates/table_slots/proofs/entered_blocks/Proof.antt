@@ -46,7 +46,9 @@ more : (c : tie.After-entered-here Inv-loop μ-loop)
 more c = entering-more _ _ _ _ _ _ _ _ _ ((c .before .before .before .before .before .before) .loop .inv) (small (c .before .before .before .before .before)) (lev (c .before .before .before .before .before)) (sym (c .before .before .before .before .is-direct .ensures) ∙ c .before .before .before .if1 .left) _ (c .entered-here .ensures)
 
 add-total : tie.Need-add-total Inv-loop μ-loop
-add-total c = omega (arith, more c .rest, entered-small ((c .before .before .before .before .before .before .before) .args .offset-size) ((c .before .before .before .before .before .before .before) .args .end) ((c .before .before .before .before .before .before .before) .args .start) (omega arith))
+add-total c =
+    let a = c .before .before .before .before .before .before .before .args in
+    omega (arith, more c .rest, entered-small (a .offset-size) (a .end) (a .start) (omega arith))
 
 loop-less : tie.Need-loop-less Inv-loop μ-loop
 loop-less c = let z = rest-small _ _ _ _ (lev (c .before .before .before .before .before)) (sym (c .before .before .before .before .is-direct .ensures) ∙ c .before .before .before .if1 .left) (small (c .before .before .before .before .before)) in omega (arith, z .1, lev (c .before .before .before .before .before) .below)

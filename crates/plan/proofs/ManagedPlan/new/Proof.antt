@@ -15,7 +15,9 @@ enum-known-p c = search needs
 
 -- an accepted list passed the tests, and the heap space holds it
 went : (c : tie.After-p) → Passing ((c .before .before .before .before .before .before) .args .sizes .now) (length ((c .before .before .before .before .before .before) .args .offsets .now)) (length ((c .before .before .before .before .before .before) .args .blocks .now)) ((c .before .before .before .before .before .before) .args .offset-size) × Went ((c .before .before .before .before .before .before) .args .offset-size) ((c .before .before .before .before .before .before) .args .sizes .now) (c .p .given .0 .0)
-went c = accepted ((c .before .before .before .before .before .before) .args .sizes .now) (length ((c .before .before .before .before .before .before) .args .offsets .now)) (length ((c .before .before .before .before .before .before) .args .blocks .now)) ((c .before .before .before .before .before .before) .args .offset-size) _ (sym ((c .before .before) .planned-for .ensures) ∙ c .p .given .1)
+went c =
+    let a = c .before .before .before .before .before .before .args in
+    accepted (a .sizes .now) (length (a .offsets .now)) (length (a .blocks .now)) (a .offset-size) _ (sym (c .before .before .planned-for .ensures) ∙ c .p .given .1)
 
 write-lists-requires : tie.Need-write-lists-requires
 write-lists-requires c κs =
@@ -32,7 +34,11 @@ same-length-2 : tie.Need-same-length-2
 same-length-2 c = search needs
 
 returns : tie.Need-returns
-returns c = (sym ((c .before .before .before .before .before .before .before .before) .p .given .1) ∙ (c .before .before .before .before .before .before .before .before .before .before) .planned-for .ensures, ((c .before .before .before .before) .write-lists .ensures .0, (c .before .before .before .before) .write-lists .ensures .1))
+returns c =
+    let planned-for = c .before .before .before .before .before .before .before .before .before .before .planned-for in
+    let p = c .before .before .before .before .before .before .before .before .p in
+    let write-lists = c .before .before .before .before .write-lists in
+    (sym (p .given .1) ∙ planned-for .ensures, (write-lists .ensures .0, write-lists .ensures .1))
 
 returns-2 : tie.Need-returns-2
 returns-2 c = (sym (c .before .e .given .1) ∙ (c .before .before .before) .planned-for .ensures, (refl, refl))
