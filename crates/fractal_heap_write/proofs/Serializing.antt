@@ -24,11 +24,11 @@ use Rattle.plan_laws.proofs.Tally.{tallied}
 use Rattle.plan_laws.proofs.Root.{Bare, Rowed, shape}
 use Rattle.region_blocks.specs.declared.Site.{Site}
 use Rattle.region_laws.proofs.Indirect.{indirect-planned}
-use Rattle.fractal_heap_write.specs.Region.{region}
-use Rattle.fractal_heap_write.specs.Requires.{Rooted, Writable}
+use Rattle.region_write.specs.Region.{region}
+use Rattle.region_write.specs.Requires.{Rooted, Writable}
 use Rattle.fractal_heap_write.specs.Serialize.{serialized}
 use Rattle.fractal_heap_write.proofs.Answering.{written, Fit, fit, below-undefined}
-use Rattle.fractal_heap_write.proofs.Planned.{indirect-bytes, indirects-planned, region-length}
+use Rattle.region_laws.proofs.Region.{indirect-bytes, indirects-planned, region-length}
 
 -- as many rows as the heap space has
 rows-few : (n : ℕ) → rowOffset fixed (suc n) ≤ 2 ^ 40 → suc n ≤ 29

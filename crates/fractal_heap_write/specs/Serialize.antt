@@ -9,7 +9,7 @@ use Rattle.plan.specs.declared.Planned.{Planned}
 use Rattle.plan.specs.declared.Planned.the-variants.{Accepted, Refused}
 use Rattle.plan.specs.Answer.{ifChecked, answer}
 use Rattle.region_checks.specs.Checks.{outputChecked}
-use Rattle.fractal_heap_write.specs.Region.{region}
+use Rattle.region_write.specs.Region.{region}
 
 -- a plan that is accepted, and passes a further test
 abbrev pub ifPlanned : Planned → (ManagedPlan → Checked) → Planned

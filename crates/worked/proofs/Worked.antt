@@ -19,7 +19,7 @@ use lib.Count.{leadingZeros}
 use Rattle.heap_rows.specs.Rows.{log2, blockSize, directRows, sizeToRows, heapSize, slotSize}
 use Rattle.heap_ids.specs.Id.{typeOf, splitId, decodedId, tinyIn, tinyAt}
 use Rattle.managed_ids.specs.Ids.{managedId, idLength, idChecked}
-use Rattle.fractal_heap_write.proofs.Planned.{region-length, root-place}
+use Rattle.region_laws.proofs.Region.{region-length, root-place}
 use Rattle.worked.specs.Cases.{Region, Both, All, cases}
 
 both : {P Q : Type 0} → P → Q → Both P Q

@@ -10,7 +10,7 @@ use Rattle.plan_steps.specs.Steps.{planStarts}
 use Rattle.plan_steps.specs.Requires.{Small, Runs}
 use Rattle.region_blocks.specs.declared.Site.{Site}
 use Rattle.region_walk.specs.Walk.{block}
-use Rattle.fractal_heap_write.specs.Region.{indirects, indirectBytes, region}
+use Rattle.region_write.specs.Region.{indirects, indirectBytes, region}
 
 -- the indirect blocks of a root of so many rows, `size` bytes of them, fit into l
 pub record Rooted (site : Site) (starts l : List ℕ) (rows size : ℕ) : Type 0 where

@@ -13,9 +13,9 @@ use Rattle.region_walk.specs.Walk.{block}
 use Rattle.region_walk.specs.Requires.{Fits}
 use Rattle.plan_steps.specs.Steps.{planOffsets, planStarts}
 use Rattle.region_directs.specs.Directs.{directs}
-use Rattle.fractal_heap_write.specs.Region.{indirects, indirectBytes, region}
-use Rattle.fractal_heap_write.specs.Requires.{Rooted, Writable}
-use Rattle.fractal_heap_write.proofs.Lengths.{indirects-none, indirects-some}
+use Rattle.region_write.specs.Region.{indirects, indirectBytes, region}
+use Rattle.region_write.specs.Requires.{Rooted, Writable}
+use Rattle.region_write.proofs.Root.{indirects-none, indirects-some}
 
 -- ---- the indirect blocks
 

@@ -1,8 +1,8 @@
 -- `write_region` meets its contract: the indirect blocks, and the direct ones behind them. Assumes nothing.
-use Rattle.fractal_heap_write.proofs.Writing.{directs-fit, region-done}
+use Rattle.region_write.proofs.Writing.{directs-fit, region-done}
 use borrow.Author.Needs.{needs}
-use Rattle.fractal_heap_write.proofs.write_region.Statement.{statement}
-use Rattle.fractal_heap_write.proofs.write_region.Tie as tie
+use Rattle.region_write.proofs.write_region.Statement.{statement}
+use Rattle.region_write.proofs.write_region.Tie as tie
 
 write-indirects-requires : tie.Need-write-indirects-requires
 write-indirects-requires c κs = search needs

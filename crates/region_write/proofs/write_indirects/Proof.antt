@@ -1,10 +1,10 @@
 -- `write_indirects` meets its contract: nothing, or the walk of the root. Assumes nothing.
 use native.Mathlib.Omega.{arith}
 use Prim.Native.Nat.{_+_}
-use Rattle.fractal_heap_write.proofs.Writing.{none-written, root-fits, some-written}
+use Rattle.region_write.proofs.Writing.{none-written, root-fits, some-written}
 use borrow.Author.Needs.{needs}
-use Rattle.fractal_heap_write.proofs.write_indirects.Statement.{statement}
-use Rattle.fractal_heap_write.proofs.write_indirects.Tie as tie
+use Rattle.region_write.proofs.write_indirects.Statement.{statement}
+use Rattle.region_write.proofs.write_indirects.Tie as tie
 
 returns : tie.Need-returns
 returns c = none-written (c .before .before .before .args .region .now) (c .before .before .before .args .site .«offset_size») (c .before .before .before .args .site .«heap_header_address») (c .before .before .before .args .rows) (c .before .before .before .args .starts .now) (c .before .before .before .args .site .«region_address») (c .before .before .before .args .site .«region_address» + c .before .before .before .args .size) (c .if1 .taken)
