@@ -4,45 +4,13 @@ ghost use lib.ListN.{length};
 ghost use Rattle.table.specs.Table.{fixed};
 ghost use Rattle.plan_steps.specs.Steps.{planOffsets, planStarts};
 ghost use Rattle.plan.specs.Answer.{written};
-ghost use Rattle.fractal_heap_write.specs.Serialize.{serialized, regionWritten};
-use fields::bytes::Checked;
+ghost use Rattle.write_answer.specs.Answer.{serialized};
+ghost use Rattle.fractal_heap_write.specs.Serialize.{regionWritten};
 use plan::Planned;
-use plan::planned_for;
 use plan_lists::write_lists;
 use region_blocks::Site;
-use region_checks::check_output;
-use region_checks::sum_sizes;
 use region_write::write_region;
-
-// The answer; nothing is written.
-fn serialized_for(
-    sizes: &[u64],
-    offsets: usize,
-    blocks: usize,
-    objects: usize,
-    region: usize,
-    site: Site,
-) -> Planned
-    ensures { λ r. ⌜ r ≡ serialized (now (sizes .entry)) offsets blocks objects region (site .«region_address») (site .«heap_header_address») (site .«offset_size») ⌝ }
-{
-    match planned_for(sizes, offsets, blocks, site.offset_size) {
-        Planned::Refused(e) => Planned::Refused(e),
-        Planned::Accepted(p) => {
-            match check_output(
-                site.offset_size,
-                sum_sizes(sizes),
-                objects,
-                p.region_size,
-                region,
-                site.heap_header_address,
-                site.region_address,
-            ) {
-                Checked::Refused(e) => Planned::Refused(e),
-                Checked::Passed => Planned::Accepted(p),
-            }
-        }
-    }
-}
+use write_answer::serialized_for;
 
 // Plans anew, and writes the region of the plan into the front of `region`; the plan itself goes into the lent
 // lists. A refusal leaves all three as they were.

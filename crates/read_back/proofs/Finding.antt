@@ -32,7 +32,7 @@ use Rattle.region_laws.proofs.Indirect.{rooted, indirect-planned, bare-planned}
 use Rattle.region_write.specs.Region.{indirects, indirectBytes, region}
 use Rattle.region_write.proofs.Root.{indirects-some}
 use Rattle.region_laws.proofs.Region.{indirect-bytes, indirects-planned, region-length}
-use Rattle.fractal_heap_write.proofs.Answering.{written, Fit, fit}
+use Rattle.write_answer.proofs.Answering.{written, Fit, fit}
 use Rattle.heap_blocks.specs.declared.Found.{Found}
 use Rattle.heap_blocks.specs.Blocks.{directAt, walkFrom}
 use Rattle.fractal_heap.specs.declared.header.FractalHeapHeader.{FractalHeapHeader}

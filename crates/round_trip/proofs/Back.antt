@@ -18,7 +18,7 @@ use Rattle.plan.specs.declared.Planned.the-variants.{Accepted}
 use Rattle.plan_laws.proofs.Tally.{tallied}
 use Rattle.region_laws.proofs.Indirect.{rooted, region-planned, bare-planned}
 use Rattle.fractal_heap_write.specs.Serialize.{regionWritten}
-use Rattle.fractal_heap_write.proofs.Answering.{below-undefined}
+use Rattle.write_answer.proofs.Answering.{below-undefined}
 use Rattle.heap_blocks.specs.declared.Found.the-variants.{At}
 use Rattle.fractal_heap.specs.declared.header.FractalHeapHeader.{FractalHeapHeader}
 use Rattle.fractal_heap.specs.Read.{managedAt}

@@ -12,7 +12,8 @@ use Rattle.plan.specs.declared.ManagedPlan.{ManagedPlan}
 use Rattle.plan.specs.declared.Planned.{Planned}
 use Rattle.plan.specs.declared.Planned.the-variants.{Accepted}
 use Rattle.plan.specs.Answer.{written}
-use Rattle.fractal_heap_write.specs.Serialize.{serialized, regionWritten}
+use Rattle.write_answer.specs.Answer.{serialized}
+use Rattle.fractal_heap_write.specs.Serialize.{regionWritten}
 use Rattle.fractal_heap.specs.declared.header.FractalHeapHeader.{FractalHeapHeader}
 use Rattle.whole_way.specs.Back.{fixedHeader, backs}
 use Rattle.whole_way.proofs.Back.{take-min, drop-min}

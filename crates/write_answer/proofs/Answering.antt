@@ -21,7 +21,7 @@ use Rattle.plan.specs.Answer.{ifChecked, answer}
 use Rattle.plan.proofs.Answering.{accepted}
 use Rattle.plan_laws.proofs.Laying.{used-sum, still-ok, ran-ok, ran-laid}
 use Rattle.region_checks.specs.Checks.{bytesChecked, headerAddressChecked, regionAddressChecked, undefinedAddress, outputChecked}
-use Rattle.fractal_heap_write.specs.Serialize.{ifPlanned, serialized}
+use Rattle.write_answer.specs.Answer.{ifPlanned, serialized}
 
 module _ (xs : List ℕ) (o b given lent address header w : ℕ) where
   pub by-plan : (e : FormatError) → answer xs o b w ≡ Refused e → Refused e ≡ serialized xs o b given lent address header w
