@@ -50,7 +50,7 @@ stored-all l vs e =
     let n : drop (0 + length vs) l ≡ [] = drop-of-length-le l k in
     stored-is l 0 vs (omega arith) ∙ ap (λ (y : List ℕ). vs ++ y) n ∙ append-nil vs
 
-module _ (site : Site) (xs ss js l : List ℕ) (rows size : ℕ) (W : Writable site xs ss js l rows size) where
+module _ {site : Site} {xs ss js l : List ℕ} {rows size : ℕ} (W : Writable site xs ss js l rows size) where
   abbrev w : ℕ
   w = site .«offset_size»
 

@@ -8,13 +8,15 @@ write-indirects-requires : tie.Need-write-indirects-requires
 write-indirects-requires c κs = search needs
 
 write-directs-requires : tie.Need-write-directs-requires
-write-directs-requires c κs = let W = c .before .before .before .before .before .before .before .before .before .pre in (W .small, (W .runs, (W .joined, directs-fit (c .before .before .before .before .before .before .before .before .before .args .site) (c .before .before .before .before .before .before .before .before .before .args .sizes .now) (c .before .before .before .before .before .before .before .before .before .args .starts .now) (c .before .before .before .before .before .before .before .before .before .args .objects .now) (c .before .before .before .before .before .before .before .before .before .args .region .now) (c .before .before .before .before .before .before .before .before .before .args .rows) (c .before .before .before .before .before .before .before .before .before .args .indirect) (c .before .before .before .before .before .before .before .before .before .pre) _ (c .before .before .before .write-indirects .kept .0))))
+write-directs-requires c κs =
+    let W = c .before .before .before .before .before .before .before .before .before .pre in
+    (W .small, (W .runs, (W .joined, directs-fit W _ (c .before .before .before .write-indirects .kept .0))))
 
 same-length : tie.Need-same-length
 same-length c = search needs
 
 returns : tie.Need-returns
-returns c = region-done (c .before .before .before .before .before .before .before .before .before .before .before .before .args .site) (c .before .before .before .before .before .before .before .before .before .before .before .before .args .sizes .now) (c .before .before .before .before .before .before .before .before .before .before .before .before .args .starts .now) (c .before .before .before .before .before .before .before .before .before .before .before .before .args .objects .now) (c .before .before .before .before .before .before .before .before .before .before .before .before .args .region .now) (c .before .before .before .before .before .before .before .before .before .before .before .before .args .rows) (c .before .before .before .before .before .before .before .before .before .before .before .before .args .indirect) (c .before .before .before .before .before .before .before .before .before .before .before .before .pre) _ _ (c .before .before .before .before .before .before .write-indirects .ensures) (c .before .before .write-directs .ensures)
+returns c = region-done (c .before .before .before .before .before .before .before .before .before .before .before .before .pre) _ _ (c .before .before .before .before .before .before .write-indirects .ensures) (c .before .before .write-directs .ensures)
 
 pub write-region-spec : {M : Type 1} → statement M
 write-region-spec =
