@@ -6,8 +6,8 @@ use Rattle.plan.specs.Answer.{written}
 use Rattle.plan.specs.declared.Planned.{Planned}
 use Rattle.plan_numbers.proofs.Numbers.{number-short, totals-short, after-short, number-long, totals-long, after-by}
 use borrow.Author.Needs.{needs}
-use Rattle.plan_tools_c.proofs.tools_plan.Statement.{statement}
-use Rattle.plan_tools_c.proofs.tools_plan.Tie as tie
+use Rattle.write_tools_c.proofs.tools_plan.Statement.{statement}
+use Rattle.write_tools_c.proofs.tools_plan.Tie as tie
 
 returns : tie.Need-returns
 returns c =
