@@ -8,10 +8,10 @@ ghost use lib.ListN.{length, drop};
 ghost use lib.Dec.{eqb};
 ghost use Rattle.region_walk.specs.Walk.{beginsBefore};
 ghost use Rattle.region_walk.specs.Requires.{blockOf, slotsOf, slotOf, Fits, Wrote, WroteSlots};
+use indirect_block::seal_indirect;
 use region_blocks::Site;
 use region_blocks::put_number;
 use region_blocks::put_run;
-use region_blocks::seal_indirect;
 use table::is_direct;
 use table::row_block_size;
 

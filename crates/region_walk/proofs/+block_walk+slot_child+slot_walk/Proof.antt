@@ -20,7 +20,7 @@ use Rattle.region_walk.proofs.slot_walk.Kinds as slot-walk-kinds
 use Rattle.region_walk.proofs.+block_walk+slot_child+slot_walk.Lts-slot_walk as slot-walk-lts
 use Rattle.region_blocks.proofs.put_number.Reads as put-number-reads
 use Rattle.region_blocks.proofs.put_run.Reads as put-run-reads
-use Rattle.region_blocks.proofs.seal_indirect.Reads as seal-indirect-reads
+use Rattle.indirect_block.proofs.seal_indirect.Reads as seal-indirect-reads
 use Rattle.region_walk.proofs.begins_before.Reads as begins-before-reads
 use Rattle.region_walk.proofs.next_left.Reads as next-left-reads
 use Rattle.region_walk.proofs.next_row.Reads as next-row-reads

@@ -1,8 +1,8 @@
 -- `seal_indirect` meets its contract: the checksum is that of the head and the entries behind it. Assumes nothing.
-use Rattle.region_blocks.proofs.Writing.{sealed}
+use Rattle.indirect_block.proofs.Sealing.{sealed}
 use borrow.Author.Needs.{needs}
-use Rattle.region_blocks.proofs.seal_indirect.Statement.{statement}
-use Rattle.region_blocks.proofs.seal_indirect.Tie as tie
+use Rattle.indirect_block.proofs.seal_indirect.Statement.{statement}
+use Rattle.indirect_block.proofs.seal_indirect.Tie as tie
 
 cast-end : tie.Need-cast-end
 cast-end c = search needs

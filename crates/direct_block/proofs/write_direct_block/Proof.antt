@@ -2,10 +2,10 @@
 use native.Mathlib.Omega.{arith}
 use mathlib.Core.Path.{_≡_, _∙_}
 use Prim.Native.Nat.{_+_}
-use Rattle.region_blocks.proofs.Writing.{header-is, written}
+use Rattle.direct_block.proofs.Filling.{header-is, written}
 use borrow.Author.Needs.{needs}
-use Rattle.region_blocks.proofs.write_direct_block.Statement.{statement}
-use Rattle.region_blocks.proofs.write_direct_block.Tie as tie
+use Rattle.direct_block.proofs.write_direct_block.Statement.{statement}
+use Rattle.direct_block.proofs.write_direct_block.Tie as tie
 
 direct-block-header-requires : tie.Need-direct-block-header-requires
 direct-block-header-requires c κs = search needs
