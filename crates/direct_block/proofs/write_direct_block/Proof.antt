@@ -7,6 +7,10 @@ use borrow.Author.Needs.{needs}
 use Rattle.direct_block.proofs.write_direct_block.Statement.{statement}
 use Rattle.direct_block.proofs.write_direct_block.Tie as tie
 
+-- the length of the block's header
+header : (c : tie.After-direct-block-header) → c .direct-block-header .result ≡ 14 + c .before .before .before .args .site .«offset_size»
+header c = c .direct-block-header .ensures ∙ header-is _
+
 direct-block-header-requires : tie.Need-direct-block-header-requires
 direct-block-header-requires c κs = search needs
 
@@ -18,21 +22,16 @@ add-body c = search needs
 
 put-head-requires : tie.Need-put-head-requires
 put-head-requires c κs =
-    let h = c .before .direct-block-header .ensures ∙ header-is (c .before .before .before .before .args .site .«offset_size») in
     let p = c .before .before .before .before .pre in
-    omega (arith, h, p .0, p .1)
+    omega (arith, header (c .before), p .0, p .1)
 
 sub-put-number : tie.Need-sub-put-number
-sub-put-number c =
-    let h = c .before .before .before .before .before .direct-block-header .ensures ∙ header-is (c .before .before .before .before .before .before .before .before .args .site .«offset_size») in
-    let p = c .before .before .before .before .before .before .before .before .pre in
-    omega (arith, h)
+sub-put-number c = omega (arith, header (c .before .before .before .before .before))
 
 put-number-requires : tie.Need-put-number-requires
 put-number-requires c κs =
-    let h = c .before .before .before .before .before .direct-block-header .ensures ∙ header-is (c .before .before .before .before .before .before .before .before .args .site .«offset_size») in
     let p = c .before .before .before .before .before .before .before .before .pre in
-    omega (arith, h, p .0, p .1, c .before .before .before .put-head .kept .0)
+    omega (arith, header (c .before .before .before .before .before), p .0, p .1, c .before .before .before .put-head .kept .0)
 
 put-bytes-requires : tie.Need-put-bytes-requires
 put-bytes-requires c κs = search needs
@@ -56,30 +55,28 @@ jenkins-lookup3-requires : tie.Need-jenkins-lookup3-requires
 jenkins-lookup3-requires c κs = search needs
 
 sub-put-number-2 : tie.Need-sub-put-number-2
-sub-put-number-2 c =
-    let h = c .before .before .before .before .before .before .before .before .before .before .before .before .before .before .before .before .before .before .before .before .direct-block-header .ensures ∙ header-is (c .before .before .before .before .before .before .before .before .before .before .before .before .before .before .before .before .before .before .before .before .before .before .before .args .site .«offset_size») in
-    let p = c .before .before .before .before .before .before .before .before .before .before .before .before .before .before .before .before .before .before .before .before .before .before .before .pre in
-    omega (arith, h)
+sub-put-number-2 c = omega (arith, header (c .before .before .before .before .before .before .before .before .before .before .before .before .before .before .before .before .before .before .before .before))
 
 cast-put-number : tie.Need-cast-put-number
 cast-put-number c = search needs
 
 put-number-requires-2 : tie.Need-put-number-requires-2
 put-number-requires-2 c κs =
-    let h = c .before .before .before .before .before .before .before .before .before .before .before .before .before .before .before .before .before .before .before .before .direct-block-header .ensures ∙ header-is (c .before .before .before .before .before .before .before .before .before .before .before .before .before .before .before .before .before .before .before .before .before .before .before .args .site .«offset_size») in
     let p = c .before .before .before .before .before .before .before .before .before .before .before .before .before .before .before .before .before .before .before .before .before .before .before .pre in
-    omega (arith, h, p .0, p .1, c .before .before .before .before .before .before .put-run .kept .0, c .before .before .before .before .before .before .before .before .before .before .put-bytes .kept .0, c .before .before .before .before .before .before .before .before .before .before .before .before .before .before .put-number .kept .0, c .before .before .before .before .before .before .before .before .before .before .before .before .before .before .before .before .before .before .put-head .kept .0)
+    omega (arith, header (c .before .before .before .before .before .before .before .before .before .before .before .before .before .before .before .before .before .before .before .before), p .0, p .1, c .before .before .before .before .before .before .put-run .kept .0, c .before .before .before .before .before .before .before .before .before .before .put-bytes .kept .0, c .before .before .before .before .before .before .before .before .before .before .before .before .before .before .put-number .kept .0, c .before .before .before .before .before .before .before .before .before .before .before .before .before .before .before .before .before .before .put-head .kept .0)
 
 same-length : tie.Need-same-length
 same-length c = search needs
 
 returns : tie.Need-returns
 returns c =
-    let a = c .before .before .before .before .before .before .before .before .before .before .before .before .before .before .before .before .before .before .before .before .before .before .before .before .before .before .args in
-    let w = a .site .«offset_size» in
-    let p = c .before .before .before .before .before .before .before .before .before .before .before .before .before .before .before .before .before .before .before .before .before .before .before .before .before .before .pre in
-    let h : c .before .before .before .before .before .before .before .before .before .before .before .before .before .before .before .before .before .before .before .before .before .before .before .direct-block-header .result ≡ 14 + w = c .before .before .before .before .before .before .before .before .before .before .before .before .before .before .before .before .before .before .before .before .before .before .before .direct-block-header .ensures ∙ header-is w in
-    written (a .region .now) _ _ _ _ _ (a .objects .now) (a .at) w (a .size) (a .site .«heap_header_address») (a .offset) _ _ h (p .0) (rw header-is at (p .1)) (c .before .before .before .before .before .before .before .before .before .before .before .before .before .before .before .before .before .before .before .before .before .put-head .ensures) (c .before .before .before .before .before .before .before .before .before .before .before .before .before .before .before .before .before .put-number .ensures) (c .before .before .before .before .before .before .before .before .before .before .before .before .before .put-bytes .ensures) (c .before .before .before .before .before .before .before .before .before .put-run .ensures) (c .before .before .before .before .jenkins-lookup3 .ensures) (c .before .before .put-number2 .ensures)
+    let s = c .before .before .before .before .before .before .before .before .before .before .before .before .before .before .before .before .before .before .before .before .before .before .before .before .before .before in
+    let l₁ = c .before .before .before .before .before .before .before .before .before .before .before .before .before .before .before .before .before .before .before .before .before .put-head .ensures in
+    let l₂ = c .before .before .before .before .before .before .before .before .before .before .before .before .before .before .before .before .before .put-number .ensures in
+    let l₃ = c .before .before .before .before .before .before .before .before .before .before .before .before .before .put-bytes .ensures in
+    let l₄ = c .before .before .before .before .before .before .before .before .before .put-run .ensures in
+    let sum = c .before .before .before .before .jenkins-lookup3 .ensures in
+    written _ _ _ _ _ _ _ _ _ _ _ _ _ _ (header (c .before .before .before .before .before .before .before .before .before .before .before .before .before .before .before .before .before .before .before .before .before .before .before)) (s .pre .0) (rw header-is at (s .pre .1)) l₁ l₂ l₃ l₄ sum (c .before .before .put-number2 .ensures)
 
 pub write-direct-block-spec : {M : Type 1} → statement M
 write-direct-block-spec =
