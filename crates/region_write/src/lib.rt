@@ -7,8 +7,8 @@ ghost use Rattle.region_write.specs.Region.{indirects, region as regionO
 ghost use Rattle.region_write.specs.Requires.{Rooted, Writable};
 use region_blocks::Site;
 use region_directs::write_directs;
+use region_indirects::block_walk;
 use region_walk::Cursor;
-use region_walk::block_walk;
 
 // The indirect blocks of a root of `rows` rows, `size` bytes of them; a root of no rows has none.
 fn write_indirects(region: &mut [u8], starts: &[u64], site: Site, rows: u64, size: u64)
