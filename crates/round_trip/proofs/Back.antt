@@ -24,7 +24,7 @@ use Rattle.fractal_heap.specs.declared.header.FractalHeapHeader.{FractalHeapHea
 use Rattle.fractal_heap.specs.Read.{managedAt}
 use Rattle.heap_laws.proofs.Reading.{read-in-file}
 use Rattle.managed_ids.specs.Ids.{managedId}
-use Rattle.managed_ids.proofs.Ids.{held}
+use Rattle.id_checks.proofs.Checking.{held}
 use Rattle.whole_way.specs.Back.{holdsAt, backOne, backs}
 use Rattle.whole_way.proofs.Back.{same-refl, object-read, back-found, one-empty, one-nonempty}
 use Rattle.read_back.specs.ReadBack.{Call, Written, HoldsRegion, HeaderOf, ComesBack, partOf}

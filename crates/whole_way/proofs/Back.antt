@@ -22,7 +22,8 @@ use Rattle.heap_blocks.specs.declared.Found.{Found}
 use Rattle.heap_blocks.specs.declared.Found.the-variants.{At, Refused}
 use Rattle.fractal_heap.specs.Read.{managedAt}
 use Rattle.fractal_heap.specs.declared.header.FractalHeapHeader.{FractalHeapHeader}
-use Rattle.managed_ids.specs.Ids.{managedId, idLength, idChecked}
+use Rattle.id_checks.specs.Checks.{idLength, idChecked}
+use Rattle.managed_ids.specs.Ids.{managedId}
 use Rattle.managed_ids.proofs.Ids.{id-length}
 use Rattle.whole_way.specs.Back.{objectAt, sameBytes, holdsAt, foundAs, comesBack, backOne, backs}
 

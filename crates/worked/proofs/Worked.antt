@@ -18,7 +18,8 @@ use Rattle.fields.specs.LittleEndian.{le, value, leAt}
 use lib.Count.{leadingZeros}
 use Rattle.heap_rows.specs.Rows.{log2, blockSize, directRows, sizeToRows, heapSize, slotSize}
 use Rattle.heap_ids.specs.Id.{typeOf, splitId, decodedId, tinyIn, tinyAt}
-use Rattle.managed_ids.specs.Ids.{managedId, idLength, idChecked}
+use Rattle.id_checks.specs.Checks.{idLength, idChecked}
+use Rattle.managed_ids.specs.Ids.{managedId}
 use Rattle.region_laws.proofs.Region.{region-length, root-place}
 use Rattle.worked.specs.Cases.{Region, Both, All, cases}
 

@@ -3,9 +3,9 @@ use mathlib.Core.Path.{sym, _∙_}
 use borrow.Author.Needs.{needs}
 use borrow.Author.Tests.{le-leb, lt-leb}
 use Rattle.table.specs.Sizes.{offsetBytes}
-use Rattle.managed_ids.specs.Ids.{idLength, idChecked}
-use Rattle.managed_ids.proofs.check_id.Statement.{statement}
-use Rattle.managed_ids.proofs.check_id.Tie as tie
+use Rattle.id_checks.specs.Checks.{idLength, idChecked}
+use Rattle.id_checks.proofs.check_id.Statement.{statement}
+use Rattle.id_checks.proofs.check_id.Tie as tie
 
 id-holds-requires : tie.Need-id-holds-requires
 id-holds-requires c κs = search needs

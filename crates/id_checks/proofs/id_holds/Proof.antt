@@ -1,8 +1,8 @@
 -- `id_holds` meets its contract: both tests, the first one first. Assumes nothing.
 use Prim.Native.Nat.{_^_}
 use borrow.Author.Tests.{lt-ltb, le-ltb}
-use Rattle.managed_ids.proofs.id_holds.Statement.{statement}
-use Rattle.managed_ids.proofs.id_holds.Tie as tie
+use Rattle.id_checks.proofs.id_holds.Statement.{statement}
+use Rattle.id_checks.proofs.id_holds.Tie as tie
 
 returns : tie.Need-returns
 returns c = rw (lt-ltb (c .before .args .offset) (2 ^ 40) (c .if1 .taken))
