@@ -55,8 +55,3 @@ id-passed t o n s h = ap (λ (x : Checked). putIf x s 0 (managedId t o n)) h
 pub id-refused : (t : Table) (o n : ℕ) (s : List ℕ) (e : FormatError) → idChecked t o n (length s) ≡ NotPassed e → idWritten t o n s ≡ s
 unfolding idWritten
 id-refused t o n s e h = ap (λ (x : Checked). putIf x s 0 (managedId t o n)) h
-
--- document 01's case 8: offset 8,214 and length 1,003
-worked-id : managedId fixed 8214 1003 ≡ 0x00 ∷ 0x16 ∷ 0x20 ∷ 0x00 ∷ 0x00 ∷ 0x00 ∷ 0xEB ∷ 0x03 ∷ []
-unfolding managedId offsetBytes le
-worked-id = refl
