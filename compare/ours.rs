@@ -1,5 +1,5 @@
 //! Our static libraries, each C function behind a safe one: `fractal_heap_c`, which the loader calls, and the
-//! tests' own `tools_c`, `plan_tools_c`, `write_tools_c`, `heap_tools_c` and `object_tools_c`.
+//! tests' own `tools_c`, `write_tools_c`, `heap_tools_c` and `object_tools_c`.
 use crate::made::Heap;
 use original::Answer;
 
@@ -51,7 +51,7 @@ unsafe extern "C" {
     ) -> u32;
 }
 
-#[link(name = "plan_tools_c", kind = "static")]
+#[link(name = "write_tools_c", kind = "static")]
 unsafe extern "C" {
     fn tools_plan(
         sizes: *const u64,
@@ -64,10 +64,6 @@ unsafe extern "C" {
         totals: *mut u64,
         totals_len: usize,
     ) -> u32;
-}
-
-#[link(name = "write_tools_c", kind = "static")]
-unsafe extern "C" {
     fn tools_serialize(
         sizes: *const u64,
         sizes_len: usize,

@@ -24,11 +24,11 @@ use Rattle.plan_laws.proofs.Tally.{tallied}
 use Rattle.plan_laws.proofs.Root.{Bare, Rowed, shape}
 use Rattle.region_blocks.specs.declared.Site.{Site}
 use Rattle.region_laws.proofs.Indirect.{indirect-planned}
-use Rattle.fractal_heap_write.specs.Region.{region}
-use Rattle.fractal_heap_write.specs.Requires.{Rooted, Writable}
-use Rattle.fractal_heap_write.specs.Serialize.{serialized}
-use Rattle.fractal_heap_write.proofs.Answering.{written, Fit, fit, below-undefined}
-use Rattle.fractal_heap_write.proofs.Planned.{indirect-bytes, indirects-planned, region-length}
+use Rattle.region_write.specs.Region.{region}
+use Rattle.region_write.specs.Requires.{Rooted, Writable}
+use Rattle.write_answer.specs.Answer.{serialized}
+use Rattle.write_answer.proofs.Answering.{written, Fit, fit, below-undefined}
+use Rattle.region_laws.proofs.Region.{indirect-bytes, indirects-planned, region-length}
 
 -- as many rows as the heap space has
 rows-few : (n : ℕ) → rowOffset fixed (suc n) ≤ 2 ^ 40 → suc n ≤ 29
@@ -47,8 +47,11 @@ front-length : (new old : List ℕ) → length new ≤ length (fronted new old)
 unfolding fronted
 front-length new old = let z = length-append new (drop (length new) old) in omega arith
 
-module _ (xs : List ℕ) (o b : ℕ) (js r : List ℕ) (site : Site) (p : ManagedPlan)
-    (e : serialized xs o b (length js) (length r) (site .«region_address») (site .«heap_header_address») (site .«offset_size») ≡ Accepted p) where
+-- the objects of sizes xs and bytes js are accepted for the plan p, with lists of o and b places and the lent region r
+pub record Accepts (xs : List ℕ) (o b : ℕ) (js r : List ℕ) (site : Site) (p : ManagedPlan) : Type 0 where
+  pub is : serialized xs o b (length js) (length r) (site .«region_address») (site .«heap_header_address») (site .«offset_size») ≡ Accepted p
+
+module _ {xs : List ℕ} {o b : ℕ} {js r : List ℕ} {site : Site} {p : ManagedPlan} (A : Accepts xs o b js r site p) where
   abbrev w : ℕ
   w = site .«offset_size»
 
@@ -59,10 +62,10 @@ module _ (xs : List ℕ) (o b : ℕ) (js r : List ℕ) (site : Site) (p : Manage
   a = site .«region_address»
 
   plan : answer xs o b w ≡ Accepted p
-  plan = written xs o b (length js) (length r) a h w p e .0
+  plan = written xs o b (length js) (length r) a h w p (A .is) .0
 
   fits : Fit w (sum xs) (length js) (p .«region_size») (length r) h a
-  fits = fit w (sum xs) (length js) (p .«region_size») (length r) h a (written xs o b (length js) (length r) a h w p e .1)
+  fits = fit w (sum xs) (length js) (p .«region_size») (length r) h a (written xs o b (length js) (length r) a h w p (A .is) .1)
 
   passes : Passing xs o b w
   passes = accepted xs o b w p plan .0

@@ -1,31 +1,28 @@
--- Laws of the ID writer: its stores are one store, and a test that passed leaves room for them.
-use Prim.Native.Nat.{ℕ, suc, _+_, _^_, _≤_, _<_}
+-- Laws of the ID writer: its stores are one store, made where the test passed.
+use Prim.Native.Nat.{ℕ, suc, _+_, _≤_}
 use mathlib.Core.Path.{_≡_, refl, sym, ap, _∙_}
-use mathlib.Core.Bool.{Bool, true, false, cond, _&&_}
 use mathlib.Core.List.{List, [], _∷_, _++_}
 use native.Mathlib.Omega.{arith}
 use native.Mathlib.Nat.{add-zero, add-suc, suc-add}
 use lib.ListN.{length, length-append, set}
 use lib.Seq.{sets}
-use lib.Dec.{leb, ltb}
-use borrow.Author.Tests.{leb-true, ltb-true}
-use Rattle.little_endian.specs.LittleEndian.{le, put}
-use Rattle.stores.specs.Stores.{putIf}
-use Rattle.fields.specs.declared.Checked.{Checked}
-use Rattle.fields.specs.declared.Checked.the-variants.{Passed, Refused as NotPassed}
 use Rattle.refusals.specs.declared.FormatError.{FormatError}
-use Rattle.refusals.specs.declared.FormatError.the-variants.{SliceTooShort, HeapIdTooLarge}
-use Rattle.little_endian.proofs.LittleEndian.{length-le, put-sets, length-put}
+use Rattle.fields.specs.LittleEndian.{le, put}
+use Rattle.fields.specs.Fields.{putIf}
+use Rattle.fields.specs.declared.bytes.Checked.{Checked}
+use Rattle.fields.specs.declared.bytes.Checked.the-variants.{Passed, Refused as NotPassed}
+use Rattle.fields.proofs.LittleEndian.{length-le, put-sets, length-put}
 use Rattle.table.specs.Table.{Table, fixed}
 use Rattle.table.specs.Sizes.{offsetBytes}
-use Rattle.managed_ids.specs.Ids.{managedId, idLength, idChecked, idWritten}
+use Rattle.id_checks.specs.Checks.{idChecked}
+use Rattle.managed_ids.specs.Ids.{managedId, idWritten}
 
 sets-append : (s : List ℕ) (p : ℕ) (a b : List ℕ) → sets (sets s p a) (p + length a) b ≡ sets s p (a ++ b)
 sets-append s p [] b = rw add-zero
 sets-append s p (v ∷ vs) b = rw (add-suc, ← (suc-add p (length vs))) (sets-append (set s p v) (suc p) vs b)
 
 -- a store right after a store is one store
-pub put-then : (s : List ℕ) (p q : ℕ) (a b : List ℕ) → q ≡ p + length a → q + length b ≤ length s → put (put s p a) q b ≡ put s p (a ++ b)
+put-then : (s : List ℕ) (p q : ℕ) (a b : List ℕ) → q ≡ p + length a → q + length b ≤ length s → put (put s p a) q b ≡ put s p (a ++ b)
 put-then s p q a b e room =
     let fits : p + length a ≤ length s = omega arith in
     let whole : p + length (a ++ b) ≤ length s = rw (length-append a b) (omega arith) in
@@ -50,23 +47,6 @@ pub id-length : (o n : ℕ) → length (managedId fixed o n) ≡ 8
 unfolding managedId offsetBytes
 id-length o n = simp (length-append, length-le) (omega arith)
 
--- what is known of an ID that is not refused
-pub record Held (o x lent : ℕ) : Type 0 where
-  pub offset : o < 2 ^ 40
-  pub size : x < 2 ^ 16
-  pub room : 8 ≤ lent
-
-pub held : (o x lent : ℕ) → idChecked fixed o x lent ≡ Passed → Held o x lent
-unfolding idChecked idLength offsetBytes
-held o x lent e = go (ltb o (2 ^ 40)) refl (ltb x (2 ^ 16)) refl (leb 8 lent) refl e
-  where
-    go : (u : Bool) → ltb o (2 ^ 40) ≡ u → (v : Bool) → ltb x (2 ^ 16) ≡ v → (r : Bool) → leb 8 lent ≡ r
-        → cond (u && v) (cond r Passed (NotPassed (SliceTooShort 8 lent))) (NotPassed (HeapIdTooLarge o x)) ≡ Passed → Held o x lent
-    go true a true b true c e = record { offset = ltb-true o (2 ^ 40) a; size = ltb-true x (2 ^ 16) b; room = leb-true 8 lent c }
-    go true a true b false c e = absurd (let z : _≡_ {A = ℕ} 0 1 = cc in omega arith)
-    go true a false b r c e = absurd (let z : _≡_ {A = ℕ} 0 1 = cc in omega arith)
-    go false a v b r c e = absurd (let z : _≡_ {A = ℕ} 0 1 = cc in omega arith)
-
 -- what the test's answer makes of the lent bytes
 pub id-passed : (t : Table) (o n : ℕ) (s : List ℕ) → idChecked t o n (length s) ≡ Passed → idWritten t o n s ≡ put s 0 (managedId t o n)
 unfolding idWritten
@@ -75,8 +55,3 @@ id-passed t o n s h = ap (λ (x : Checked). putIf x s 0 (managedId t o n)) h
 pub id-refused : (t : Table) (o n : ℕ) (s : List ℕ) (e : FormatError) → idChecked t o n (length s) ≡ NotPassed e → idWritten t o n s ≡ s
 unfolding idWritten
 id-refused t o n s e h = ap (λ (x : Checked). putIf x s 0 (managedId t o n)) h
-
--- document 01's case 8: offset 8,214 and length 1,003
-worked-id : managedId fixed 8214 1003 ≡ 0x00 ∷ 0x16 ∷ 0x20 ∷ 0x00 ∷ 0x00 ∷ 0x00 ∷ 0xEB ∷ 0x03 ∷ []
-unfolding managedId offsetBytes le
-worked-id = refl

@@ -1,42 +1,15 @@
 // The writer of managed heap IDs, as the Format has them at the fixed geometry: eight bytes, of which the first is 0,
 // five hold the object's heap offset and two its length.
 ghost use mathlib.Core.Path.{_≡_};
-ghost use Prim.Native.Nat.{_^_, _≤_};
-ghost use mathlib.Core.Bool.{_&&_};
+ghost use Prim.Native.Nat.{_≤_};
 ghost use lib.ListN.{length};
-ghost use lib.Dec.{ltb};
-ghost use Rattle.little_endian.specs.LittleEndian.{put};
+ghost use Rattle.fields.specs.LittleEndian.{put};
 ghost use Rattle.table.specs.Table.{fixed};
-ghost use Rattle.managed_ids.specs.Ids.{managedId, idChecked, idWritten};
-use fields::Checked;
-use refusals::FormatError;
+ghost use Rattle.id_checks.specs.Checks.{idChecked};
+ghost use Rattle.managed_ids.specs.Ids.{managedId, idWritten};
+use fields::bytes::Checked;
+use id_checks::check_id;
 use stores::store_le;
-
-// Whether an ID can hold this offset and this length.
-fn id_holds(offset: u64, size: u64) -> bool
-    ensures { λ r. ⌜ r ≡ ltb offset (2 ^ 40) && ltb size (2 ^ 16) ⌝ }
-{
-    if offset < 0x100_0000_0000 {
-        size < 0x1_0000
-    } else {
-        false
-    }
-}
-
-// What is tested before an ID goes into `lent` bytes.
-fn check_id(offset: u64, size: u64, lent: usize) -> Checked
-    ensures { λ r. ⌜ r ≡ idChecked fixed offset size lent ⌝ }
-{
-    if id_holds(offset, size) {
-        if 8 <= lent {
-            Checked::Passed
-        } else {
-            Checked::Refused(FormatError::SliceTooShort(8, lent as u64))
-        }
-    } else {
-        Checked::Refused(FormatError::HeapIdTooLarge(offset, size))
-    }
-}
 
 // Version and type, both 0, then offset and length.
 fn put_id(id: &mut [u8], offset: u64, size: u64)

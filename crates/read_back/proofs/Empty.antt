@@ -18,7 +18,7 @@ use Rattle.heap_blocks.specs.declared.Found.the-variants.{At, Refused}
 use Rattle.heap_blocks.specs.Blocks.{directAt}
 use Rattle.fractal_heap.specs.declared.header.FractalHeapHeader.{FractalHeapHeader}
 use Rattle.fractal_heap.specs.Read.{rootAt}
-use Rattle.managed_ids.specs.Ids.{idChecked}
+use Rattle.id_checks.specs.Checks.{idChecked}
 use Rattle.read_laws.proofs.Missing.{Clear, none, more}
 use Rattle.read_back.specs.ReadBack.{Call, Written, HoldsRegion, HeaderOf, offsetOf, EmptyRead, accepts, refuses, EmptyAnswered}
 use Rattle.read_back.proofs.Ids.{id-passes}

@@ -33,10 +33,10 @@ use Rattle.region_directs.specs.Directs.{objectsIn, directs}
 use Rattle.region_laws.proofs.Starts.{Placed, none, more, before, from, before-none, nth-from, end-reached, size-within}
 use Rattle.region_laws.proofs.Geometry.{BlockAt, root-block}
 use Rattle.region_laws.proofs.Indirect.{rooted, indirect-planned, bare-planned}
-use Rattle.fractal_heap_write.specs.Region.{indirects, indirectBytes, region}
-use Rattle.fractal_heap_write.proofs.Lengths.{indirects-some}
-use Rattle.fractal_heap_write.proofs.Planned.{indirect-bytes, indirects-planned, region-length}
-use Rattle.fractal_heap_write.proofs.Answering.{written, Fit, fit}
+use Rattle.region_write.specs.Region.{indirects, indirectBytes, region}
+use Rattle.region_write.proofs.Root.{indirects-some}
+use Rattle.region_laws.proofs.Region.{indirect-bytes, indirects-planned, region-length}
+use Rattle.write_answer.proofs.Answering.{written, Fit, fit}
 use Rattle.heap_blocks.specs.declared.Found.{Found}
 use Rattle.heap_blocks.specs.Blocks.{directAt, walkFrom}
 use Rattle.fractal_heap.specs.declared.header.FractalHeapHeader.{FractalHeapHeader}

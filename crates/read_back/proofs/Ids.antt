@@ -17,8 +17,10 @@ use Rattle.heap_ids.specs.declared.ManagedId.the-variants.{Decoded}
 use Rattle.heap_id_types.specs.IdTypes.{typeOf}
 use Rattle.heap_ids.specs.Id.{splitId, decodedId}
 use Rattle.fractal_heap.specs.declared.header.FractalHeapHeader.{FractalHeapHeader}
-use Rattle.managed_ids.specs.Ids.{managedId, idLength, idChecked, idWritten}
-use Rattle.managed_ids.proofs.Ids.{id-length, held, id-passed}
+use Rattle.id_checks.specs.Checks.{idLength, idChecked}
+use Rattle.id_checks.proofs.Checking.{held}
+use Rattle.managed_ids.specs.Ids.{managedId, idWritten}
+use Rattle.managed_ids.proofs.Ids.{id-length, id-passed}
 
 module _ (o x : ℕ) where
   module _ (lo : o < 2 ^ 40) (hi : x < 2 ^ 16) where

@@ -17,8 +17,10 @@ use Rattle.plan_laws.specs.Plans.{InObject, FrontPart, InPlacedBlock, FreeCount
 use Rattle.heap_blocks.specs.declared.Found.the-variants.{At, Refused}
 use Rattle.fractal_heap.specs.declared.header.FractalHeapHeader.{FractalHeapHeader}
 use Rattle.fractal_heap.specs.Read.{managedAt}
-use Rattle.fractal_heap_write.specs.Serialize.{serialized, regionWritten}
-use Rattle.managed_ids.specs.Ids.{idChecked, idWritten}
+use Rattle.write_answer.specs.Answer.{serialized}
+use Rattle.fractal_heap_write.specs.Serialize.{regionWritten}
+use Rattle.id_checks.specs.Checks.{idChecked}
+use Rattle.managed_ids.specs.Ids.{idWritten}
 
 -- a call of the writer: the sizes, how many places the two lists have, the objects' joined bytes, the lent region as
 -- it is before the call, the two addresses and their width

@@ -32,7 +32,7 @@ module _ (a z o x : ℕ) (os xs js : List ℕ) where
   nothing false e = refl
 
   -- it ends before them
-  pub in-before : o + x ≤ a → objectsIn a z (o ∷ os) (x ∷ xs) js ≡ objectsIn a z os xs (drop x js)
+  in-before : o + x ≤ a → objectsIn a z (o ∷ os) (x ∷ xs) js ≡ objectsIn a z os xs (drop x js)
   unfolding objectsIn
   in-before l = ap (λ (y : List ℕ). y ++ objectsIn a z os xs (drop x js)) (go (leb a o) refl)
     where
@@ -41,7 +41,7 @@ module _ (a z o x : ℕ) (os xs js : List ℕ) where
       go false e = refl
 
   -- it begins after them
-  pub in-after : a + z ≤ o → objectsIn a z (o ∷ os) (x ∷ xs) js ≡ objectsIn a z os xs (drop x js)
+  in-after : a + z ≤ o → objectsIn a z (o ∷ os) (x ∷ xs) js ≡ objectsIn a z os xs (drop x js)
   unfolding objectsIn
   in-after l = ap (λ (y : List ℕ). y ++ objectsIn a z os xs (drop x js)) (ap (λ (c : Bool). cond (leb a o && c) (take x js) []) (le-ltb o (a + z) l) ∙ go (leb a o))
     where
@@ -154,7 +154,7 @@ module _ (t : Table) (g : t .startBits ≤ t .directBits) (k : t .startBits ≤ 
     pub placed : Placing t w s y s′ o
     placed = step-placed t g k w s y (L .ok) s′ o e
 
-    pub next-here : (a z : ℕ) → blockEnd s ≤ a → objectsIn a z os xs js ≡ objectsIn a z (o ∷ offsetsFrom t w s′ ys) (y ∷ ys) (drop (s .used) js)
+    next-here : (a z : ℕ) → blockEnd s ≤ a → objectsIn a z os xs js ≡ objectsIn a z (o ∷ offsetsFrom t w s′ ys) (y ∷ ys) (drop (s .used) js)
     next-here a z l = L .same a z l ∙ ap (λ (r : List ℕ). objectsIn a z r (y ∷ ys) (drop (s .used) js)) (offsets-go t w s y ys s′ o e)
 
     pub next-drop : drop y (drop (s .used) js) ≡ drop (s′ .used) js

@@ -46,7 +46,7 @@ record Grown (s s′ : State) (n : ℕ) : Type 0 where
 module _ (t : Table) (g : t .startBits ≤ t .directBits) (k : t .startBits ≤ t .heapBits) (w h : ℕ) (os xs js : List ℕ) where
   module _ (s : State) (y : ℕ) (ys : List ℕ) (L : Left t w os xs js s (y ∷ ys)) (s′ : State) (o : ℕ) (e : stepOf t w s y ≡ Placed s′ o) (n : New t w s s′ o) where
     -- the block that an object opens
-    pub opened-length : length (directBlock t w h (s′ .start) (s′ .size) (objectsIn (s′ .start) (s′ .size) os xs js)) ≡ s′ .size
+    opened-length : length (directBlock t w h (s′ .start) (s′ .size) (objectsIn (s′ .start) (s′ .size) os xs js)) ≡ s′ .size
     opened-length =
         let a = ap length (held t g k w os xs js s y ys L s′ o e n) in
         let b = take-short (fillState s′ ys .used - s .used) (drop (s .used) js) in
@@ -110,12 +110,12 @@ some-count w x xs s e = go (stepOf fixed w (initial fixed w) x) refl
 -- ---- no objects, or some
 
 -- without objects, one block of no bytes
-pub none-is : (w h : ℕ) (js xs : List ℕ) → length xs ≡ 0 → directs fixed w h (planOffsets fixed w xs) xs js (planStarts fixed w xs) ≡ directBlock fixed w h 0 1024 []
+none-is : (w h : ℕ) (js xs : List ℕ) → length xs ≡ 0 → directs fixed w h (planOffsets fixed w xs) xs js (planStarts fixed w xs) ≡ directBlock fixed w h 0 1024 []
 unfolding directs planOffsets planStarts offsetsFrom objectsIn slotAt slotBits slotIn rowOf rowIn rowOffset rowBits
 none-is w h js [] e = append-nil (directBlock fixed w h 0 1024 [])
 none-is w h js (x ∷ xs) e = absurd (omega arith)
 
-pub none-length : (w h : ℕ) (js xs : List ℕ) → w ≤ 255 → length xs ≡ 0 → length (directs fixed w h (planOffsets fixed w xs) xs js (planStarts fixed w xs)) ≡ 1024
+none-length : (w h : ℕ) (js xs : List ℕ) → w ≤ 255 → length xs ≡ 0 → length (directs fixed w h (planOffsets fixed w xs) xs js (planStarts fixed w xs)) ≡ 1024
 unfolding directHeader offsetBytes
 none-length w h js xs u e = ap length (none-is w h js xs e) ∙ direct-length fixed w h 0 1024 [] (omega arith)
 

@@ -29,7 +29,7 @@ use Rattle.region_directs.proofs.Holding.{in-here, Left, left-start, le
 
 -- ---- a part of a block's objects
 
-pub block-part : (t : Table) (w h b z n : ℕ) (all front part back : List ℕ) → all ≡ front ++ (part ++ back) → n ≡ directHeader t w + length front
+block-part : (t : Table) (w h b z n : ℕ) (all front part back : List ℕ) → all ≡ front ++ (part ++ back) → n ≡ directHeader t w + length front
     → take (length part) (drop n (directBlock t w h b z all)) ≡ part
 unfolding directBlock directBody directHeader
 block-part t w h b z n all front part back e f =
@@ -49,16 +49,16 @@ block-part t w h b z n all front part back e f =
 -- ---- each object in its block
 
 -- of the joined bytes js the x bytes from p on are those of an object at o, in the body of the slot at b
-pub record Lies (t : Table) (w : ℕ) (os xs js : List ℕ) (o x p : ℕ) : Type 0 where
-  pub b : ℕ
-  pub z : ℕ
-  pub slot : SlotOf t b z
-  pub front : List ℕ
-  pub back : List ℕ
-  pub holds : objectsIn b z os xs js ≡ front ++ (take x (drop p js) ++ back)
-  pub place : b + directHeader t w + length front ≡ o
-  pub ends : o + x ≤ b + z
-  pub inside : p + x ≤ length js
+record Lies (t : Table) (w : ℕ) (os xs js : List ℕ) (o x p : ℕ) : Type 0 where
+  b : ℕ
+  z : ℕ
+  slot : SlotOf t b z
+  front : List ℕ
+  back : List ℕ
+  holds : objectsIn b z os xs js ≡ front ++ (take x (drop p js) ++ back)
+  place : b + directHeader t w + length front ≡ o
+  ends : o + x ≤ b + z
+  inside : p + x ≤ length js
 
 -- the current block at s, with the sizes ys to come: what it holds so far, and then what comes
 record Current (t : Table) (w : ℕ) (os xs js : List ℕ) (s : State) (ys : List ℕ) : Type 0 where
@@ -160,7 +160,7 @@ module _ (t : Table) (g : t .startBits ≤ t .directBits) (k : t .startBits ≤ 
 
 module _ (t : Table) (g : t .startBits ≤ t .directBits) (k : t .startBits ≤ t .heapBits) (w : ℕ) (xs js : List ℕ) (all : length js ≡ sum xs) (s : State) (e : run t w xs ≡ Done s) where
   -- the i-th object's part of the joined bytes begins at the sum of the sizes before it
-  pub lies : (i : ℕ) → i < length xs → Lies t w (planOffsets t w xs) xs js (getD (planOffsets t w xs) i 0) (getD xs i 0) (sum (take i xs))
+  lies : (i : ℕ) → i < length xs → Lies t w (planOffsets t w xs) xs js (getD (planOffsets t w xs) i 0) (getD xs i 0) (sum (take i xs))
   unfolding run planOffsets directHeader
   lies i l = subst (Lies t w (planOffsets t w xs) xs js (getD (planOffsets t w xs) i 0) (getD xs i 0)) (zero-add (sum (take i xs)))
       (lies-from t g k w (planOffsets t w xs) xs js all xs (initial t w) 0 s (left-start t w xs js g) (λ z. absurd (omega arith)) e i l)

@@ -28,7 +28,7 @@ unfoldable pub counted : Table → ℕ → ℕ → ℕ → ℕ → List ℕ → 
 counted t w f at e [] = 0
 counted t w f at e (s ∷ ss) = enteredIn t w f e at (s - at) + counted t w f at (s + slotAt t s .size) ss
 
-pub counted-append : (t : Table) (w f at e : ℕ) (cs ds : List ℕ) → counted t w f at e (cs ++ ds) ≡ counted t w f at e cs + counted t w f at (lastEnd t e cs) ds
+counted-append : (t : Table) (w f at e : ℕ) (cs ds : List ℕ) → counted t w f at e (cs ++ ds) ≡ counted t w f at e cs + counted t w f at (lastEnd t e cs) ds
 unfolding counted lastEnd
 counted-append t w f at e [] ds = sym (zero-add (counted t w f at e ds))
 counted-append t w f at e (c ∷ cs) ds = let z = counted-append t w f at (c + slotAt t c .size) cs ds in omega arith

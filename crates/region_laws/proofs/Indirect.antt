@@ -28,7 +28,7 @@ use Rattle.region_laws.proofs.Counting.{openedBy, whole}
 -- ---- the blocks that planning places
 
 module _ {t : Table} {w : ℕ} where
-  pub laid-placed : {s s′ : State} {xs os bs : List ℕ} → Laid t w s xs os bs s′ → Placed t (blockEnd s) bs
+  laid-placed : {s s′ : State} {xs os bs : List ℕ} → Laid t w s xs os bs s′ → Placed t (blockEnd s) bs
   laid-placed end = none
   laid-placed {s} (same {s₁ = s₁} {bs = bs} P n L) =
       let a = n .start-is in

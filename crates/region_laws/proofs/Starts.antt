@@ -104,7 +104,7 @@ end-append t e (c ∷ cs) ds = end-append t (c + slotAt t c .size) cs ds
 
 module _ {t : Table} where
   -- they end in order
-  pub end-up : {lo : ℕ} {ss : List ℕ} → Placed t lo ss → lo ≤ lastEnd t lo ss
+  end-up : {lo : ℕ} {ss : List ℕ} → Placed t lo ss → lo ≤ lastEnd t lo ss
   unfolding lastEnd
   end-up none = omega arith
   end-up (more l S P) = let z = end-up P in omega arith
@@ -127,7 +127,7 @@ module _ {t : Table} where
       from-yes s ss end (omega arith) ∙ from-none end P u
 
 -- both parts are all of them
-pub before-from : (end : ℕ) (ss : List ℕ) → before end ss ++ from end ss ≡ ss
+before-from : (end : ℕ) (ss : List ℕ) → before end ss ++ from end ss ≡ ss
 unfolding before from
 before-from end [] = refl
 before-from end (s ∷ ss) = go (decLt s end) (before-from end ss)

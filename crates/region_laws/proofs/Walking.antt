@@ -83,7 +83,7 @@ cut-nothing {t} {at} {ss} next P =
     record { rest-is = sym (from-all at (omega arith) P); next-is = omega arith }
 
 -- a walk after another
-pub cut-then : {t : Table} {c o : Walked} {ss : List ℕ} {next lo hi : ℕ} → lo ≤ hi → Cut t c ss next lo → Cut t o (c .rest) (c .next) hi → Cut t o ss next hi
+cut-then : {t : Table} {c o : Walked} {ss : List ℕ} {next lo hi : ℕ} → lo ≤ hi → Cut t c ss next lo → Cut t o (c .rest) (c .next) hi → Cut t o ss next hi
 cut-then {t} {ss = ss} {lo = lo} {hi = hi} l C O =
     let a = C .next-is in
     let b = O .next-is in
@@ -133,7 +133,3 @@ module _ (t : Table) (g : t .startBits ≤ t .directBits) (wd : t .widthBits + t
   -- a slot
   pub slot-cut : {n base r at : ℕ} {ss : List ℕ} (pos next : ℕ) → BlockAt t n base → SlotAt t n base r at → Placed t at ss → Cut t (slot t w header (smaller t w header n) r at ss pos next) ss next (at + 2 ^ rowBits t r)
   slot-cut pos next B C P = slot-cut-from (λ j _. block-cut j) B pos next C P
-
-  -- slots, to their block's end
-  pub slots-cut : {n base at : ℕ} {rs ss : List ℕ} (pos next : ℕ) → BlockAt t n base → Ahead t n base at rs → Placed t at ss → Cut t (slots t w header (smaller t w header n) rs at ss pos next) ss next (base + rowOffset t n)
-  slots-cut pos next B A P = slots-cut-from (λ j _. block-cut j) B A pos next P

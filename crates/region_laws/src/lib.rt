@@ -1,1 +1,1 @@
-// Theorems about the region's indirect blocks; nothing runs here.
+// Theorems about the region of a plan; nothing runs here.

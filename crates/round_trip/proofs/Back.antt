@@ -18,18 +18,15 @@ use Rattle.plan.specs.declared.Planned.the-variants.{Accepted}
 use Rattle.plan_laws.proofs.Tally.{tallied}
 use Rattle.region_laws.proofs.Indirect.{rooted, region-planned, bare-planned}
 use Rattle.fractal_heap_write.specs.Serialize.{regionWritten}
-use Rattle.fractal_heap_write.proofs.Answering.{below-undefined}
+use Rattle.write_answer.proofs.Answering.{below-undefined}
 use Rattle.heap_blocks.specs.declared.Found.the-variants.{At}
 use Rattle.fractal_heap.specs.declared.header.FractalHeapHeader.{FractalHeapHeader}
 use Rattle.fractal_heap.specs.Read.{managedAt}
 use Rattle.heap_laws.proofs.Reading.{read-in-file}
 use Rattle.managed_ids.specs.Ids.{managedId}
-use Rattle.managed_ids.proofs.Ids.{held}
-use Rattle.object_reads.proofs.Objects.{object-read}
-use Rattle.object_back.specs.Back.{holdsAt}
-use Rattle.object_back.proofs.Back.{same-refl, back-found}
-use Rattle.objects_back.specs.Backs.{backOne, backs}
-use Rattle.objects_back.proofs.Backs.{one-empty, one-nonempty}
+use Rattle.id_checks.proofs.Checking.{held}
+use Rattle.whole_way.specs.Back.{holdsAt, backOne, backs}
+use Rattle.whole_way.proofs.Back.{same-refl, object-read, back-found, one-empty, one-nonempty}
 use Rattle.read_back.specs.ReadBack.{Call, Written, HoldsRegion, HeaderOf, ComesBack, partOf}
 use Rattle.read_back.proofs.Ids.{id-is}
 use Rattle.read_back.proofs.Finding.{planned, tests, width-legal}

@@ -12,8 +12,9 @@ use Rattle.plan.specs.declared.ManagedPlan.{ManagedPlan}
 use Rattle.plan.specs.declared.Planned.the-variants.{Accepted, Refused}
 use Rattle.plan_steps.specs.Steps.{planOffsets, planStarts}
 use Rattle.plan.specs.Answer.{answer}
-use Rattle.fractal_heap_write.specs.Region.{region, rootBytes}
-use Rattle.managed_ids.specs.Ids.{managedId, idChecked}
+use Rattle.region_write.specs.Region.{region, rootBytes}
+use Rattle.id_checks.specs.Checks.{idChecked}
+use Rattle.managed_ids.specs.Ids.{managedId}
 use Rattle.heap_rows.specs.declared.DoublingTable.{DoublingTable}
 use Rattle.heap_rows.specs.Rows.{blockSize, directRows, sizeToRows, slotSize}
 use Rattle.heap_blocks.specs.declared.Found.{Found}

@@ -2,10 +2,23 @@
 use mathlib.Core.Path.{refl, sym, _∙_}
 use lib.ListN.{length}
 use lib.Seq.{length-take-le}
-use Rattle.fractal_heap_write.proofs.Serializing.{lists-ready, size-fits, space-within, count-fits, writable, behind-kept}
+use Rattle.region_blocks.specs.declared.Site.{Site}
+use Rattle.fractal_heap_write.proofs.Serializing.{Accepts, lists-ready, size-fits, space-within, count-fits, writable, behind-kept}
 use borrow.Author.Needs.{needs}
 use Rattle.fractal_heap_write.proofs.serialize.Statement.{statement}
 use Rattle.fractal_heap_write.proofs.serialize.Tie as tie
+
+-- the function's entry, and the site that it makes
+abbrev start : tie.After-p → tie.Start
+start c = c .before .before .before .before .before .before .before .before
+
+abbrev site : tie.Start → Site
+site s = record { «offset_size» = s .args .offset-size; «heap_header_address» = s .args .heap-header-address; «region_address» = s .args .region-address }
+
+-- what the match on the answer tells
+accepts : (c : tie.After-p)
+    → Accepts (start c .args .sizes .now) (length (start c .args .offsets .now)) (length (start c .args .blocks .now)) (start c .args .objects .now) (start c .args .region .now) (site (start c)) (c .p .given .0 .0)
+accepts c = record { is = sym (c .before .before .serialized-for .ensures) ∙ c .p .given .1 }
 
 serialized-for-requires : tie.Need-serialized-for-requires
 serialized-for-requires c κs = search needs
@@ -17,25 +30,25 @@ enum-known-p : tie.Need-enum-known-p
 enum-known-p c = search needs
 
 write-lists-requires : tie.Need-write-lists-requires
-write-lists-requires c κs = lists-ready (c .before .before .before .before .before .before .before .before .before .before .before .args .sizes .now) (length (c .before .before .before .before .before .before .before .before .before .before .before .args .offsets .now)) (length (c .before .before .before .before .before .before .before .before .before .before .before .args .blocks .now)) (c .before .before .before .before .before .before .before .before .before .before .before .args .objects .now) (c .before .before .before .before .before .before .before .before .before .before .before .args .region .now) (record { «offset_size» = c .before .before .before .before .before .before .before .before .before .before .before .args .offset-size; «heap_header_address» = c .before .before .before .before .before .before .before .before .before .before .before .args .heap-header-address; «region_address» = c .before .before .before .before .before .before .before .before .before .before .before .args .region-address }) _ (sym (c .before .before .before .before .before .serialized-for .ensures) ∙ c .before .before .before .p .given .1)
+write-lists-requires c κs = lists-ready (accepts (c .before .before .before))
 
 slice-reshare-prefix-write-region : tie.Need-slice-reshare-prefix-write-region
-slice-reshare-prefix-write-region c = count-fits (c .before .before .before .before .before .before .before .before .before .before .before .before .before .before .before .before .args .sizes .now) (length (c .before .before .before .before .before .before .before .before .before .before .before .before .before .before .before .before .args .offsets .now)) (length (c .before .before .before .before .before .before .before .before .before .before .before .before .before .before .before .before .args .blocks .now)) (c .before .before .before .before .before .before .before .before .before .before .before .before .before .before .before .before .args .objects .now) (c .before .before .before .before .before .before .before .before .before .before .before .before .before .before .before .before .args .region .now) (record { «offset_size» = c .before .before .before .before .before .before .before .before .before .before .before .before .before .before .before .before .args .offset-size; «heap_header_address» = c .before .before .before .before .before .before .before .before .before .before .before .before .before .before .before .before .args .heap-header-address; «region_address» = c .before .before .before .before .before .before .before .before .before .before .before .before .before .before .before .before .args .region-address }) _ (sym (c .before .before .before .before .before .before .before .before .before .before .serialized-for .ensures) ∙ c .before .before .before .before .before .before .before .before .p .given .1) _ _ (c .before .before .before .before .write-lists .ensures .1)
+slice-reshare-prefix-write-region c = count-fits (accepts (c .before .before .before .before .before .before .before .before)) _ _ (c .before .before .before .before .write-lists .ensures .1)
 
 slice-aggregate-write-region : tie.Need-slice-aggregate-write-region
-slice-aggregate-write-region c = sym (length-take-le _ _ (count-fits (c .before .before .before .before .before .before .before .before .before .before .before .before .before .before .before .before .before .args .sizes .now) (length (c .before .before .before .before .before .before .before .before .before .before .before .before .before .before .before .before .before .args .offsets .now)) (length (c .before .before .before .before .before .before .before .before .before .before .before .before .before .before .before .before .before .args .blocks .now)) (c .before .before .before .before .before .before .before .before .before .before .before .before .before .before .before .before .before .args .objects .now) (c .before .before .before .before .before .before .before .before .before .before .before .before .before .before .before .before .before .args .region .now) (record { «offset_size» = c .before .before .before .before .before .before .before .before .before .before .before .before .before .before .before .before .before .args .offset-size; «heap_header_address» = c .before .before .before .before .before .before .before .before .before .before .before .before .before .before .before .before .before .args .heap-header-address; «region_address» = c .before .before .before .before .before .before .before .before .before .before .before .before .before .before .before .before .before .args .region-address }) _ (sym (c .before .before .before .before .before .before .before .before .before .before .before .serialized-for .ensures) ∙ c .before .before .before .before .before .before .before .before .before .p .given .1) _ _ (c .before .before .before .before .before .write-lists .ensures .1)))
+slice-aggregate-write-region c = sym (length-take-le _ _ (count-fits (accepts (c .before .before .before .before .before .before .before .before .before)) _ _ (c .before .before .before .before .before .write-lists .ensures .1)))
 
 slice-relend-prefix-write-region : tie.Need-slice-relend-prefix-write-region
-slice-relend-prefix-write-region c = size-fits (c .before .before .before .before .before .before .before .before .before .before .before .before .before .before .before .before .before .args .sizes .now) (length (c .before .before .before .before .before .before .before .before .before .before .before .before .before .before .before .before .before .args .offsets .now)) (length (c .before .before .before .before .before .before .before .before .before .before .before .before .before .before .before .before .before .args .blocks .now)) (c .before .before .before .before .before .before .before .before .before .before .before .before .before .before .before .before .before .args .objects .now) (c .before .before .before .before .before .before .before .before .before .before .before .before .before .before .before .before .before .args .region .now) (record { «offset_size» = c .before .before .before .before .before .before .before .before .before .before .before .before .before .before .before .before .before .args .offset-size; «heap_header_address» = c .before .before .before .before .before .before .before .before .before .before .before .before .before .before .before .before .before .args .heap-header-address; «region_address» = c .before .before .before .before .before .before .before .before .before .before .before .before .before .before .before .before .before .args .region-address }) _ (sym (c .before .before .before .before .before .before .before .before .before .before .before .serialized-for .ensures) ∙ c .before .before .before .before .before .before .before .before .before .p .given .1)
+slice-relend-prefix-write-region c = size-fits (accepts (c .before .before .before .before .before .before .before .before .before))
 
 slice-aggregate-write-region-2 : tie.Need-slice-aggregate-write-region-2
-slice-aggregate-write-region-2 c = sym (length-take-le _ _ (size-fits (c .before .before .before .before .before .before .before .before .before .before .before .before .before .before .before .before .before .before .args .sizes .now) (length (c .before .before .before .before .before .before .before .before .before .before .before .before .before .before .before .before .before .before .args .offsets .now)) (length (c .before .before .before .before .before .before .before .before .before .before .before .before .before .before .before .before .before .before .args .blocks .now)) (c .before .before .before .before .before .before .before .before .before .before .before .before .before .before .before .before .before .before .args .objects .now) (c .before .before .before .before .before .before .before .before .before .before .before .before .before .before .before .before .before .before .args .region .now) (record { «offset_size» = c .before .before .before .before .before .before .before .before .before .before .before .before .before .before .before .before .before .before .args .offset-size; «heap_header_address» = c .before .before .before .before .before .before .before .before .before .before .before .before .before .before .before .before .before .before .args .heap-header-address; «region_address» = c .before .before .before .before .before .before .before .before .before .before .before .before .before .before .before .before .before .before .args .region-address }) _ (sym (c .before .before .before .before .before .before .before .before .before .before .before .before .serialized-for .ensures) ∙ c .before .before .before .before .before .before .before .before .before .before .p .given .1)))
+slice-aggregate-write-region-2 c = sym (length-take-le _ _ (size-fits (accepts (c .before .before .before .before .before .before .before .before .before .before))))
 
 sub-write-region : tie.Need-sub-write-region
-sub-write-region c = space-within (c .before .before .before .before .before .before .before .before .before .before .before .before .before .before .before .before .before .before .before .args .sizes .now) (length (c .before .before .before .before .before .before .before .before .before .before .before .before .before .before .before .before .before .before .before .args .offsets .now)) (length (c .before .before .before .before .before .before .before .before .before .before .before .before .before .before .before .before .before .before .before .args .blocks .now)) (c .before .before .before .before .before .before .before .before .before .before .before .before .before .before .before .before .before .before .before .args .objects .now) (c .before .before .before .before .before .before .before .before .before .before .before .before .before .before .before .before .before .before .before .args .region .now) (record { «offset_size» = c .before .before .before .before .before .before .before .before .before .before .before .before .before .before .before .before .before .before .before .args .offset-size; «heap_header_address» = c .before .before .before .before .before .before .before .before .before .before .before .before .before .before .before .before .before .before .before .args .heap-header-address; «region_address» = c .before .before .before .before .before .before .before .before .before .before .before .before .before .before .before .before .before .before .before .args .region-address }) _ (sym (c .before .before .before .before .before .before .before .before .before .before .before .before .before .serialized-for .ensures) ∙ c .before .before .before .before .before .before .before .before .before .before .before .p .given .1)
+sub-write-region c = space-within (accepts (c .before .before .before .before .before .before .before .before .before .before .before))
 
 write-region-requires : tie.Need-write-region-requires
-write-region-requires c κs = writable (c .before .before .before .before .before .before .before .before .before .before .before .before .before .before .before .before .before .before .before .args .sizes .now) (length (c .before .before .before .before .before .before .before .before .before .before .before .before .before .before .before .before .before .before .before .args .offsets .now)) (length (c .before .before .before .before .before .before .before .before .before .before .before .before .before .before .before .before .before .before .before .args .blocks .now)) (c .before .before .before .before .before .before .before .before .before .before .before .before .before .before .before .before .before .before .before .args .objects .now) (c .before .before .before .before .before .before .before .before .before .before .before .before .before .before .before .before .before .before .before .args .region .now) (record { «offset_size» = c .before .before .before .before .before .before .before .before .before .before .before .before .before .before .before .before .before .before .before .args .offset-size; «heap_header_address» = c .before .before .before .before .before .before .before .before .before .before .before .before .before .before .before .before .before .before .before .args .heap-header-address; «region_address» = c .before .before .before .before .before .before .before .before .before .before .before .before .before .before .before .before .before .before .before .args .region-address }) _ (sym (c .before .before .before .before .before .before .before .before .before .before .before .before .before .serialized-for .ensures) ∙ c .before .before .before .before .before .before .before .before .before .before .before .p .given .1) _ _ (c .before .before .before .before .before .before .before .write-lists .ensures .1)
+write-region-requires c κs = writable (accepts (c .before .before .before .before .before .before .before .before .before .before .before)) _ _ (c .before .before .before .before .before .before .before .write-lists .ensures .1)
 
 returns : tie.Need-returns
 returns c = (sym (c .before .e .given .1) ∙ c .before .before .before .serialized-for .ensures, (refl, (refl, refl)))
@@ -50,7 +63,10 @@ same-length-3 : tie.Need-same-length-3
 same-length-3 c = search needs
 
 returns-2 : tie.Need-returns-2
-returns-2 c = (sym (c .before .before .before .before .before .before .before .before .before .before .before .before .before .before .p .given .1) ∙ c .before .before .before .before .before .before .before .before .before .before .before .before .before .before .before .before .serialized-for .ensures, (c .before .before .before .before .before .before .before .before .before .before .write-lists .ensures .0, (c .before .before .before .before .before .before .before .before .before .before .write-lists .ensures .1, behind-kept (c .before .before .before .before .before .before .before .before .before .before .before .before .before .before .before .before .before .before .before .before .before .before .args .sizes .now) (length (c .before .before .before .before .before .before .before .before .before .before .before .before .before .before .before .before .before .before .before .before .before .before .args .offsets .now)) (length (c .before .before .before .before .before .before .before .before .before .before .before .before .before .before .before .before .before .before .before .before .before .before .args .blocks .now)) (c .before .before .before .before .before .before .before .before .before .before .before .before .before .before .before .before .before .before .before .before .before .before .args .objects .now) (c .before .before .before .before .before .before .before .before .before .before .before .before .before .before .before .before .before .before .before .before .before .before .args .region .now) (record { «offset_size» = c .before .before .before .before .before .before .before .before .before .before .before .before .before .before .before .before .before .before .before .before .before .before .args .offset-size; «heap_header_address» = c .before .before .before .before .before .before .before .before .before .before .before .before .before .before .before .before .before .before .before .before .before .before .args .heap-header-address; «region_address» = c .before .before .before .before .before .before .before .before .before .before .before .before .before .before .before .before .before .before .before .before .before .before .args .region-address }) _ (sym (c .before .before .before .before .before .before .before .before .before .before .before .before .before .before .before .before .serialized-for .ensures) ∙ c .before .before .before .before .before .before .before .before .before .before .before .before .before .before .p .given .1) _ (c .before .before .write-region .ensures))))
+returns-2 c =
+    let A = accepts (c .before .before .before .before .before .before .before .before .before .before .before .before .before .before) in
+    let lists = c .before .before .before .before .before .before .before .before .before .before .write-lists .ensures in
+    (sym (A .is), (lists .0, (lists .1, behind-kept A _ (c .before .before .write-region .ensures))))
 
 pub serialize-spec : {M : Type 1} → statement M
 serialize-spec =

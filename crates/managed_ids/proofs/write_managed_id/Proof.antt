@@ -1,7 +1,8 @@
 -- `write_managed_id` meets its contract: the test decides both the answer and the bytes. Assumes nothing.
 use mathlib.Core.Path.{sym, _∙_}
 use borrow.Author.Needs.{needs}
-use Rattle.managed_ids.proofs.Ids.{held, id-passed, id-refused}
+use Rattle.id_checks.proofs.Checking.{held}
+use Rattle.managed_ids.proofs.Ids.{id-passed, id-refused}
 use Rattle.managed_ids.proofs.write_managed_id.Statement.{statement}
 use Rattle.managed_ids.proofs.write_managed_id.Tie as tie
 
