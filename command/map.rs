@@ -176,7 +176,7 @@ impl Look {
         let blocks = count(root.placed(), "block");
         let mut lines = vec![
             format!(
-                "map: the root has {rows}; {blocks} placed, {} full",
+                "map: the root has {rows}; {blocks} placed, their bodies {} full",
                 percent(root.fill())
             ),
             format!(

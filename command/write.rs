@@ -268,10 +268,12 @@ fn read_back(
 
 fn print_read_back(objects: &Objects, found: u64, lost: u64) -> Result<(), Failure> {
     let bytes = objects.bytes.len() as u64;
+    let number = objects.number() - lost;
     say(&format!(
-        "read back: {} of {} by their IDs, every byte the same",
-        count(objects.number() - lost, "object"),
-        count(bytes, "byte")
+        "read back: {} of {} by {}, every byte the same",
+        count(number, "object"),
+        count(bytes, "byte"),
+        if number == 1 { "its ID" } else { "their IDs" }
     ))?;
     if found + lost > 0 {
         say(&format!(
@@ -322,6 +324,7 @@ pub fn write(words: &[OsString]) -> Result<(), Failure> {
     progress.wipe();
     print_totals(&heap, &objects)?;
     if arguments.has("--map") {
+        say("")?;
         let (offsets, starts) = (&heap.lists.offsets, &heap.lists.blocks);
         let starts = &starts[..heap.totals.blocks as usize];
         let fullness = Fullness::new(starts, offsets, &objects.sizes, place.offset_size);
