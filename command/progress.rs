@@ -10,6 +10,8 @@ const PAUSE: Duration = Duration::from_millis(100);
 pub struct Progress {
     /// Only a terminal is shown anything.
     terminal: bool,
+    /// Whether standard output is a terminal too, most likely the same.
+    shared: bool,
     start: Instant,
     last: Option<Instant>,
     shown: bool,
@@ -19,6 +21,7 @@ impl Progress {
     pub fn new() -> Self {
         Progress {
             terminal: io::stderr().is_terminal(),
+            shared: io::stdout().is_terminal(),
             start: Instant::now(),
             last: None,
             shown: false,
@@ -40,7 +43,14 @@ impl Progress {
         let _ = write!(err, "\r\x1b[K{}", line()).and_then(|()| err.flush());
     }
 
-    /// Takes the line away, for something else to be printed or at the end.
+    /// Takes the line away where something else will be printed on the same terminal.
+    pub fn give_way(&mut self) {
+        if self.shared {
+            self.wipe();
+        }
+    }
+
+    /// Takes the line away.
     pub fn wipe(&mut self) {
         if std::mem::take(&mut self.shown) {
             let mut err = io::stderr();

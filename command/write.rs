@@ -85,8 +85,9 @@ fn not_taken(refusal: &Refusal, name: &OsStr, offset_size: u8) -> Failure {
 
 /// Takes the files in, one by one. The sizes so far are planned each time: as front parts are planned alike, the
 /// ID that an object gets here is its ID for good.
-fn take_in(names: &[OsString], w: u8, progress: &mut Progress) -> Result<Objects, Failure> {
+fn take_in(names: &[OsString], w: u8) -> Result<Objects, Failure> {
     let (mut objects, mut lists) = (Objects::default(), Lists::default());
+    let mut progress = Progress::new();
     if !names.is_empty() {
         say(" object     size     heap offset  ID                       file")?;
     }
@@ -97,7 +98,7 @@ fn take_in(names: &[OsString], w: u8, progress: &mut Progress) -> Result<Objects
         let offset = lists.offsets[i];
         let id = library::managed_id(offset, size).map_err(refused)?;
         objects.ids.push(id);
-        progress.wipe();
+        progress.give_way();
         say(&format!(
             "{:>7} {:>8} {:>15}  {}  {}",
             grouped(i as u64),
@@ -236,11 +237,8 @@ fn check_header(heap: &Written, objects: &Objects) -> Result<(), Failure> {
 }
 
 /// Every object by its ID, byte for byte: how many empty ones were found, and how many answered by 1.
-fn read_back(
-    heap: &Written,
-    objects: &Objects,
-    progress: &mut Progress,
-) -> Result<(u64, u64), Failure> {
+fn read_back(heap: &Written, objects: &Objects) -> Result<(u64, u64), Failure> {
+    let mut progress = Progress::new();
     let Place {
         header_at: at,
         offset_size: w,
@@ -317,11 +315,8 @@ fn put_image(name: &OsStr, heap: &Written, objects: &Objects) -> Result<(), Fail
 pub fn write(words: &[OsString]) -> Result<(), Failure> {
     let arguments = Arguments::new(words, &OPTIONS)?;
     let place = place(&arguments)?;
-    let mut progress = Progress::new();
-    let objects = take_in(&arguments.others, place.offset_size, &mut progress)?;
-    progress.tell(|| "writing the region".into());
+    let objects = take_in(&arguments.others, place.offset_size)?;
     let heap = written(&objects, place)?;
-    progress.wipe();
     print_totals(&heap, &objects)?;
     if arguments.has("--map") {
         say("")?;
@@ -335,8 +330,7 @@ pub fn write(words: &[OsString]) -> Result<(), Failure> {
     say("")?;
     same_ids(&heap, &objects)?;
     check_header(&heap, &objects)?;
-    let (found, lost) = read_back(&heap, &objects, &mut progress)?;
-    progress.wipe();
+    let (found, lost) = read_back(&heap, &objects)?;
     print_read_back(&objects, found, lost)?;
     match arguments.value("--out") {
         Some(name) => put_image(name, &heap, &objects),
