@@ -10,9 +10,13 @@ use std::io::{self, Read};
 /// Bytes that are read before progress is told again.
 const STRIDE: u64 = 1 << 22;
 
+/// A file's name as it is printed: on one line, with nothing that a terminal would obey.
+pub fn shown(name: &OsStr) -> String {
+    name.to_string_lossy().replace(char::is_control, "?")
+}
+
 fn failed(what: &str, name: &OsStr, error: &io::Error) -> Failure {
-    let name = name.to_string_lossy();
-    Failure::Use(format!("{name} cannot be {what}: {error}"))
+    Failure::Use(format!("{} cannot be {what}: {error}", shown(name)))
 }
 
 /// Appends a file to the objects: its size. Of a file that is too large for an object only the size is of use,

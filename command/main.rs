@@ -1,6 +1,7 @@
 //! `poilures`: writes files as objects of a fractal heap and reads objects by their IDs, through the proved
 //! functions. Here are its words; each subcommand has a file of its own.
 mod arguments;
+mod check;
 mod failure;
 mod files;
 mod image;

@@ -1,8 +1,9 @@
 //! `poilures write`: files as objects of a heap, each with its ID as it is given, then read back by it.
 use crate::arguments::{Arguments, Known};
+use crate::check::check;
 use crate::failure::Failure;
 use crate::files;
-use crate::fractal_heap::{read_managed_object, Refusal};
+use crate::fractal_heap::Refusal;
 use crate::image::{self, Place};
 use crate::library::{self, Id, Lists, Totals, Writing};
 use crate::map;
@@ -24,19 +25,19 @@ const OPTIONS: [Known; 7] = [
 
 /// The objects so far, and the IDs that they were given.
 #[derive(Default)]
-struct Objects {
-    sizes: Vec<u64>,
-    bytes: Vec<u8>,
-    ids: Vec<Id>,
+pub struct Objects {
+    pub sizes: Vec<u64>,
+    pub bytes: Vec<u8>,
+    pub ids: Vec<Id>,
 }
 
 impl Objects {
-    fn number(&self) -> u64 {
+    pub fn number(&self) -> u64 {
         self.sizes.len() as u64
     }
 
     /// Each object's ID and bytes.
-    fn each(&self) -> impl Iterator<Item = (&Id, &[u8])> {
+    pub fn each(&self) -> impl Iterator<Item = (&Id, &[u8])> {
         let mut rest = &self.bytes[..];
         self.ids.iter().zip(&self.sizes).map(move |(id, &size)| {
             let (bytes, behind) = rest.split_at(size as usize);
@@ -48,10 +49,6 @@ impl Objects {
 
 fn refused(refusal: Refusal) -> Failure {
     Failure::refused(&refusal)
-}
-
-fn wrong(words: &str) -> Failure {
-    Failure::Not(format!("not as it should be: {words}"))
 }
 
 /// The heap's place; whether the library takes the two sizes is asked with a header of no heap.
@@ -78,7 +75,7 @@ fn not_taken(refusal: &Refusal, name: &OsStr, offset_size: u8) -> Failure {
     let largest = image::LARGEST_DIRECT - image::block_header(offset_size);
     Failure::Not(format!(
         "{said}\nthe file is {}; at offset size {offset_size} an object has at most {} bytes",
-        name.to_string_lossy(),
+        files::shown(name),
         grouped(largest)
     ))
 }
@@ -105,7 +102,7 @@ fn take_in(names: &[OsString], w: u8) -> Result<Objects, Failure> {
             grouped(size),
             grouped(offset),
             hex(&id),
-            name.to_string_lossy()
+            files::shown(name)
         ))?;
         progress.tell(|| {
             let (taken, all) = (grouped(i as u64 + 1), grouped(names.len() as u64));
@@ -125,18 +122,17 @@ fn without_image(writing: &Writing, region_size: u64) -> Failure {
 }
 
 /// A heap that is written: the image, its plan, and where it is.
-struct Written {
-    image: Vec<u8>,
-    lists: Lists,
-    totals: Totals,
-    place: Place,
+pub struct Written {
+    pub image: Vec<u8>,
+    pub lists: Lists,
+    pub totals: Totals,
+    pub place: Place,
 }
 
 /// Plans the whole list, and writes region and header into an image.
 fn written(objects: &Objects, place: Place) -> Result<Written, Failure> {
-    let mut lists = Lists::default();
     let w = place.offset_size;
-    let planned = library::plan(&objects.sizes, &mut lists, w).map_err(refused)?;
+    let planned = library::plan(&objects.sizes, &mut Lists::default(), w).map_err(refused)?;
     let writing = Writing {
         sizes: &objects.sizes,
         objects: &objects.bytes,
@@ -149,9 +145,12 @@ fn written(objects: &Objects, place: Place) -> Result<Written, Failure> {
     };
     let start = place.region_at as usize;
     let region = &mut image[start..start + planned.region_size as usize];
+    let mut lists = Lists::default();
     let totals = library::serialize(&writing, &mut lists, region).map_err(refused)?;
     if totals != planned {
-        return Err(wrong("writing and planning have different totals"));
+        return Err(Failure::Not(
+            "writing and planning have different totals".into(),
+        ));
     }
     let header = image::header(&place, &totals, objects.number())?;
     let start = place.header_at as usize;
@@ -198,92 +197,14 @@ fn print_totals(heap: &Written, objects: &Objects) -> Result<(), Failure> {
     Ok(())
 }
 
-/// Every ID that was given early is the ID in the whole run.
-fn same_ids(heap: &Written, objects: &Objects) -> Result<(), Failure> {
-    let offsets = &heap.lists.offsets;
-    for (i, (&offset, &size)) in offsets.iter().zip(&objects.sizes).enumerate() {
-        if library::managed_id(offset, size).map_err(refused)? != objects.ids[i] {
-            return Err(wrong(&format!(
-                "object {i} has another ID in the whole list"
-            )));
-        }
-    }
-    match objects.number() {
-        0 => Ok(()),
-        n => say(&format!(
-            "IDs: {} given early, {} in the whole list",
-            grouped(n),
-            if n == 1 { "the same" } else { "all the same" }
-        )),
-    }
-}
-
-/// The header says what it should.
-fn check_header(heap: &Written, objects: &Objects) -> Result<(), Failure> {
-    let Place {
-        header_at,
-        region_at,
-        offset_size,
-        length_size,
-    } = heap.place;
-    let header = library::parse_header(&heap.image, header_at, (offset_size, length_size));
-    let header = header.map_err(refused)?;
-    let root = region_at + heap.totals.root_place;
-    let due = (root, heap.totals.root_rows, objects.number());
-    match (header.root, header.root_rows, header.objects) == due {
-        true => Ok(()),
-        false => Err(wrong("the header does not say what was written")),
-    }
-}
-
-/// Every object by its ID, byte for byte: how many empty ones were found, and how many answered by 1.
-fn read_back(heap: &Written, objects: &Objects) -> Result<(u64, u64), Failure> {
-    let mut progress = Progress::new();
-    let Place {
-        header_at: at,
-        offset_size: w,
-        length_size: l,
-        ..
-    } = heap.place;
-    let (mut found, mut lost) = (0, 0);
-    for (i, (id, bytes)) in objects.each().enumerate() {
-        match read_managed_object(&heap.image, at, w, l, id) {
-            Ok(read) if read == bytes => found += u64::from(bytes.is_empty()),
-            Ok(_) => return Err(wrong(&format!("object {i} comes back with other bytes"))),
-            Err(r) if bytes.is_empty() && r.number == 1 && heap.totals.root_rows > 0 => lost += 1,
-            Err(r) => {
-                let said = refusals::said(&r, "the image");
-                return Err(wrong(&format!("object {i} does not come back: {said}")));
-            }
-        }
-        progress.tell(|| {
-            let all = grouped(objects.number());
-            format!("reading back: {} of {all} objects", grouped(i as u64 + 1))
-        });
-    }
-    Ok((found, lost))
-}
-
-fn print_read_back(objects: &Objects, found: u64, lost: u64) -> Result<(), Failure> {
-    let bytes = objects.bytes.len() as u64;
-    let number = objects.number() - lost;
-    say(&format!(
-        "read back: {} of {} by {}, every byte the same",
-        count(number, "object"),
-        count(bytes, "byte"),
-        if number == 1 { "its ID" } else { "their IDs" }
-    ))?;
-    if found + lost > 0 {
-        say(&format!(
-            "  empty objects: {}; {} found, {} answered by 1",
-            grouped(found + lost),
-            grouped(found),
-            grouped(lost)
-        ))?;
-    }
-    if lost > 0 {
-        say("  1 is right there: an empty object has no byte in any block, and at the end of its")?;
-        say("  block its place may be in none; so it may be answered by 1 under an indirect root")?;
+fn print_map(heap: &Written, objects: &Objects, ascii: bool) -> Result<(), Failure> {
+    let (lists, totals) = (&heap.lists, &heap.totals);
+    let starts = &lists.blocks[..totals.blocks as usize];
+    let w = heap.place.offset_size;
+    let fullness = Fullness::new(starts, &lists.offsets, &objects.sizes, w);
+    say("")?;
+    for line in map::lines(&fullness, totals.root_rows, ascii) {
+        say(&line)?;
     }
     Ok(())
 }
@@ -291,7 +212,7 @@ fn print_read_back(objects: &Objects, found: u64, lost: u64) -> Result<(), Failu
 /// Writes the image to a file, and says how an object is read from it.
 fn put_image(name: &OsStr, heap: &Written, objects: &Objects) -> Result<(), Failure> {
     files::put(name, &heap.image)?;
-    let (file, place) = (name.to_string_lossy(), &heap.place);
+    let (file, place) = (files::shown(name), &heap.place);
     let size = count(heap.image.len() as u64, "byte");
     let at = grouped(place.header_at);
     say(&format!("image: {size}, header at {at}, put into {file}"))?;
@@ -319,19 +240,10 @@ pub fn write(words: &[OsString]) -> Result<(), Failure> {
     let heap = written(&objects, place)?;
     print_totals(&heap, &objects)?;
     if arguments.has("--map") {
-        say("")?;
-        let (offsets, starts) = (&heap.lists.offsets, &heap.lists.blocks);
-        let starts = &starts[..heap.totals.blocks as usize];
-        let fullness = Fullness::new(starts, offsets, &objects.sizes, place.offset_size);
-        for line in map::lines(&fullness, heap.totals.root_rows, arguments.has("--ascii")) {
-            say(&line)?;
-        }
+        print_map(&heap, &objects, arguments.has("--ascii"))?;
     }
     say("")?;
-    same_ids(&heap, &objects)?;
-    check_header(&heap, &objects)?;
-    let (found, lost) = read_back(&heap, &objects)?;
-    print_read_back(&objects, found, lost)?;
+    check(&heap, &objects)?;
     match arguments.value("--out") {
         Some(name) => put_image(name, &heap, &objects),
         None => Ok(()),
