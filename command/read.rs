@@ -78,7 +78,13 @@ fn managed<'f>(file: &'f [u8], at: u64, (w, l): (u8, u8), id: &[u8]) -> Result<&
         grouped(offset),
         count(length, "byte")
     ));
-    let bytes = read_managed_object(file, at, w, l, id).map_err(refused)?;
+    let bytes = read_managed_object(file, at, w, l, id).map_err(|refusal| {
+        let beyond = refusal.number == 1 && refusal.first > refusal.second;
+        if beyond && refusal.first == offset.saturating_add(length) {
+            tell("the end expected is the ID's own in the heap: no block seems to be placed there");
+        }
+        refused(refusal)
+    })?;
     let start = position(file, bytes);
     let end = start + bytes.len() as u64;
     tell(&format!(

@@ -1,6 +1,6 @@
 //! Refusals in words: every number of the table in README.md, with its two values.
 use crate::fractal_heap::Refusal;
-use crate::numbers::grouped;
+use crate::numbers::{count, grouped};
 
 /// The number and the words, as every message has them.
 pub fn said(refusal: &Refusal, of: &str) -> String {
@@ -37,15 +37,15 @@ fn words(refusal: &Refusal, of: &str) -> String {
 
 /// 1 is also the answer where the heap has nothing at the ID's place.
 fn too_early(end: u64, available: u64, of: &str) -> String {
-    let (a, b) = (grouped(end), grouped(available));
-    let early = format!("the bytes end too early: the end expected is {a}, {of} has {b} bytes");
-    if end <= available {
-        return format!(
-            "no block holds the ID's place, which ends at heap offset {a}; {of} has {b} bytes"
-        );
-    }
+    let (a, b) = (grouped(end), count(available, "byte"));
     match (end, available) {
-        (1, 0) => format!("{early}: an empty ID, or a heap with no root block"),
-        _ => early,
+        (1, 0) => format!(
+            "nothing to read: the end expected is {a}, and {b} are there; \
+             the ID is empty, or the heap has no root block"
+        ),
+        _ if end <= available => {
+            format!("no block holds the ID's place, which ends at heap offset {a}; {of} has {b}")
+        }
+        _ => format!("the bytes end too early: the end expected is {a}, {of} has {b}"),
     }
 }
