@@ -5,7 +5,7 @@ use crate::numbers::{count, grouped};
 use crate::table::{direct_slots, Fill, Fullness, Row, Slot, Table};
 
 /// A longer picture is drawn with fewer levels of indirect blocks.
-const MOST_LINES: usize = 60;
+const MOST_LINES: usize = 100;
 /// Levels of indirect blocks below the root of the largest heap.
 const LEVELS: usize = 8;
 /// Columns of a slot's cell, and of the one block of a direct root.
@@ -131,7 +131,10 @@ impl Group<'_> {
             }
             (_, true) => {
                 let each = of(placed / n, slots);
-                format!("slots {}-{last}, alike: {rows} rows, {each}", self.first)
+                format!(
+                    "slots {}-{last} alike, drawn as one: {rows} rows, {each}",
+                    self.first
+                )
             }
             (_, false) => {
                 let all = of(placed, n * slots);
@@ -229,6 +232,7 @@ impl Look {
     /// Draws the rows, and below each the indirect blocks that are open in it. Whether some are not drawn.
     fn draw(&self, table: &Table, level: usize, lines: &mut Vec<String>) -> bool {
         let (rows, mut at, mut cut) = (&table.rows, 0, false);
+        let branch = if self.ascii { "+" } else { "└" };
         while at < rows.len() {
             let cells = self.cells(&rows[at]);
             let like = rows[at..].iter().take_while(|row| self.cells(row) == cells);
@@ -236,7 +240,8 @@ impl Look {
             lines.push(self.line(&rows[at..end], &cells, level));
             let drawn = level < self.levels;
             for group in groups(&rows[at], drawn) {
-                lines.push("  ".repeat(level + 2) + &group.heading(drawn));
+                let heading = group.heading(drawn);
+                lines.push(format!("{}{branch} {heading}", "  ".repeat(level + 2)));
                 cut |= !drawn || self.draw(&group.merged(), level + 1, lines);
             }
             at = end;
