@@ -86,7 +86,9 @@ fn usage() -> Result<(), Failure> {
 
 fn explain(words: &[OsString]) -> Result<(), Failure> {
     let [number, first, second] = words else {
-        return Err(Failure::Use("explain NUMBER FIRST SECOND".into()));
+        return Err(Failure::Use(
+            "explain needs a number and its two values".into(),
+        ));
     };
     let number = arguments::number("NUMBER", number)?;
     if !(1..=16).contains(&number) {

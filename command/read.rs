@@ -133,7 +133,9 @@ fn print(bytes: &[u8], as_hex: bool) -> Result<(), Failure> {
 pub fn read(words: &[OsString]) -> Result<(), Failure> {
     let arguments = Arguments::new(words, &OPTIONS)?;
     let [name, at, id @ ..] = &arguments.others[..] else {
-        return Err(Failure::Use("read FILE HEADER-POSITION ID".into()));
+        return Err(Failure::Use(
+            "read needs a file, the position of a heap's header, and an ID".into(),
+        ));
     };
     let at = arguments::number("HEADER-POSITION", at)?;
     let id = arguments::id(id)?;
