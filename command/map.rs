@@ -179,7 +179,7 @@ impl Look {
         let blocks = count(root.placed(), "block");
         let mut lines = vec![
             format!(
-                "map: the root has {rows}; {blocks} placed, their bodies {} full",
+                "map: the root has {rows}; {blocks} placed, {} full",
                 percent(root.fill())
             ),
             format!(
@@ -192,8 +192,12 @@ impl Look {
             true => ("#", "."),
             false => ("█", "·"),
         };
+        let nested = match root.slots().any(|slot| matches!(slot, Slot::Indirect(_))) {
+            true => ", rows: an indirect block",
+            false => "",
+        };
         lines.push(format!(
-            "  {whole} bytes of objects, blank: free, {unplaced} not placed, rows: an indirect block"
+            "  {whole} bytes of objects, blank: free, {unplaced} not placed{nested}"
         ));
         if cut {
             lines.push("  indirect blocks farther down are summed up, not drawn".into());

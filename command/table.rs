@@ -115,7 +115,7 @@ impl Table {
         }
     }
 
-    fn slots(&self) -> impl Iterator<Item = &Slot> {
+    pub fn slots(&self) -> impl Iterator<Item = &Slot> {
         self.rows.iter().flat_map(|row| &row.slots)
     }
 
