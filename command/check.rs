@@ -87,6 +87,9 @@ fn read_back(heap: &Written, objects: &Objects) -> Result<(u64, u64), Failure> {
 }
 
 fn print_read_back(objects: &Objects, found: u64, lost: u64) -> Result<(), Failure> {
+    if objects.number() == 0 {
+        return say("read back: the header; there are no objects");
+    }
     let bytes = objects.bytes.len() as u64;
     let number = objects.number() - lost;
     say(&format!(
@@ -95,13 +98,14 @@ fn print_read_back(objects: &Objects, found: u64, lost: u64) -> Result<(), Failu
         count(bytes, "byte"),
         if number == 1 { "its ID" } else { "their IDs" }
     ))?;
-    if found + lost > 0 {
-        say(&format!(
+    match found + lost {
+        0 => say("  empty objects: none")?,
+        all => say(&format!(
             "  empty objects: {}; {} found, {} answered by 1",
-            grouped(found + lost),
+            grouped(all),
             grouped(found),
             grouped(lost)
-        ))?;
+        ))?,
     }
     if lost > 0 {
         say("  1 is right there: an empty object has no byte in any block, and at the end of its")?;
