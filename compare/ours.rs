@@ -1,95 +1,23 @@
 //! Our static libraries, each C function behind a safe one: `fractal_heap_c`, which the loader calls, and the
-//! tests' own `tools_c`, `write_tools_c`, `heap_tools_c` and `object_tools_c`.
+//! tests' own `tools_c`, `plan_tools_c`, `write_tools_c`, `heap_tools_c` and `object_tools_c`.
+#[path = "../loader/tools/heap_tools_c.rs"]
+mod heap_tools_c;
+#[path = "../loader/tools/object_tools_c.rs"]
+mod object_tools_c;
+#[path = "../loader/tools/plan_tools_c.rs"]
+mod plan_tools_c;
+#[path = "../loader/tools/tools_c.rs"]
+mod tools_c;
+#[path = "../loader/tools/write_tools_c.rs"]
+mod write_tools_c;
+
 use crate::made::Heap;
+use heap_tools_c::*;
+use object_tools_c::*;
 use original::Answer;
-
-#[link(name = "tools_c", kind = "static")]
-unsafe extern "C" {
-    fn tools_jenkins_lookup3(bytes: *const u8, len: usize) -> u32;
-    fn tools_to_usize(value: u64) -> u64;
-    fn tools_is_undefined_addr(addr: u64, offset_size: u8) -> u32;
-    fn tools_ensure_len(
-        bytes: *const u8,
-        len: usize,
-        offset: u64,
-        needed: u64,
-        slot: *mut u8,
-        slot_len: usize,
-    ) -> u32;
-    fn tools_read_offset(
-        bytes: *const u8,
-        len: usize,
-        pos: u64,
-        size: u8,
-        slot: *mut u8,
-        slot_len: usize,
-    ) -> u32;
-    fn tools_read_length(
-        bytes: *const u8,
-        len: usize,
-        pos: u64,
-        size: u8,
-        slot: *mut u8,
-        slot_len: usize,
-    ) -> u32;
-    fn tools_write_offset(
-        bytes: *mut u8,
-        len: usize,
-        pos: u64,
-        value: u64,
-        size: u8,
-        slot: *mut u8,
-        slot_len: usize,
-    ) -> u32;
-    fn tools_write_undef_offset(
-        bytes: *mut u8,
-        len: usize,
-        pos: u64,
-        size: u8,
-        slot: *mut u8,
-        slot_len: usize,
-    ) -> u32;
-}
-
-#[link(name = "write_tools_c", kind = "static")]
-unsafe extern "C" {
-    fn tools_plan(
-        sizes: *const u64,
-        sizes_len: usize,
-        offsets: *mut u64,
-        offsets_len: usize,
-        blocks: *mut u64,
-        blocks_len: usize,
-        offset_size: u8,
-        totals: *mut u64,
-        totals_len: usize,
-    ) -> u32;
-    fn tools_serialize(
-        sizes: *const u64,
-        sizes_len: usize,
-        offsets: *mut u64,
-        offsets_len: usize,
-        blocks: *mut u64,
-        blocks_len: usize,
-        objects: *const u8,
-        objects_len: usize,
-        region: *mut u8,
-        region_len: usize,
-        region_address: u64,
-        heap_header_address: u64,
-        offset_size: u8,
-        totals: *mut u64,
-        totals_len: usize,
-    ) -> u32;
-    fn tools_write_managed_id(
-        offset: u64,
-        size: u64,
-        id: *mut u8,
-        id_len: usize,
-        slot: *mut u8,
-        slot_len: usize,
-    ) -> u32;
-}
+use plan_tools_c::*;
+use tools_c::*;
+use write_tools_c::*;
 
 #[link(name = "fractal_heap_c", kind = "static")]
 unsafe extern "C" {
@@ -115,54 +43,6 @@ unsafe extern "C" {
         id_len: usize,
         slot: *mut u8,
         slot_len: usize,
-    ) -> u32;
-}
-
-#[link(name = "heap_tools_c", kind = "static")]
-unsafe extern "C" {
-    fn tools_parse_header(
-        file: *const u8,
-        file_len: usize,
-        at: u64,
-        offset_size: u8,
-        length_size: u8,
-        fields: *mut u64,
-        fields_len: usize,
-    ) -> u32;
-}
-
-#[link(name = "object_tools_c", kind = "static")]
-unsafe extern "C" {
-    fn tools_read_managed_object(
-        file: *const u8,
-        file_len: usize,
-        at: u64,
-        offset_size: u8,
-        length_size: u8,
-        read_size: u8,
-        id: *const u8,
-        id_len: usize,
-        slot: *mut u8,
-        slot_len: usize,
-    ) -> u32;
-    fn tools_read_tiny_object(
-        heap_id_length: u16,
-        id: *const u8,
-        id_len: usize,
-        slot: *mut u8,
-        slot_len: usize,
-    ) -> u32;
-    fn tools_heap_id_type(id: *const u8, id_len: usize, slot: *mut u8, slot_len: usize) -> u32;
-    fn tools_read_each(
-        file: *const u8,
-        file_len: usize,
-        at: u64,
-        offset_size: u8,
-        length_size: u8,
-        ids: *const u8,
-        ids_len: usize,
-        found: *mut u64,
-        found_len: usize,
     ) -> u32;
 }
 
