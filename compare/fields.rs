@@ -1,5 +1,7 @@
 //! The fields, ours against the original: every answer with its pair.
-use crate::{ours, random::Random};
+use crate::ours;
+use crate::random::Random;
+use crate::summary::{Row, row};
 
 /// A store, by the facts of docs/DECISIONS.md: the low 2, 4 or 8 bytes; 2 for another width, 13 past the end.
 pub fn stored(bytes: &mut [u8], pos: u64, value: u64, size: u8) -> original::Answer {
@@ -68,7 +70,7 @@ fn same_undefined(addr: u64, size: u8) {
 }
 
 /// Every width and every place around the ends of short slices; then `n` random cases of each kind.
-pub fn compare(n: u64) {
+pub fn compare(n: u64) -> Vec<Row> {
     let mut random = Random::new(1);
     let mut bytes = [0u8; 48];
     let (mut reads, mut stores, mut lens, mut addrs) = (0u64, 0u64, 0u64, 0u64);
@@ -117,10 +119,10 @@ pub fn compare(n: u64) {
     for len in 0..16 {
         ours::short_slot(len, &mut bytes);
     }
-    println!(
-        "compare: ensure_len {lens}, read_offset and read_length {reads}, is_undefined_addr and to_usize {addrs}: equal"
-    );
-    println!(
-        "compare: write_offset and write_undef_offset {stores}: by the facts of docs/DECISIONS.md, and read back by the original"
-    );
+    vec![
+        row("ensure_len", lens),
+        row("read_offset, read_length", reads),
+        row("is_undefined_addr, to_usize", addrs),
+        row("write_offset, write_undef_offset, by DECISIONS.md", stores),
+    ]
 }

@@ -1,8 +1,11 @@
 //! Holds our static libraries against the original Rust: `compare`, `record` or `bench` (see `run`).
 mod back;
+mod beds;
 mod bench;
 mod checksum;
+mod damage;
 mod fields;
+mod guarded;
 mod heap;
 mod image;
 mod made;
@@ -14,46 +17,48 @@ mod reads;
 mod record;
 mod regions;
 mod round_trips;
+mod summary;
 mod write;
 
 use std::io::Write;
 use std::sync::Mutex;
 use std::time::Instant;
+use summary::Row;
 
-/// A part of the comparison.
-type Part = (&'static str, fn());
+/// A part of the comparison: what it compared.
+type Part = (&'static str, fn() -> Vec<Row>);
 
 /// All parts, the longest first.
-const PARTS: [Part; 9] = [
+const PARTS: [Part; 10] = [
     ("back", || back::compare(200_000)),
     ("write", || write::compare(40_000)),
     ("heap space 8", || plan::heap_space(8)),
     ("heap", || heap::compare(1_000_000)),
     ("heap space 4", || plan::heap_space(4)),
     ("heap space 2", || plan::heap_space(2)),
+    ("damage", || damage::compare(10_000_000)),
     ("plan", || plan::compare(100_000)),
     ("fields", || fields::compare(1_000_000)),
     ("checksum", || checksum::compare(1_000_000)),
 ];
 
-/// Two parts at a time, each followed by the next that is left; their seconds in the end.
+/// Two parts at a time, each followed by the next that is left; the table in the end.
 fn compare(parts: &[Part]) {
-    let (left, seconds) = (Mutex::new(parts.iter()), Mutex::new(String::new()));
+    let (left, done) = (Mutex::new(parts.iter()), Mutex::new(Vec::new()));
     let next = || left.lock().unwrap().next();
     let work = || {
         while let Some((name, part)) = next() {
             let start = Instant::now();
-            part();
+            let rows = part();
             let took = start.elapsed().as_secs_f64();
-            *seconds.lock().unwrap() += &format!(" {name} {took:.1},");
+            done.lock().unwrap().push((*name, rows, took));
         }
     };
     std::thread::scope(|both| {
         both.spawn(work);
         work();
     });
-    let seconds = seconds.into_inner().unwrap();
-    println!("compare: seconds:{}", seconds.trim_end_matches(','));
+    summary::print(&done.into_inner().unwrap());
 }
 
 fn main() {
@@ -76,6 +81,11 @@ fn main() {
                 .write_all(&list)
                 .expect("a place to write");
         }
+        ["damage", n, "plain"] => {
+            damage::run(n.parse().expect("a number of reads"), true);
+        }
+        ["trespass", what] => damage::trespass(what, false),
+        ["trespass", what, "plain"] => damage::trespass(what, true),
         ["bench"] => {
             bench::checksum();
             bench::plan();
@@ -84,7 +94,7 @@ fn main() {
         }
         ["bench", "write"] => bench::write(),
         _ => panic!(
-            "compare [PART], record vectors, record heaps, record regions, record round_trips, record reads [stdin], bench [write]"
+            "compare [PART], damage READS plain, trespass before|behind|store [plain], record vectors, record heaps, record regions, record round_trips, record reads [stdin], bench [write]"
         ),
     }
 }

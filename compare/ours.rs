@@ -288,6 +288,32 @@ pub fn serialize(
     }
 }
 
+/// The region that ours writes for these objects at a region and a header address.
+pub fn region(objects: &[&[u8]], offset_size: u8, region_at: u64, header_at: u64) -> Vec<u8> {
+    let sizes: Vec<u64> = objects.iter().map(|o| o.len() as u64).collect();
+    let (n, mut totals) = (sizes.len(), [0; 8]);
+    let (mut offsets, mut blocks) = (vec![0; n], vec![0; n.max(1)]);
+    let number = plan(&sizes, &mut offsets, &mut blocks, offset_size, &mut totals);
+    assert_eq!(number, 0, "planned");
+    let mut region = vec![0; totals[1] as usize];
+    let writing = Writing {
+        sizes: &sizes,
+        objects: &objects.concat(),
+        offset_size,
+        region_at,
+        header_at,
+    };
+    let number = serialize(
+        &writing,
+        &mut offsets,
+        &mut blocks,
+        &mut region,
+        &mut totals,
+    );
+    assert_eq!(number, 0, "written");
+    region
+}
+
 /// The refusal's number, or 0; the two numbers of the answer are put into the slot.
 pub fn write_managed_id(offset: u64, size: u64, id: &mut [u8], slot: &mut [u8]) -> u32 {
     let (i, k, s, n) = (id.as_mut_ptr(), id.len(), slot.as_mut_ptr(), slot.len());
@@ -339,7 +365,7 @@ pub struct View<'a> {
     pub length_size: u8,
 }
 
-fn view_of(heap: &Heap) -> View<'_> {
+pub fn view_of(heap: &Heap) -> View<'_> {
     View {
         file: &heap.file,
         at: heap.at,
