@@ -61,13 +61,25 @@ fn compare(parts: &[Part]) {
     summary::print(&done.into_inner().unwrap());
 }
 
+/// The times of these parts, in one table.
+fn bench(parts: &[bench::Part]) {
+    let mut times = bench::Times::default();
+    parts.iter().for_each(|part| part.1(&mut times));
+    times.print();
+}
+
+/// The part of a name.
+fn named<T>(parts: &[(&str, T)], name: &str) -> usize {
+    let at = parts.iter().position(|part| part.0 == name);
+    at.unwrap_or_else(|| panic!("no part {name}"))
+}
+
 fn main() {
     let words: Vec<String> = std::env::args().skip(1).collect();
     match words.iter().map(String::as_str).collect::<Vec<_>>()[..] {
         ["compare"] => compare(&PARTS),
         ["compare", name] => {
-            let part = PARTS.iter().position(|part| part.0 == name);
-            let part = part.expect("the name of a part");
+            let part = named(&PARTS, name);
             compare(&PARTS[part..=part]);
         }
         ["record", "vectors"] => print!("{}", record::vectors()),
@@ -86,15 +98,13 @@ fn main() {
         }
         ["trespass", what] => damage::trespass(what, false),
         ["trespass", what, "plain"] => damage::trespass(what, true),
-        ["bench"] => {
-            bench::checksum();
-            bench::plan();
-            bench::heap();
-            bench::write();
+        ["bench"] => bench(&bench::PARTS),
+        ["bench", name] => {
+            let part = named(&bench::PARTS, name);
+            bench(&bench::PARTS[part..=part]);
         }
-        ["bench", "write"] => bench::write(),
         _ => panic!(
-            "compare [PART], damage READS plain, trespass before|behind|store [plain], record vectors, record heaps, record regions, record round_trips, record reads [stdin], bench [write]"
+            "compare [PART], damage READS plain, trespass before|behind|store [plain], record vectors, record heaps, record regions, record round_trips, record reads [stdin], bench [PART]"
         ),
     }
 }

@@ -182,6 +182,14 @@ fn with_slot(call: impl FnOnce(*mut u8, usize) -> u32) -> Answer {
     (number, at(0), at(8))
 }
 
+/// Calls with a slot of just 16 bytes, for times.
+pub fn answered(call: impl FnOnce(*mut u8, usize) -> u32) -> Answer {
+    let mut slot = [0; 16];
+    let number = call(slot.as_mut_ptr(), slot.len());
+    let both = u128::from_le_bytes(slot);
+    (number, both as u64, (both >> 64) as u64)
+}
+
 /// Calls with a slot that is too short: 13, and the slot as it was.
 fn with_short_slot(len: usize, call: impl FnOnce(*mut u8, usize) -> u32) {
     let mut slot = [MARK; 16];
@@ -374,13 +382,13 @@ pub fn view_of(heap: &Heap) -> View<'_> {
     }
 }
 
-fn decode_into(view: View, id: &[u8], slot: *mut u8, len: usize) -> u32 {
+pub fn decode_into(view: View, id: &[u8], slot: *mut u8, len: usize) -> u32 {
     let (file, w, l) = (view.file, view.offset_size, view.length_size);
     let (f, n, i, k) = (file.as_ptr(), file.len(), id.as_ptr(), id.len());
     unsafe { fractal_heap_decode_managed_id(f, n, view.at, w, l, i, k, slot, len) }
 }
 
-fn read_into(view: View, id: &[u8], slot: *mut u8, len: usize) -> u32 {
+pub fn read_into(view: View, id: &[u8], slot: *mut u8, len: usize) -> u32 {
     let (file, w, l) = (view.file, view.offset_size, view.length_size);
     let (f, n, i, k) = (file.as_ptr(), file.len(), id.as_ptr(), id.len());
     unsafe { fractal_heap_read_managed_object(f, n, view.at, w, l, i, k, slot, len) }
@@ -392,11 +400,11 @@ fn sized_into(heap: &Heap, read_size: u8, id: &[u8], slot: *mut u8, len: usize) 
     unsafe { tools_read_managed_object(f, n, heap.at, w, l, read_size, i, k, slot, len) }
 }
 
-fn tiny_into(heap_id_length: u16, id: &[u8], slot: *mut u8, len: usize) -> u32 {
+pub fn tiny_into(heap_id_length: u16, id: &[u8], slot: *mut u8, len: usize) -> u32 {
     unsafe { tools_read_tiny_object(heap_id_length, id.as_ptr(), id.len(), slot, len) }
 }
 
-fn type_into(id: &[u8], slot: *mut u8, len: usize) -> u32 {
+pub fn type_into(id: &[u8], slot: *mut u8, len: usize) -> u32 {
     unsafe { tools_heap_id_type(id.as_ptr(), id.len(), slot, len) }
 }
 
