@@ -17,7 +17,7 @@ pub fn by_rule(offset: u64, length: u64) -> [u8; 8] {
 }
 
 /// Its refusals by the scope's table and in its order: 16, 13.
-fn by_table(offset: u64, length: u64, lent: usize) -> Option<Answer> {
+pub fn by_table(offset: u64, length: u64, lent: usize) -> Option<Answer> {
     if offset >= 1 << 40 || length >= 1 << 16 {
         return Some((16, offset, length));
     }

@@ -84,12 +84,7 @@ fn header_alone(random: &mut Random) -> (Heap, Vec<Vec<u8>>) {
     let (w, l) = (random.one(&[2, 4, 8]), random.one(&[4, 8]));
     let mut head = made::fixed(random.below(140), random.one(&[0, 0, 3]));
     head.filter = random.one(&[0, 0, 1]);
-    let heap = Heap {
-        file: made::header(random, &head, w, l),
-        at: 0,
-        offset_size: w,
-        length_size: l,
-    };
+    let heap = made::behind(random, Vec::new(), &head, [w, l]);
     let ids = [0; 4].map(|_| {
         let offset = random.below(80);
         made::id(random, 40, offset)

@@ -1,6 +1,6 @@
 //! Times, ours against the original: one process, the same input, the two in turn, the best of many rounds. A table
 //! at the end; what each line measures is said in docs/BENCHMARKS.md.
-use crate::back::by_rule;
+use crate::back::{by_rule, by_table};
 use crate::made::{self, Heap, Written};
 use crate::ours::{self, View, Writing, view_of};
 use crate::random::Random;
@@ -33,6 +33,13 @@ struct Line {
     ours: f64,
     original: f64,
     rounds: usize,
+}
+
+impl Line {
+    /// In hundredths, as it is printed.
+    fn ratio(&self) -> f64 {
+        (100.0 * self.ours / self.original).round() / 100.0
+    }
 }
 
 #[derive(Default)]
@@ -73,11 +80,11 @@ impl Times {
                 original,
                 rounds,
             } = line;
-            let ratio = ours / original;
+            let ratio = line.ratio();
             let mark = if ratio > 1.0 { "  slower" } else { "" };
             println!("{what:<44} {ours:>14.1} {original:>14.1} {ratio:>7.2} {rounds:>7}{mark}");
         }
-        let slower = self.0.iter().filter(|line| line.ours > line.original);
+        let slower = self.0.iter().filter(|line| line.ratio() > 1.0);
         let (slower, all) = (slower.count(), self.0.len());
         println!("bench: {all} lines, {slower} of them with a ratio above 1.00");
     }
@@ -205,12 +212,7 @@ fn plan(times: &mut Times) {
 
 /// A header of the fixed geometry and nothing else, at w = 8.
 fn header_alone() -> Heap {
-    Heap {
-        file: made::header(&mut Random::new(8), &made::fixed(22, 0), 8, 8),
-        at: 0,
-        offset_size: 8,
-        length_size: 8,
-    }
+    made::behind(&mut Random::new(8), Vec::new(), &made::fixed(22, 0), [8, 8])
 }
 
 /// The original's header of a heap.
@@ -284,7 +286,11 @@ fn tiny(times: &mut Times) {
         };
         times.line("  ours copying too", calls, copied, original);
     }
-    let id = [0x20u8; 8];
+    id_type(times);
+}
+
+fn id_type(times: &mut Times) {
+    let (id, calls) = ([0x20u8; 8], 1 << 14);
     let ours = || {
         for _ in 0..calls {
             let id = black_box(&id);
@@ -379,29 +385,38 @@ fn together(times: &mut Times, name: &str, written: &Written) {
     times.line("  ours copying too", again * n, || all(true), original);
 }
 
-/// The original has no writer of IDs: the same tests and bytes in plain Rust stand for it.
+/// The original has no writer of IDs: the scope's words in plain Rust, with the same memory lent, stand for it.
+#[inline(never)]
+fn plain_id(offset: u64, size: u64, id: &mut [u8], slot: &mut [u8]) -> u32 {
+    if slot.len() < 16 {
+        return 13;
+    }
+    let (number, x, y) = by_table(offset, size, id.len()).unwrap_or((0, 0, 0));
+    if number == 0 {
+        id[..8].copy_from_slice(&by_rule(offset, size));
+    }
+    slot[..8].copy_from_slice(&x.to_le_bytes());
+    slot[8..16].copy_from_slice(&y.to_le_bytes());
+    number
+}
+
+/// IDs one after the other in one list.
 fn ids(times: &mut Times) {
-    let calls = 1 << 14;
-    let (offset, size) = (8214u64, 1003u64);
-    let ours = || {
-        for _ in 0..calls {
-            let (mut id, mut slot) = ([0; 8], [0; 16]);
-            let (offset, size) = black_box((offset, size));
-            let number = ours::write_managed_id(offset, size, &mut id, &mut slot);
-            black_box((number, id, slot));
+    type Writer = fn(u64, u64, &mut [u8], &mut [u8]) -> u32;
+    let all = |writer: Writer| {
+        let (mut list, mut slot) = ([0; 8 << 13], [0; 16]);
+        for (i, id) in list.chunks_exact_mut(8).enumerate() {
+            let (offset, size) = black_box((i as u64, 1003));
+            black_box(writer(offset, size, id, &mut slot));
         }
+        black_box((&list, slot));
     };
-    let plain = || {
-        for _ in 0..calls {
-            let (mut id, slot) = ([0; 8], [0u8; 16]);
-            let (offset, size) = black_box((offset, size));
-            if offset < 1 << 40 && size < 1 << 16 {
-                id = by_rule(offset, size);
-            }
-            black_box((0u32, id, slot));
-        }
-    };
-    times.line("ID written (original: plain Rust)", calls, ours, plain);
+    times.line(
+        "ID written (original: plain Rust)",
+        1 << 13,
+        || all(ours::write_managed_id),
+        || all(plain_id),
+    );
 }
 
 /// What ours is lent for writing.

@@ -511,12 +511,7 @@ impl Comparison {
 
 /// A file that is a header and nothing else.
 fn bare(random: &mut Random, head: &made::Head, w: u8, l: u8) -> Heap {
-    Heap {
-        file: made::header(random, head, w, l),
-        at: 0,
-        offset_size: w,
-        length_size: l,
-    }
+    made::behind(random, Vec::new(), head, [w, l])
 }
 
 impl Comparison {

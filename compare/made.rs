@@ -125,6 +125,16 @@ pub struct Object {
     pub bytes: Vec<u8>,
 }
 
+impl Object {
+    fn new(offset: u64, bytes: Vec<u8>) -> Self {
+        Object {
+            offset,
+            id: packed(0, 40, offset, bytes.len() as u64)[..8].to_vec(),
+            bytes,
+        }
+    }
+}
+
 /// Random bytes for each size.
 fn contents(random: &mut Random, sizes: &[u64]) -> Vec<Vec<u8>> {
     let mut content = |&size: &u64| {
@@ -173,11 +183,7 @@ pub fn written_by(
     heap.lay(at, &header(random, &head, w, l));
     heap.lay(region_at, &writer(&parts, w, region_at, at));
     let range = |at: u64, n: u64| at as usize..(at + n) as usize;
-    let object = |(offset, bytes): (u64, Vec<u8>)| Object {
-        offset,
-        id: packed(0, 40, offset, bytes.len() as u64)[..8].to_vec(),
-        bytes,
-    };
+    let object = |(offset, bytes)| Object::new(offset, bytes);
     Written {
         heap,
         header: range(at, header_size),
@@ -331,6 +337,24 @@ pub fn web(random: &mut Random, w: u8, l: u8, mut head: Head) -> (Heap, Head) {
     (heap, head)
 }
 
+/// The front of an indirect block, up to its entries; what no reader looks at is random.
+fn open_block(file: &mut Vec<u8>, random: &mut Random, w: u8, bits: u16) {
+    file.extend(b"FHIB\0");
+    file.extend((0..u16::from(w) + bits.div_ceil(8)).map(|_| random.byte()));
+}
+
+/// A file with a header behind it.
+pub fn behind(random: &mut Random, mut file: Vec<u8>, head: &Head, [w, l]: [u8; 2]) -> Heap {
+    let at = file.len() as u64;
+    file.extend(header(random, head, w, l));
+    Heap {
+        file,
+        at,
+        offset_size: w,
+        length_size: l,
+    }
+}
+
 /// Indirect blocks one in the other, as deep as a path can be: starting block and width are 1, the root has
 /// one row more than the heap has bits, and each block's last row holds the next block, down to one of two
 /// rows with a direct child. All other entries are undefined. The offset is the deepest block's.
@@ -343,8 +367,7 @@ pub fn chain(random: &mut Random, w: u8, bits: u16) -> (Heap, u64) {
     random.fill(&mut file);
     for rows in (2..=bits + 1).rev() {
         let start = file.len();
-        file.extend(b"FHIB\0");
-        file.extend((0..u16::from(w) + bits.div_ceil(8)).map(|_| random.byte()));
+        open_block(&mut file, random, w, bits);
         let entries = file.len();
         file.resize(entries + usize::from(rows * u16::from(w)), 0xFF);
         let next = match rows {
@@ -354,14 +377,7 @@ pub fn chain(random: &mut Random, w: u8, bits: u16) -> (Heap, u64) {
         let last = entries + usize::from(if rows == 2 { 0 } else { rows - 1 }) * usize::from(w);
         file[last..last + usize::from(w)].copy_from_slice(&next.to_le_bytes()[..usize::from(w)]);
     }
-    let at = file.len() as u64;
-    file.extend(header(random, &head, w, 8));
-    let heap = Heap {
-        file,
-        at,
-        offset_size: w,
-        length_size: 8,
-    };
+    let heap = behind(random, file, &head, [w, 8]);
     (heap, ((1u128 << bits) - 2) as u64)
 }
 
@@ -374,8 +390,7 @@ pub fn ring(random: &mut Random, w: u8) -> (Heap, Head) {
     head.rows = random.one(&[64, 65, 66, 70, 65_535]);
     let mut file = vec![0; head.root as usize];
     random.fill(&mut file);
-    file.extend(b"FHIB\0");
-    file.extend((0..u16::from(w) + head.bits.div_ceil(8)).map(|_| random.byte()));
+    open_block(&mut file, random, w, head.bits);
     for entry in 0..70 {
         let to = if entry < 2 {
             random.below(90)
@@ -384,15 +399,7 @@ pub fn ring(random: &mut Random, w: u8) -> (Heap, Head) {
         };
         put(&mut file, random, to, w);
     }
-    let at = file.len() as u64;
-    file.extend(header(random, &head, w, 8));
-    let heap = Heap {
-        file,
-        at,
-        offset_size: w,
-        length_size: 8,
-    };
-    (heap, head)
+    (behind(random, file, &head, [w, 8]), head)
 }
 
 /// A root with as many rows as the field holds, or nearly, and all its entries in the file.
@@ -405,8 +412,7 @@ pub fn tall(random: &mut Random) -> (Heap, Head) {
     head.root = 130 + random.below(60);
     let mut file = header(random, &head, 2, 8);
     file.resize_with(head.root as usize, || random.byte());
-    file.extend(b"FHIB\0");
-    file.extend((0..2 + head.bits.div_ceil(8)).map(|_| random.byte()));
+    open_block(&mut file, random, 2, head.bits);
     for _ in 0..u32::from(head.rows) * u32::from(head.width) {
         let to = random.one(&[u64::MAX, head.root, 9, 60_000]);
         put(&mut file, random, to, 2);
