@@ -334,8 +334,9 @@ fn read(times: &mut Times) {
 /// object. In the second line ours copies too.
 fn one_by_one(times: &mut Times, name: &str, written: &Written) {
     let (view, objects) = (view_of(&written.heap), &written.objects[..]);
-    let ids = || objects.iter().map(|o| black_box(&o.id[..])).take(2000);
-    let calls = ids().count();
+    let (calls, step) = (2000, objects.len().div_ceil(2000));
+    let some = objects.iter().step_by(step).cycle().take(calls);
+    let ids = || some.clone().map(|o| black_box(&o.id[..]));
     let place = |id: &[u8]| ours::answered(|s, n| ours::read_into(black_box(view), id, s, n));
     let copy = |(_, at, n): (u32, u64, u64)| view.file[at as usize..][..n as usize].to_vec();
     let right = |o: &made::Object| copy(place(&o.id)) == o.bytes;
