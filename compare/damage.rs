@@ -169,10 +169,7 @@ impl Work {
     }
 
     /// Two parts of as many bytes exchanged, or the first moved over the second.
-    fn carry(&mut self, bed: &Bed, exchanged: bool) {
-        let (Some((a, n)), Some((b, m))) = (self.spot(bed), self.spot(bed)) else {
-            return;
-        };
+    fn carry(&mut self, exchanged: bool, (a, n): Spot, (b, m): Spot) {
         let n = match self.random.below(4) {
             0 => 5 + self.random.below(60) as usize,
             _ => n.min(m),
@@ -210,25 +207,24 @@ impl Work {
             30 => 7,
             _ => 8,
         };
-        self.damages[kind] += 1;
-        match kind {
-            3 => {
+        let spots = (self.spot(bed), self.spot(bed));
+        match (kind, spots) {
+            (3, _) => {
                 let len = self.cut(bed);
                 self.resize(len);
             }
-            4 => {
+            (4, _) => {
                 let more = 1 + self.random.below(200) as usize;
                 self.resize(self.file.bytes().len() + more);
             }
-            5 | 6 => self.carry(bed, kind == 5),
-            7 => self.misplace(bed),
-            8 => self.widths[self.random.below(2) as usize] = self.random.width(),
-            _ => {
-                if let Some(spot) = self.spot(bed) {
-                    self.spoil(bed, kind, spot);
-                }
-            }
+            (7, _) => self.misplace(bed),
+            (8, _) => self.widths[self.random.below(2) as usize] = self.random.width(),
+            (5 | 6, (Some(a), Some(b))) => self.carry(kind == 5, a, b),
+            (0..=2, (Some(spot), _)) => self.spoil(bed, kind, spot),
+            // The file is cut before that place.
+            _ => return,
         }
+        self.damages[kind] += 1;
     }
 
     /// A bit flipped, a byte or the whole word set.
@@ -279,11 +275,9 @@ impl Work {
             10 if n > 0 => id[random.below(n) as usize] = random.one(&[0, 1, 0x7F, 0x80, 0xFF]),
             11 => id.truncate(random.below(n + 1) as usize),
             12 => id.extend((0..1 + random.below(12)).map(|_| random.byte())),
-            _ => {}
+            _ => return self.id.lay(&id, self.edge),
         }
-        if let Some(times) = self.damages.get_mut(kind) {
-            *times += 1;
-        }
+        self.damages[kind] += 1;
         self.id.lay(&id, self.edge);
     }
 }

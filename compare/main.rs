@@ -1,4 +1,4 @@
-//! Holds our static libraries against the original Rust: `compare`, `record` or `bench` (see `run`).
+//! Holds our static libraries against the original Rust: see the scripts `run`, `damage` and `bench`.
 mod back;
 mod beds;
 mod bench;

@@ -26,7 +26,7 @@ impl Row {
 pub type Done = (&'static str, Vec<Row>, f64);
 
 /// A number with its thousands apart.
-pub fn grouped(n: u64) -> String {
+fn grouped(n: u64) -> String {
     let digits = n.to_string();
     let mut out = String::new();
     for (i, digit) in digits.chars().enumerate() {
