@@ -423,23 +423,17 @@ impl Counts {
     }
 
     /// A line for each kind of heap, and the sums.
-    fn table(&self) {
-        let row = |name: &str, heaps: [String; 2], numbers: &[u64]| {
-            let total: u64 = numbers.iter().sum();
-            let numbers: String = numbers[..10].iter().map(|n| format!("{n:>9}")).collect();
-            let [sound, damaged] = heaps;
-            println!("{name:<24}{sound:>8}{damaged:>9}{total:>10}{numbers}");
-        };
-        let by = (1..10).map(|n| format!("{:>9}", format!("by {n}")));
-        println!(
-            "{:<24}{:>8}{:>9}{:>10}{:>9}{}",
-            "damaged heaps",
-            "sound",
-            "damaged",
-            "answers",
-            "accepted",
-            by.collect::<String>()
+    fn table(&self) -> String {
+        let mut out = format!(
+            "{:<24}{:>8}{:>9}{:>10}{:>9}",
+            "damaged heaps", "sound", "damaged", "answers", "accepted"
         );
+        (1..10).for_each(|n| out += &format!("{:>9}", format!("by {n}")));
+        let mut row = |name: &str, heaps: [String; 2], numbers: &[u64]| {
+            let (total, [sound, damaged]) = (numbers.iter().sum::<u64>(), heaps);
+            out += &format!("\n{name:<24}{sound:>8}{damaged:>9}{total:>10}");
+            numbers[..10].iter().for_each(|n| out += &format!("{n:>9}"));
+        };
         for (i, name) in KINDS.iter().enumerate() {
             let heaps = [self.heaps[i], self.damaged[i]].map(|n| n.to_string());
             row(name, heaps, &self.read[i]);
@@ -451,16 +445,19 @@ impl Counts {
             [String::new(), String::new()],
             &self.decoded,
         );
+        out
     }
 
+    /// All at once: another part may be printing beside this one.
     fn print(&self, damages: [u64; 13]) {
-        self.table();
         let damages = DAMAGES.iter().zip(damages);
         let damages: Vec<String> = damages.map(|(name, n)| format!("{name} {n}")).collect();
-        println!("damage: {}", damages.join(", "));
         println!(
-            "damage: {} places pinned; 10 cannot occur (no path has more than 64 blocks), nor 8 and 9 in decoding (no filter is tested, no block met); {} panics of another kind than DIFFERENCES.md 5",
-            self.pinned, self.unknown
+            "{}\ndamage: {}\ndamage: {} places pinned; 10 cannot occur (no path has more than 64 blocks), nor 8 and 9 in decoding (no filter is tested, no block met); {} panics of another kind than DIFFERENCES.md 5",
+            self.table(),
+            damages.join(", "),
+            self.pinned,
+            self.unknown
         );
         self.panics.print("damage");
     }
