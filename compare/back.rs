@@ -4,6 +4,7 @@
 use crate::ours::{self, View, Writing};
 use crate::plan::{accepted, enough, news};
 use crate::random::Random;
+use crate::summary::{Row, row};
 use crate::write::{self, address, deep_list, drawn, mixed_list, most, parts, same_bytes};
 use crate::{image, made};
 use original::{Answer, Header, Plan};
@@ -16,7 +17,7 @@ pub fn by_rule(offset: u64, length: u64) -> [u8; 8] {
 }
 
 /// Its refusals by the scope's table and in its order: 16, 13.
-fn by_table(offset: u64, length: u64, lent: usize) -> Option<Answer> {
+pub fn by_table(offset: u64, length: u64, lent: usize) -> Option<Answer> {
     if offset >= 1 << 40 || length >= 1 << 16 {
         return Some((16, offset, length));
     }
@@ -67,7 +68,7 @@ fn around(random: &mut Random, bits: u32) -> u64 {
 }
 
 /// Every length of ID up to 16 and of slot up to 24 with offsets and lengths at the bounds, and `n` random calls.
-fn ids(random: &mut Random, n: u64) {
+fn ids(random: &mut Random, n: u64) -> Row {
     let (mut times, mut short) = ([0; 17], 0);
     let mut same = |random: &mut Random, offset, length, lent, slot| {
         let number = same_id(random, offset, length, lent, slot);
@@ -94,6 +95,10 @@ fn ids(random: &mut Random, n: u64) {
         "compare: write_managed_id accepted {}, by 16 {}, by 13 {}, by 13 for a short slot {short}: by the scope's table, all other memory as it was",
         times[0], times[16], times[13]
     );
+    row(
+        "IDs written or refused, by the scope",
+        short + times.iter().sum::<u64>(),
+    )
 }
 
 /// What was compared at a width.
@@ -362,7 +367,7 @@ impl<'a> Comparison<'a> {
 }
 
 /// `n` random runs of any width and some deep ones; as many calls of the writer of IDs.
-pub fn compare(n: u64) {
+pub fn compare(n: u64) -> Vec<Row> {
     let mut pool = vec![0; 80 << 20];
     Random::new(30).fill(&mut pool);
     let file = image::zeros();
@@ -384,8 +389,15 @@ pub fn compare(n: u64) {
         comparison.run(file, &sizes, w);
         image::forget(file);
     }
+    let mut rows = Vec::new();
     for w in [2, 4, 8] {
         comparison.print(w, file.len());
+        let c = &comparison.counts[usize::from(w)];
+        rows.push(row(
+            format!("objects written and read back, width {w}"),
+            c.objects,
+        ));
     }
-    ids(&mut comparison.random, n);
+    rows.push(ids(&mut comparison.random, n));
+    rows
 }

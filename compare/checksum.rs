@@ -1,8 +1,10 @@
 //! The checksum, ours against the original: the tests' function and the loader's.
-use crate::{ours, random::Random};
+use crate::ours;
+use crate::random::Random;
+use crate::summary::{Row, row};
 
 /// Every length to 600 at each of 16 alignments, some long ones, then `n` random lengths below 300.
-pub fn compare(n: u64) {
+pub fn compare(n: u64) -> Vec<Row> {
     let mut random = Random::new(2);
     let mut bytes = vec![0u8; 3 << 20];
     random.fill(&mut bytes);
@@ -35,5 +37,5 @@ pub fn compare(n: u64) {
         let at = random.below((bytes.len() - len) as u64) as usize;
         same(&bytes[at..at + len]);
     }
-    println!("compare: jenkins_lookup3 and fractal_heap_checksum {count}: equal");
+    vec![row("jenkins_lookup3, fractal_heap_checksum", count)]
 }

@@ -1,5 +1,7 @@
 //! The fields, ours against the original: every answer with its pair.
-use crate::{ours, random::Random};
+use crate::ours;
+use crate::random::Random;
+use crate::summary::{Row, row};
 
 /// A store, by the facts of docs/DECISIONS.md: the low 2, 4 or 8 bytes; 2 for another width, 13 past the end.
 pub fn stored(bytes: &mut [u8], pos: u64, value: u64, size: u8) -> original::Answer {
@@ -67,32 +69,44 @@ fn same_undefined(addr: u64, size: u8) {
     );
 }
 
-/// Every width and every place around the ends of short slices; then `n` random cases of each kind.
-pub fn compare(n: u64) {
-    let mut random = Random::new(1);
-    let mut bytes = [0u8; 48];
-    let (mut reads, mut stores, mut lens, mut addrs) = (0u64, 0u64, 0u64, 0u64);
+/// Every width at every place around the ends of short slices: how many.
+fn every_place(random: &mut Random, bytes: &mut [u8]) -> u64 {
+    let mut places = 0;
     for len in 0..18usize {
-        random.fill(&mut bytes);
+        random.fill(bytes);
         for pos in (0..20).chain(u64::MAX - 9..=u64::MAX) {
             for size in 0..=255u8 {
                 same_reads(&bytes[..len], pos, size);
                 same_stores(&bytes[..len], pos, random.next(), size);
-                reads += 2;
-                stores += 2;
+                places += 1;
             }
         }
     }
+    places
+}
+
+/// Every width with addresses around every power of two: how many.
+fn every_address() -> u64 {
+    let mut addrs = 0;
     for size in 0..=255u8 {
         for bits in 0..=64u32 {
             for addr in [-1i64, 0, 1].map(|d| (1u128 << bits).wrapping_add_signed(d.into()) as u64)
             {
                 same_undefined(addr, size);
                 assert_eq!(ours::to_usize(addr), original::to_usize(addr) as u64);
-                addrs += 2;
+                addrs += 1;
             }
         }
     }
+    addrs
+}
+
+/// Every width and place around the ends; then `n` random cases of each kind.
+pub fn compare(n: u64) -> Vec<Row> {
+    let mut random = Random::new(1);
+    let mut bytes = [0u8; 48];
+    let places = n + every_place(&mut random, &mut bytes);
+    let addrs = n + 2 * every_address();
     for _ in 0..n {
         let len = random.below(49) as usize;
         random.fill(&mut bytes);
@@ -109,18 +123,17 @@ pub fn compare(n: u64) {
             original::ensure_len(&bytes[..len], pos as usize, needed as usize),
             "{len} bytes, {needed} from {pos} on"
         );
-        reads += 2;
-        stores += 2;
-        addrs += 1;
-        lens += 1;
     }
     for len in 0..16 {
         ours::short_slot(len, &mut bytes);
     }
-    println!(
-        "compare: ensure_len {lens}, read_offset and read_length {reads}, is_undefined_addr and to_usize {addrs}: equal"
-    );
-    println!(
-        "compare: write_offset and write_undef_offset {stores}: by the facts of docs/DECISIONS.md, and read back by the original"
-    );
+    vec![
+        row("ensure_len", n),
+        row("read_offset, read_length", 2 * places),
+        row("is_undefined_addr, to_usize", addrs),
+        row(
+            "write_offset, write_undef_offset, by DECISIONS.md",
+            2 * places,
+        ),
+    ]
 }

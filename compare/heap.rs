@@ -2,10 +2,11 @@
 //! The original answers a read by bytes: ours must answer a place that holds them, and the original must see
 //! a change of the byte at that place.
 use crate::made::{self, Heap, Object, Written};
-use crate::panics::{self, caught};
-use crate::{ours, random::Random};
+use crate::ours::{self, View, view_of};
+use crate::panics::{self, Panics, caught};
+use crate::random::Random;
+use crate::summary::{Row, row};
 use original::{Answer, Header};
-use std::collections::BTreeMap;
 
 const CALLS: [&str; 5] = ["parse", "decode", "read", "tiny", "id type"];
 const PARSE: usize = 0;
@@ -17,13 +18,6 @@ const TYPE: usize = 4;
 /// What a lent place holds before a call.
 const MARK: u64 = 0xA5A5_5A5A_A5A5_5A5A;
 
-/// A kind of panic of the original: how often, and the smallest input, by the bytes of ID and file.
-struct Panicked {
-    times: u64,
-    size: usize,
-    smallest: String,
-}
-
 /// Heaps of one group: how many, and how often which call gave which number.
 #[derive(Default)]
 struct Comparison {
@@ -32,30 +26,34 @@ struct Comparison {
     pinned: u64,
     all_heaps: u64,
     all: [u64; 11],
-    panics: BTreeMap<String, Panicked>,
+    panics: Panics,
 }
 
-fn hex(bytes: &[u8]) -> String {
+pub fn hex(bytes: &[u8]) -> String {
     let front = bytes.iter().take(3000);
     front.map(|b| format!("{b:02x}")).collect()
 }
 
 /// A heap and an ID in words, for a difference.
-fn what(heap: &Heap, id: &[u8]) -> String {
+pub fn told(view: View, id: &[u8]) -> String {
     format!(
         "header at {}, offset size {}, length size {}, ID {}, file of {} bytes {}",
-        heap.at,
-        heap.offset_size,
-        heap.length_size,
+        view.at,
+        view.offset_size,
+        view.length_size,
         hex(id),
-        heap.file.len(),
-        hex(&heap.file)
+        view.file.len(),
+        hex(view.file)
     )
+}
+
+fn what(heap: &Heap, id: &[u8]) -> String {
+    told(view_of(heap), id)
 }
 
 /// The part of an ID that counts where the heap has 64 bits or more: the offset is the first eight bytes
 /// after the first, and the length is 0. For so short an ID the original answers just that.
-fn counted(id: &[u8]) -> &[u8] {
+pub fn counted(id: &[u8]) -> &[u8] {
     &id[..id.len().min(9)]
 }
 
@@ -91,24 +89,14 @@ impl Comparison {
     }
 
     fn panicked(&mut self, kind: String, call: usize, bits: u64, file: usize, id: &[u8]) {
-        assert!(kind.starts_with("fractal_heap.rs line"), "{kind}");
-        let size = file + id.len();
-        let new = || Panicked {
-            times: 0,
-            size: usize::MAX,
-            smallest: String::new(),
-        };
-        let known = self.panics.entry(kind).or_insert_with(new);
-        known.times += 1;
-        if size < known.size {
-            let call = CALLS[call];
-            known.size = size;
-            known.smallest = format!(
-                "{call}, {bits} heap bits, ID of {} bytes {}, file of {file} bytes",
+        self.panics.note(kind, file + id.len(), || {
+            format!(
+                "{}, {bits} heap bits, ID of {} bytes {}, file of {file} bytes",
+                CALLS[call],
                 id.len(),
                 hex(id)
-            );
-        }
+            )
+        });
     }
 
     /// Where the original panics, ours is held to the scope's words, and the answer is not counted.
@@ -216,7 +204,7 @@ impl Comparison {
 /// Whether the bytes at the place are those, and the answer changes with the byte at the place: none if
 /// not. False if the place cannot be held to the answer: no bytes, or the change leads elsewhere, as in an
 /// entry on the way; it may lead to the same bytes, so another bit is tried then.
-fn pinned(
+pub fn pinned(
     file: &mut [u8],
     place: u64,
     bytes: &[u8],
@@ -459,18 +447,7 @@ impl Comparison {
             let (w, l) = (random.one(&[2, 4, 8]), random.one(&[2, 4, 8]));
             let (head, tenths) = (made::small_table(random), 3 + random.below(8));
             let mut tree = made::tree(random, w, l, head, tenths);
-            let bits = tree.head.bits;
-            let mut id = |_| {
-                let (start, size) = match &tree.directs[..] {
-                    [] => (0, 1),
-                    directs => random.one(directs),
-                };
-                let offset = start + random.below(size + 1) - random.below(2).min(start);
-                let mut id = made::packed(0, bits, offset, random.below(24));
-                id.truncate(8 + random.below(2) as usize);
-                id
-            };
-            let mut ids: Vec<Vec<u8>> = (0..6).map(&mut id).collect();
+            let mut ids: Vec<Vec<u8>> = (0..6).map(|_| tree.id(random)).collect();
             if i % 4 == 0 {
                 let place = random.below(tree.heap.at) as usize;
                 tree.heap.file[place] ^= 1 << random.below(8);
@@ -534,12 +511,7 @@ impl Comparison {
 
 /// A file that is a header and nothing else.
 fn bare(random: &mut Random, head: &made::Head, w: u8, l: u8) -> Heap {
-    Heap {
-        file: made::header(random, head, w, l),
-        at: 0,
-        offset_size: w,
-        length_size: l,
-    }
+    made::behind(random, Vec::new(), head, [w, l])
 }
 
 impl Comparison {
@@ -641,13 +613,8 @@ impl Comparison {
     }
 
     /// What the original gave, summed up: every number but 10 often.
-    fn sum(&self, n: u64) {
-        for (kind, panics) in &self.panics {
-            println!(
-                "compare: the original panicked {} times in {kind}: ours as the scope says; smallest {}",
-                panics.times, panics.smallest
-            );
-        }
+    fn sum(&self, n: u64) -> Vec<Row> {
+        self.panics.print("compare");
         let [rest @ .., ten] = self.all;
         assert!(rest.iter().all(|&times| times >= 100), "{rest:?}");
         assert_eq!(ten, 0, "a path of more than 64 blocks");
@@ -656,12 +623,17 @@ impl Comparison {
             "compare: heaps {} in all, answers by number from 0 to 10 {:?}: equal",
             self.all_heaps, self.all
         );
+        let answers = self.all.iter().sum::<u64>() + self.panics.total();
+        vec![
+            row("heaps, sound and damaged", self.all_heaps),
+            row("headers, IDs and reads of them", answers).with_panics(self.panics.total()),
+        ]
     }
 }
 
 /// The longest ID of the compared domain; from 2^29 payload bytes on the original cannot count the bits, and
 /// ours answers by the scope's words: 40 bits of offset, the other 24 of the first eight bytes as length.
-fn long_ids(random: &mut Random) {
+fn long_ids(random: &mut Random) -> Row {
     let heap = bare(random, &made::fixed(0, 0), 8, 8);
     let header = original::parse(&heap.file, 0, 8, 8).expect("a right header");
     let mut id = vec![0; (1 << 29) + 9];
@@ -679,10 +651,11 @@ fn long_ids(random: &mut Random) {
             "compare: the original panicked in {kind}: ID of {len} bytes; ours by the scope's words"
         );
     }
+    row("IDs of about 2^29 bytes", 3).with_panics(2)
 }
 
 /// At least `n` heaps.
-pub fn compare(n: u64) {
+pub fn compare(n: u64) -> Vec<Row> {
     panics::quiet();
     let mut random = Random::new(6);
     let mut all = Comparison::default();
@@ -694,6 +667,7 @@ pub fn compare(n: u64) {
     all.ids(&mut random);
     all.deep(&mut random, n / 100);
     all.tall(&mut random);
-    all.sum(n);
-    long_ids(&mut random);
+    let mut rows = all.sum(n);
+    rows.push(long_ids(&mut random));
+    rows
 }

@@ -1,14 +1,14 @@
 //! A file of tebibytes, of which only what is touched takes memory: so a region can lie at the largest address
 //! of four bytes, and far beyond it.
 unsafe extern "C" {
-    fn mmap(at: *mut u8, n: usize, access: i32, flags: i32, file: i32, offset: i64) -> *mut u8;
+    pub fn mmap(at: *mut u8, n: usize, access: i32, flags: i32, file: i32, offset: i64) -> *mut u8;
     fn madvise(at: *mut u8, n: usize, advice: i32) -> i32;
 }
 
 // Linux, x86-64.
-const READ_WRITE: i32 = 3;
-const PRIVATE_ANONYMOUS_NORESERVE: i32 = 0x4022;
-const FAILED: *mut u8 = usize::MAX as *mut u8;
+pub const READ_WRITE: i32 = 3;
+pub const PRIVATE_ANONYMOUS_NORESERVE: i32 = 0x4022;
+pub const FAILED: *mut u8 = usize::MAX as *mut u8;
 const NO_HUGE_PAGES: i32 = 15;
 const DONT_NEED: i32 = 4;
 

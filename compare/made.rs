@@ -71,21 +71,23 @@ pub fn header(random: &mut Random, head: &Head, offset_size: u8, length_size: u8
     bytes
 }
 
-impl Heap {
-    /// Where the original seeks the header's checksum.
-    fn checksum_place(&self) -> usize {
-        let (w, l) = (usize::from(self.offset_size), usize::from(self.length_size));
-        let at = self.at as usize;
-        let filtered = self.file[at + 7..at + 9] != [0, 0];
-        at + 22 + 12 * l + 3 * w + if filtered { l + 4 } else { 0 }
-    }
+/// Where the original seeks the checksum of a header, and what it must be there, if there is room for it.
+pub fn right_checksum(file: &[u8], at: u64, [w, l]: [u8; 2]) -> Option<(usize, [u8; 4])> {
+    let (w, l, start) = (usize::from(w), usize::from(l), usize::try_from(at).ok()?);
+    let header = file.get(start..)?;
+    let filtered = header.get(7..9)? != [0, 0];
+    let size = 22 + 12 * l + 3 * w + if filtered { l + 4 } else { 0 };
+    header.get(size..size + 4)?;
+    let sum = original::jenkins_lookup3(&header[..size]);
+    Some((start + size, sum.to_le_bytes()))
+}
 
+impl Heap {
     /// Lays the right checksum over the header, where there is room for it.
     pub fn mend(&mut self) {
-        let (at, place) = (self.at as usize, self.checksum_place());
-        if place + 4 <= self.file.len() {
-            let sum = original::jenkins_lookup3(&self.file[at..place]);
-            self.file[place..place + 4].copy_from_slice(&sum.to_le_bytes());
+        let widths = [self.offset_size, self.length_size];
+        if let Some((place, sum)) = right_checksum(&self.file, self.at, widths) {
+            self.file[place..place + 4].copy_from_slice(&sum);
         }
     }
 
@@ -108,7 +110,7 @@ pub fn packed(first: u8, bits: u16, offset: u64, length: u64) -> Vec<u8> {
     id
 }
 
-/// A heap that the original wrote into a file of random bytes.
+/// A heap that was written into a file of random bytes.
 pub struct Written {
     pub heap: Heap,
     pub header: Range<usize>,
@@ -123,6 +125,16 @@ pub struct Object {
     pub bytes: Vec<u8>,
 }
 
+impl Object {
+    fn new(offset: u64, bytes: Vec<u8>) -> Self {
+        Object {
+            offset,
+            id: packed(0, 40, offset, bytes.len() as u64)[..8].to_vec(),
+            bytes,
+        }
+    }
+}
+
 /// Random bytes for each size.
 fn contents(random: &mut Random, sizes: &[u64]) -> Vec<Vec<u8>> {
     let mut content = |&size: &u64| {
@@ -133,8 +145,22 @@ fn contents(random: &mut Random, sizes: &[u64]) -> Vec<Vec<u8>> {
     sizes.iter().map(&mut content).collect()
 }
 
-/// Objects of these sizes, the header before the region or after it, up to `gap` bytes around both.
-pub fn written(random: &mut Random, sizes: &[u64], [w, l]: [u8; 2], gap: u64) -> Written {
+/// Writes the region of these objects: offset size, region address, header address.
+type Writer = fn(&[&[u8]], u8, u64, u64) -> Vec<u8>;
+
+/// Objects of these sizes, written by the original.
+pub fn written(random: &mut Random, sizes: &[u64], widths: [u8; 2], gap: u64) -> Written {
+    written_by(original::region, random, sizes, widths, gap)
+}
+
+/// The header before the region or after it, up to `gap` bytes around both.
+pub fn written_by(
+    writer: Writer,
+    random: &mut Random,
+    sizes: &[u64],
+    [w, l]: [u8; 2],
+    gap: u64,
+) -> Written {
     let plan = original::plan(sizes, w).expect("within the heap space");
     let [_, region_size, rows, root_place, ..] = plan.totals;
     let header_size = 26 + 12 * u64::from(l) + 3 * u64::from(w);
@@ -155,13 +181,9 @@ pub fn written(random: &mut Random, sizes: &[u64], [w, l]: [u8; 2], gap: u64) ->
         length_size: l,
     };
     heap.lay(at, &header(random, &head, w, l));
-    heap.lay(region_at, &original::region(&parts, w, region_at, at));
+    heap.lay(region_at, &writer(&parts, w, region_at, at));
     let range = |at: u64, n: u64| at as usize..(at + n) as usize;
-    let object = |(offset, bytes): (u64, Vec<u8>)| Object {
-        offset,
-        id: packed(0, 40, offset, bytes.len() as u64)[..8].to_vec(),
-        bytes,
-    };
+    let object = |(offset, bytes)| Object::new(offset, bytes);
     Written {
         heap,
         header: range(at, header_size),
@@ -315,6 +337,24 @@ pub fn web(random: &mut Random, w: u8, l: u8, mut head: Head) -> (Heap, Head) {
     (heap, head)
 }
 
+/// The front of an indirect block, up to its entries; what no reader looks at is random.
+fn open_block(file: &mut Vec<u8>, random: &mut Random, w: u8, bits: u16) {
+    file.extend(b"FHIB\0");
+    file.extend((0..u16::from(w) + bits.div_ceil(8)).map(|_| random.byte()));
+}
+
+/// A file with a header behind it.
+pub fn behind(random: &mut Random, mut file: Vec<u8>, head: &Head, [w, l]: [u8; 2]) -> Heap {
+    let at = file.len() as u64;
+    file.extend(header(random, head, w, l));
+    Heap {
+        file,
+        at,
+        offset_size: w,
+        length_size: l,
+    }
+}
+
 /// Indirect blocks one in the other, as deep as a path can be: starting block and width are 1, the root has
 /// one row more than the heap has bits, and each block's last row holds the next block, down to one of two
 /// rows with a direct child. All other entries are undefined. The offset is the deepest block's.
@@ -327,8 +367,7 @@ pub fn chain(random: &mut Random, w: u8, bits: u16) -> (Heap, u64) {
     random.fill(&mut file);
     for rows in (2..=bits + 1).rev() {
         let start = file.len();
-        file.extend(b"FHIB\0");
-        file.extend((0..u16::from(w) + bits.div_ceil(8)).map(|_| random.byte()));
+        open_block(&mut file, random, w, bits);
         let entries = file.len();
         file.resize(entries + usize::from(rows * u16::from(w)), 0xFF);
         let next = match rows {
@@ -338,14 +377,7 @@ pub fn chain(random: &mut Random, w: u8, bits: u16) -> (Heap, u64) {
         let last = entries + usize::from(if rows == 2 { 0 } else { rows - 1 }) * usize::from(w);
         file[last..last + usize::from(w)].copy_from_slice(&next.to_le_bytes()[..usize::from(w)]);
     }
-    let at = file.len() as u64;
-    file.extend(header(random, &head, w, 8));
-    let heap = Heap {
-        file,
-        at,
-        offset_size: w,
-        length_size: 8,
-    };
+    let heap = behind(random, file, &head, [w, 8]);
     (heap, ((1u128 << bits) - 2) as u64)
 }
 
@@ -358,8 +390,7 @@ pub fn ring(random: &mut Random, w: u8) -> (Heap, Head) {
     head.rows = random.one(&[64, 65, 66, 70, 65_535]);
     let mut file = vec![0; head.root as usize];
     random.fill(&mut file);
-    file.extend(b"FHIB\0");
-    file.extend((0..u16::from(w) + head.bits.div_ceil(8)).map(|_| random.byte()));
+    open_block(&mut file, random, w, head.bits);
     for entry in 0..70 {
         let to = if entry < 2 {
             random.below(90)
@@ -368,15 +399,7 @@ pub fn ring(random: &mut Random, w: u8) -> (Heap, Head) {
         };
         put(&mut file, random, to, w);
     }
-    let at = file.len() as u64;
-    file.extend(header(random, &head, w, 8));
-    let heap = Heap {
-        file,
-        at,
-        offset_size: w,
-        length_size: 8,
-    };
-    (heap, head)
+    (behind(random, file, &head, [w, 8]), head)
 }
 
 /// A root with as many rows as the field holds, or nearly, and all its entries in the file.
@@ -389,8 +412,7 @@ pub fn tall(random: &mut Random) -> (Heap, Head) {
     head.root = 130 + random.below(60);
     let mut file = header(random, &head, 2, 8);
     file.resize_with(head.root as usize, || random.byte());
-    file.extend(b"FHIB\0");
-    file.extend((0..2 + head.bits.div_ceil(8)).map(|_| random.byte()));
+    open_block(&mut file, random, 2, head.bits);
     for _ in 0..u32::from(head.rows) * u32::from(head.width) {
         let to = random.one(&[u64::MAX, head.root, 9, 60_000]);
         put(&mut file, random, to, 2);
@@ -454,6 +476,18 @@ pub fn tree(random: &mut Random, w: u8, l: u8, head: Head, tenths: u64) -> Tree 
 }
 
 impl Tree {
+    /// An ID of an offset in one of the direct blocks or around its ends.
+    pub fn id(&self, random: &mut Random) -> Vec<u8> {
+        let (start, size) = match &self.directs[..] {
+            [] => (0, 1),
+            directs => random.one(directs),
+        };
+        let offset = start + random.below(size + 1) - random.below(2).min(start);
+        let mut id = packed(0, self.head.bits, offset, random.below(24));
+        id.truncate(8 + random.below(2) as usize);
+        id
+    }
+
     /// Appends the blocks below an indirect one, then itself: its address.
     fn block(&mut self, random: &mut Random, start: u64, rows: u32) -> u64 {
         let (w, table) = (self.heap.offset_size, self.head.clone());

@@ -1,9 +1,11 @@
-//! Holds our static libraries against the original Rust: `compare`, `record` or `bench` (see `run`).
+//! Holds our static libraries against the original Rust: see the scripts `run`, `damage` and `bench`.
 mod back;
+mod beds;
 mod bench;
 mod checksum;
-mod differences;
+mod damage;
 mod fields;
+mod guarded;
 mod heap;
 mod image;
 mod made;
@@ -15,14 +17,16 @@ mod reads;
 mod record;
 mod regions;
 mod round_trips;
+mod summary;
 mod write;
 
 use std::io::Write;
 use std::sync::Mutex;
 use std::time::Instant;
+use summary::Row;
 
-/// A part of the comparison.
-type Part = (&'static str, fn());
+/// A part of the comparison: what it compared.
+type Part = (&'static str, fn() -> Vec<Row>);
 
 /// All parts, the longest first.
 const PARTS: [Part; 10] = [
@@ -32,30 +36,43 @@ const PARTS: [Part; 10] = [
     ("heap", || heap::compare(1_000_000)),
     ("heap space 4", || plan::heap_space(4)),
     ("heap space 2", || plan::heap_space(2)),
+    ("damage", || damage::compare(10_000_000)),
     ("plan", || plan::compare(100_000)),
     ("fields", || fields::compare(1_000_000)),
     ("checksum", || checksum::compare(1_000_000)),
     ("differences", differences::compare),
 ];
 
-/// Two parts at a time, each followed by the next that is left; their seconds in the end.
+/// Two parts at a time, each followed by the next that is left; the table in the end.
 fn compare(parts: &[Part]) {
-    let (left, seconds) = (Mutex::new(parts.iter()), Mutex::new(String::new()));
+    let (left, done) = (Mutex::new(parts.iter()), Mutex::new(Vec::new()));
     let next = || left.lock().unwrap().next();
     let work = || {
         while let Some((name, part)) = next() {
             let start = Instant::now();
-            part();
+            let rows = part();
             let took = start.elapsed().as_secs_f64();
-            *seconds.lock().unwrap() += &format!(" {name} {took:.1},");
+            done.lock().unwrap().push((*name, rows, took));
         }
     };
     std::thread::scope(|both| {
         both.spawn(work);
         work();
     });
-    let seconds = seconds.into_inner().unwrap();
-    println!("compare: seconds:{}", seconds.trim_end_matches(','));
+    summary::print(&done.into_inner().unwrap());
+}
+
+/// The times of these parts, in one table.
+fn bench(parts: &[bench::Part]) {
+    let mut times = bench::Times::default();
+    parts.iter().for_each(|part| part.1(&mut times));
+    times.print();
+}
+
+/// The part of a name.
+fn named<T>(parts: &[(&str, T)], name: &str) -> usize {
+    let at = parts.iter().position(|part| part.0 == name);
+    at.unwrap_or_else(|| panic!("no part {name}"))
 }
 
 fn main() {
@@ -63,8 +80,7 @@ fn main() {
     match words.iter().map(String::as_str).collect::<Vec<_>>()[..] {
         ["compare"] => compare(&PARTS),
         ["compare", name] => {
-            let part = PARTS.iter().position(|part| part.0 == name);
-            let part = part.expect("the name of a part");
+            let part = named(&PARTS, name);
             compare(&PARTS[part..=part]);
         }
         ["record", "vectors"] => print!("{}", record::vectors()),
@@ -78,15 +94,18 @@ fn main() {
                 .write_all(&list)
                 .expect("a place to write");
         }
-        ["bench"] => {
-            bench::checksum();
-            bench::plan();
-            bench::heap();
-            bench::write();
+        ["damage", n, "plain"] => {
+            damage::run(n.parse().expect("a number of reads"), true);
         }
-        ["bench", "write"] => bench::write(),
+        ["trespass", what] => damage::trespass(what, false),
+        ["trespass", what, "plain"] => damage::trespass(what, true),
+        ["bench"] => bench(&bench::PARTS),
+        ["bench", name] => {
+            let part = named(&bench::PARTS, name);
+            bench(&bench::PARTS[part..=part]);
+        }
         _ => panic!(
-            "compare [PART], record vectors, record heaps, record regions, record round_trips, record reads [stdin], bench [write]"
+            "compare [PART], damage READS plain, trespass before|behind|store [plain], record vectors, record heaps, record regions, record round_trips, record reads [stdin], bench [PART]"
         ),
     }
 }

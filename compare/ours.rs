@@ -58,6 +58,14 @@ fn with_slot(call: impl FnOnce(*mut u8, usize) -> u32) -> Answer {
     (number, at(0), at(8))
 }
 
+/// Calls with a slot of just 16 bytes, for times.
+pub fn answered(call: impl FnOnce(*mut u8, usize) -> u32) -> Answer {
+    let mut slot = [0; 16];
+    let number = call(slot.as_mut_ptr(), slot.len());
+    let both = u128::from_le_bytes(slot);
+    (number, both as u64, (both >> 64) as u64)
+}
+
 /// Calls with a slot that is too short: 13, and the slot as it was.
 fn with_short_slot(len: usize, call: impl FnOnce(*mut u8, usize) -> u32) {
     let mut slot = [MARK; 16];
@@ -164,6 +172,32 @@ pub fn serialize(
     }
 }
 
+/// The region that ours writes for these objects at a region and a header address.
+pub fn region(objects: &[&[u8]], offset_size: u8, region_at: u64, header_at: u64) -> Vec<u8> {
+    let sizes: Vec<u64> = objects.iter().map(|o| o.len() as u64).collect();
+    let (n, mut totals) = (sizes.len(), [0; 8]);
+    let (mut offsets, mut blocks) = (vec![0; n], vec![0; n.max(1)]);
+    let number = plan(&sizes, &mut offsets, &mut blocks, offset_size, &mut totals);
+    assert_eq!(number, 0, "planned");
+    let mut region = vec![0; totals[1] as usize];
+    let writing = Writing {
+        sizes: &sizes,
+        objects: &objects.concat(),
+        offset_size,
+        region_at,
+        header_at,
+    };
+    let number = serialize(
+        &writing,
+        &mut offsets,
+        &mut blocks,
+        &mut region,
+        &mut totals,
+    );
+    assert_eq!(number, 0, "written");
+    region
+}
+
 /// The refusal's number, or 0; the two numbers of the answer are put into the slot.
 pub fn write_managed_id(offset: u64, size: u64, id: &mut [u8], slot: &mut [u8]) -> u32 {
     let (i, k, s, n) = (id.as_mut_ptr(), id.len(), slot.as_mut_ptr(), slot.len());
@@ -215,7 +249,7 @@ pub struct View<'a> {
     pub length_size: u8,
 }
 
-fn view_of(heap: &Heap) -> View<'_> {
+pub fn view_of(heap: &Heap) -> View<'_> {
     View {
         file: &heap.file,
         at: heap.at,
@@ -224,13 +258,13 @@ fn view_of(heap: &Heap) -> View<'_> {
     }
 }
 
-fn decode_into(view: View, id: &[u8], slot: *mut u8, len: usize) -> u32 {
+pub fn decode_into(view: View, id: &[u8], slot: *mut u8, len: usize) -> u32 {
     let (file, w, l) = (view.file, view.offset_size, view.length_size);
     let (f, n, i, k) = (file.as_ptr(), file.len(), id.as_ptr(), id.len());
     unsafe { fractal_heap_decode_managed_id(f, n, view.at, w, l, i, k, slot, len) }
 }
 
-fn read_into(view: View, id: &[u8], slot: *mut u8, len: usize) -> u32 {
+pub fn read_into(view: View, id: &[u8], slot: *mut u8, len: usize) -> u32 {
     let (file, w, l) = (view.file, view.offset_size, view.length_size);
     let (f, n, i, k) = (file.as_ptr(), file.len(), id.as_ptr(), id.len());
     unsafe { fractal_heap_read_managed_object(f, n, view.at, w, l, i, k, slot, len) }
@@ -242,11 +276,11 @@ fn sized_into(heap: &Heap, read_size: u8, id: &[u8], slot: *mut u8, len: usize) 
     unsafe { tools_read_managed_object(f, n, heap.at, w, l, read_size, i, k, slot, len) }
 }
 
-fn tiny_into(heap_id_length: u16, id: &[u8], slot: *mut u8, len: usize) -> u32 {
+pub fn tiny_into(heap_id_length: u16, id: &[u8], slot: *mut u8, len: usize) -> u32 {
     unsafe { tools_read_tiny_object(heap_id_length, id.as_ptr(), id.len(), slot, len) }
 }
 
-fn type_into(id: &[u8], slot: *mut u8, len: usize) -> u32 {
+pub fn type_into(id: &[u8], slot: *mut u8, len: usize) -> u32 {
     unsafe { tools_heap_id_type(id.as_ptr(), id.len(), slot, len) }
 }
 

@@ -1,5 +1,7 @@
 //! Planning, ours against the original: every number of the answer, both lists, and all lent memory.
-use crate::{ours, random::Random};
+use crate::ours;
+use crate::random::Random;
+use crate::summary::{Row, row};
 use original::{Answer, Plan};
 
 /// The bytes of a direct block before its objects.
@@ -150,7 +152,7 @@ const WORKED: [(&[u64], Values, Values); 8] = [
     (&[1003, 1], &[(1, 9217)], &[]),
 ];
 
-fn worked() {
+fn worked() -> Row {
     for (sizes, offsets, totals) in WORKED {
         let plan = accepted(sizes, enough(sizes, [3; 3]), 8);
         let hold = |list: &[u64], values: Values| values.iter().all(|&(i, x)| list[i] == x);
@@ -158,7 +160,10 @@ fn worked() {
         assert!(hold(&plan.totals, totals), "{sizes:?}: {plan:?}");
     }
     refused(&[65_515], [1, 1, 8], 8, (11, 0, 65_515));
-    println!("compare: plan of the worked heaps 1 to 7 and the wrong turn: by value, and equal");
+    row(
+        "plans of worked heaps 1 to 7 and the wrong turn",
+        WORKED.len() as u64,
+    )
 }
 
 /// A size of one of seven kinds, within the limit. Kind 3 is what is left beside the size before in the
@@ -236,7 +241,7 @@ pub fn short_lists(w: u8, mut each: impl FnMut(&[u64])) {
 
 /// At each width the short lists, `n` random ones, most of them short too, and some long ones of large
 /// objects.
-fn lists(random: &mut Random, n: u64) {
+fn lists(random: &mut Random, n: u64) -> Vec<Row> {
     let mut counts = Counts::default();
     for w in [2, 4, 8] {
         short_lists(w, |sizes| counts.same(sizes, [1; 3], w));
@@ -258,9 +263,10 @@ fn lists(random: &mut Random, n: u64) {
     let (n, objects, rows) = (counts.lists, counts.objects, counts.rows);
     let most = rows.iter().rposition(|&lists| lists > 0).unwrap();
     assert!(rows[..most].iter().all(|&lists| lists > 0), "{rows:?}");
-    println!(
-        "compare: plan of {n} lists at widths 2, 4, 8, {objects} objects, roots of 0 to {most} rows: equal"
-    );
+    vec![
+        row(format!("plans, roots of 0 to {most} rows"), n),
+        row("objects in them", objects),
+    ]
 }
 
 /// How many calls were refused by which number, and accepted between them (0).
@@ -344,7 +350,7 @@ impl Refusals {
 }
 
 /// The refusals before any planning; `n` random cases.
-fn refusals(random: &mut Random, n: u64) {
+fn refusals(random: &mut Random, n: u64) -> Row {
     let mut all = Refusals::default();
     all.widths();
     all.sizes(random);
@@ -356,6 +362,8 @@ fn refusals(random: &mut Random, n: u64) {
         "compare: plan refused by 2 {two}, by 11 {eleven}, by 13 {thirteen} and for short totals {}: by the scope's table, all memory as it was; {accepted} accepted between them: equal",
         all.short_totals
     );
+    let calls = all.by_number.iter().sum::<u64>() + all.short_totals;
+    row("plans refused and some between them, by the scope", calls)
 }
 
 /// The index of the object at which the heap space ends, by bisection: the length of the longest front
@@ -403,7 +411,7 @@ fn before_heap_ends(mut sizes: Vec<u64>, w: u8) {
 
 /// The end of the heap space: a byte in place of the empty object is refused, and at width 2, without the
 /// empty one, a byte more in the last block. The original takes seconds for each of these lists.
-pub fn heap_space(w: u8) {
+pub fn heap_space(w: u8) -> Vec<Row> {
     let mut sizes = match w {
         2 => heap_filled(w, &[40_000, limit(w) - 40_000]),
         _ => heap_filled(w, &[limit(w)]),
@@ -417,14 +425,14 @@ pub fn heap_space(w: u8) {
         accepted(&sizes[..FULL], [FULL, FULL, 8], w);
     }
     before_heap_ends(sizes, w);
-    println!(
-        "compare: plan to the end of the heap space at width {w}, {FULL} blocks of the largest objects, an empty one at 2^40, and 12 at its index: equal"
-    );
+    let blocks = "blocks planned to the heap's end, then 12";
+    vec![row(format!("{blocks}, width {w}"), FULL as u64)]
 }
 
-pub fn compare(n: u64) {
+pub fn compare(n: u64) -> Vec<Row> {
     let mut random = Random::new(4);
-    worked();
-    lists(&mut random, n);
-    refusals(&mut random, n);
+    let mut rows = vec![worked()];
+    rows.extend(lists(&mut random, n));
+    rows.push(refusals(&mut random, n));
+    rows
 }

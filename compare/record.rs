@@ -8,7 +8,6 @@ pub use crate::reads::{reads, reads_summary};
 pub use crate::regions::regions;
 pub use crate::round_trips::round_trips;
 use original::{Answer, Plan, is_undefined_addr, jenkins_lookup3, plan, read_length, read_offset};
-use std::fmt::Write;
 
 pub const LONG: [usize; 6] = [255, 1000, 4096, 10_007, 65_535, 65_536];
 pub const PLACES: [u64; 9] = [0, 1, 8, 14, 16, 17, 18, u64::MAX - 7, u64::MAX];
@@ -50,60 +49,47 @@ pub fn hex(bytes: &[u8]) -> String {
         .fold(String::new(), |s, b| s + &format!("{b:02x}"))
 }
 
+/// Reads and stores of a width at a place of 18 bytes.
+fn field(bytes: &[u8], pos: u64, size: u8) -> String {
+    let read = |name: &str, read: Answer| format!("{name} {pos:x} {size} {}\n", answer(read));
+    let store = |name: &str, value: u64| {
+        let mut a = [0xA5u8; 18];
+        let number = stored(&mut a, pos, value, size);
+        format!("{name} {pos:x} {size} {} {}\n", answer(number), hex(&a))
+    };
+    [
+        read("offset", read_offset(bytes, pos as usize, size)),
+        read("length", read_length(bytes, pos as usize, size)),
+        store("store", STORED),
+        store("undefined", u64::MAX),
+    ]
+    .concat()
+}
+
 pub fn vectors() -> String {
     let bytes = sequence(65_536);
     let mut out = String::from(
         "The original Rust's answers (stores: by the facts of docs/DECISIONS.md), from compare/run --record\n",
     );
     for text in ["", "Four score and seven years ago"] {
-        writeln!(
-            out,
-            "lookup3 \"{text}\" {:08x}",
-            jenkins_lookup3(text.as_bytes())
-        )
-        .unwrap();
+        let sum = jenkins_lookup3(text.as_bytes());
+        out += &format!("lookup3 \"{text}\" {sum:08x}\n");
     }
     for n in (0..=200).chain(LONG) {
-        writeln!(out, "lookup3 {n} {:08x}", jenkins_lookup3(&bytes[..n])).unwrap();
+        out += &format!("lookup3 {n} {:08x}\n", jenkins_lookup3(&bytes[..n]));
     }
-    for pos in PLACES {
-        for size in WIDTHS {
-            let part = &bytes[..18];
-            writeln!(
-                out,
-                "offset {pos:x} {size} {}",
-                answer(read_offset(part, pos as usize, size))
-            )
-            .unwrap();
-            writeln!(
-                out,
-                "length {pos:x} {size} {}",
-                answer(read_length(part, pos as usize, size))
-            )
-            .unwrap();
-            let mut a = [0xA5u8; 18];
-            let number = stored(&mut a, pos, STORED, size);
-            writeln!(out, "store {pos:x} {size} {} {}", answer(number), hex(&a)).unwrap();
-            let mut a = [0xA5u8; 18];
-            let number = stored(&mut a, pos, u64::MAX, size);
-            writeln!(
-                out,
-                "undefined {pos:x} {size} {} {}",
-                answer(number),
-                hex(&a)
-            )
-            .unwrap();
-        }
+    for (pos, size) in PLACES
+        .into_iter()
+        .flat_map(|pos| WIDTHS.map(|size| (pos, size)))
+    {
+        out += &field(&bytes[..18], pos, size);
     }
-    for addr in ADDRS {
-        for size in WIDTHS {
-            writeln!(
-                out,
-                "is undefined {addr:x} {size} {}",
-                u32::from(is_undefined_addr(addr, size))
-            )
-            .unwrap();
-        }
+    for (addr, size) in ADDRS
+        .into_iter()
+        .flat_map(|addr| WIDTHS.map(|size| (addr, size)))
+    {
+        let undefined = u32::from(is_undefined_addr(addr, size));
+        out += &format!("is undefined {addr:x} {size} {undefined}\n");
     }
     out
 }

@@ -3,6 +3,7 @@
 use crate::ours::{self, Writing};
 use crate::plan::{self, Lent, Places, any_list, enough, limit, news, short_lists};
 use crate::random::Random;
+use crate::summary::{Row, row};
 use original::{Answer, Plan, planned};
 
 /// The undefined address: a region may end there, a header address is below it.
@@ -476,7 +477,7 @@ impl Comparison<'_> {
 }
 
 /// `n` calls: every fault is the first in about as many, with any later ones.
-fn refusals(comparison: &mut Comparison, n: u64) {
+fn refusals(comparison: &mut Comparison, n: u64) -> Row {
     let mut times = [0; 10];
     for _ in 0..n {
         let first = comparison.random.below(10) as usize;
@@ -494,13 +495,14 @@ fn refusals(comparison: &mut Comparison, n: u64) {
         "compare: serialize refused by {}, with any later causes: by the scope's table, all memory as it was; {accepted} accepted between them: equal",
         by.join(", ")
     );
+    row("regions refused and some between them, by the scope", n)
 }
 
 /// At each width `n` random lists and more; five times as many calls with something wrong.
-pub fn compare(n: u64) {
+pub fn compare(n: u64) -> Vec<Row> {
     let mut pool = vec![0; 80 << 20];
     Random::new(10).fill(&mut pool);
-    let before = pool.clone();
+    let (before, mut rows) = (pool.clone(), Vec::new());
     for w in [2, 4, 8] {
         let mut comparison = Comparison::new(10 + u64::from(w), &pool);
         comparison.lists(n, w);
@@ -508,7 +510,11 @@ pub fn compare(n: u64) {
             comparison.nested(20, w);
         }
         comparison.print(w);
+        let c = comparison.counts;
+        rows.push(row(format!("regions written at width {w}"), c.lists));
+        rows.push(row("bytes in them", c.bytes));
     }
-    refusals(&mut Comparison::new(20, &pool), 5 * n);
+    rows.push(refusals(&mut Comparison::new(20, &pool), 5 * n));
     assert!(pool == before, "the objects' bytes");
+    rows
 }
