@@ -2,8 +2,7 @@
 use crate::fractal_heap::Refusal;
 use crate::heap_tools_c::tools_parse_header;
 use crate::object_tools_c::{tools_heap_id_type, tools_read_tiny_object};
-use crate::plan_tools_c::tools_plan;
-use crate::write_tools_c::{tools_serialize, tools_write_managed_id};
+use crate::write_tools_c::{tools_plan, tools_serialize, tools_write_managed_id};
 
 /// A managed object's ID.
 pub type Id = [u8; 8];

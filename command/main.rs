@@ -23,8 +23,6 @@ mod heap_tools_c;
 #[allow(dead_code)]
 #[path = "../loader/tools/object_tools_c.rs"]
 mod object_tools_c;
-#[path = "../loader/tools/plan_tools_c.rs"]
-mod plan_tools_c;
 #[path = "../loader/tools/write_tools_c.rs"]
 mod write_tools_c;
 

@@ -154,7 +154,7 @@ pub fn read(words: &[OsString]) -> Result<(), Failure> {
         Kind::Huge => {
             return Err(Failure::Not(
                 "the ID is a huge object's, and huge objects are not read".into(),
-            ))
+            ));
         }
     };
     print(bytes, arguments.has("--hex"))

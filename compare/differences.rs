@@ -4,6 +4,7 @@ use crate::made::{self, Head, Heap};
 use crate::ours::{self, Writing};
 use crate::panics::{self, caught};
 use crate::random::Random;
+use crate::summary::{Row, row};
 use original::Answer;
 
 /// A file with a header at 0, widths 2, and then these bytes.
@@ -180,7 +181,7 @@ fn no_columns() {
 }
 
 /// Every case, in the order of the document.
-pub fn compare() {
+pub fn compare() -> Vec<Row> {
     panics::quiet();
     let cases: [fn(); 15] = [
         filtered_checksum,
@@ -200,8 +201,6 @@ pub fn compare() {
         no_columns,
     ];
     cases.iter().for_each(|case| case());
-    println!(
-        "compare: {} differences of docs/DIFFERENCES.md at their smallest inputs: as it says",
-        cases.len()
-    );
+    let what = "cases of DIFFERENCES.md, as it says";
+    vec![row(what, cases.len() as u64)]
 }

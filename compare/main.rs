@@ -4,6 +4,7 @@ mod beds;
 mod bench;
 mod checksum;
 mod damage;
+mod differences;
 mod fields;
 mod guarded;
 mod heap;
@@ -29,7 +30,7 @@ use summary::Row;
 type Part = (&'static str, fn() -> Vec<Row>);
 
 /// All parts, the longest first.
-const PARTS: [Part; 10] = [
+const PARTS: [Part; 11] = [
     ("back", || back::compare(200_000)),
     ("write", || write::compare(40_000)),
     ("heap space 8", || plan::heap_space(8)),

@@ -1,11 +1,9 @@
 //! Our static libraries, each C function behind a safe one: `fractal_heap_c`, which the loader calls, and the
-//! tests' own `tools_c`, `plan_tools_c`, `write_tools_c`, `heap_tools_c` and `object_tools_c`.
+//! tests' own `tools_c`, `write_tools_c`, `heap_tools_c` and `object_tools_c`.
 #[path = "../loader/tools/heap_tools_c.rs"]
 mod heap_tools_c;
 #[path = "../loader/tools/object_tools_c.rs"]
 mod object_tools_c;
-#[path = "../loader/tools/plan_tools_c.rs"]
-mod plan_tools_c;
 #[path = "../loader/tools/tools_c.rs"]
 mod tools_c;
 #[path = "../loader/tools/write_tools_c.rs"]
@@ -15,7 +13,6 @@ use crate::made::Heap;
 use heap_tools_c::*;
 use object_tools_c::*;
 use original::Answer;
-use plan_tools_c::*;
 use tools_c::*;
 use write_tools_c::*;
 

@@ -1,8 +1,19 @@
-//! The library write_tools_c for tests and tools: a region and a managed ID written. Each function's answer is said
+//! The library write_tools_c for tests and tools: planning, a region and a managed ID written. Each function's answer is said
 //! in crates/write_tools_c/src/lib.rt.
 
 #[link(name = "write_tools_c", kind = "static")]
 unsafe extern "C" {
+    pub fn tools_plan(
+        sizes: *const u64,
+        sizes_len: usize,
+        offsets: *mut u64,
+        offsets_len: usize,
+        blocks: *mut u64,
+        blocks_len: usize,
+        offset_size: u8,
+        totals: *mut u64,
+        totals_len: usize,
+    ) -> u32;
     pub fn tools_serialize(
         sizes: *const u64,
         sizes_len: usize,

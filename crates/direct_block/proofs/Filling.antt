@@ -4,8 +4,8 @@ use mathlib.Core.Path.{_≡_, refl, sym, ap, _∙_}
 use mathlib.Core.List.{List, _++_}
 use native.Mathlib.Omega.{arith}
 use lib.ListN.{length, take, drop, length-append, replicate}
-use Rattle.fields.specs.LittleEndian.{le}
-use Rattle.fields.proofs.LittleEndian.{length-le}
+use Rattle.little_endian.specs.LittleEndian.{le}
+use Rattle.little_endian.proofs.LittleEndian.{length-le}
 use Rattle.checksum.specs.Lookup3.{hashlittle}
 use Rattle.table.specs.Table.{fixed}
 use Rattle.table.specs.Sizes.{offsetBytes, directHeader}

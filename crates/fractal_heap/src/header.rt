@@ -6,7 +6,7 @@ ghost use lib.ListN.{length};
 ghost use Rattle.little_endian.specs.Widths.{legal};
 ghost use Rattle.header_layout.specs.Layout.{headerEnd};
 ghost use Rattle.fractal_heap.specs.Header.{headerFields, headerAt, parsedAnswer, tableOf};
-use fields::bytes::Checked;
+use fields::Checked;
 use header_fields::read_front;
 use header_fields::read_objects;
 use header_fields::read_root;

@@ -5,7 +5,7 @@ ghost use mathlib.Core.Bool.{cond};
 ghost use Prim.Native.Nat.{_+_, _^_, _≤_, _<_};
 ghost use lib.Dec.{leb};
 ghost use Rattle.header_ends.specs.Ends.{endChecked, endsChecked, frontEnds, addressEnds, rootEnds, tableEnds};
-use fields::bytes::Checked;
+use fields::Checked;
 use refusals::FormatError;
 
 // The end that is to be tested, of a field and of those after it: the field's own where it is past the bytes.

@@ -2,7 +2,7 @@
 -- header; os and ls are the sizes of offsets and of lengths. The places are those of header_layout/specs/Layout.antt.
 use Prim.Native.Nat.{ℕ, _+_, _*_}
 use mathlib.Core.List.{List}
-use Rattle.fields.specs.LittleEndian.{leAt}
+use Rattle.little_endian.specs.LittleEndian.{leAt}
 use Rattle.header_layout.specs.Layout.{btreePlace, countPlace, tablePlace}
 use Rattle.heap_rows.specs.declared.DoublingTable.{DoublingTable}
 use Rattle.header_fields.specs.declared.FrontFields.{FrontFields}

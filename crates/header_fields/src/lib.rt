@@ -4,12 +4,12 @@ ghost use mathlib.Core.Path.{_≡_};
 ghost use mathlib.Core.Bool.{true};
 ghost use Prim.Native.Nat.{_+_, _≤_};
 ghost use lib.ListN.{length};
-ghost use Rattle.fields.specs.Fields.{legal};
+ghost use Rattle.little_endian.specs.Widths.{legal};
 ghost use Rattle.header_layout.specs.Layout.{headerEnd};
 ghost use Rattle.header_fields.specs.Groups.{frontFields, objectFields, tableFields, rootFields};
-use fields::bytes::read_le;
-use fields::bytes::read_u16_le;
-use fields::bytes::read_u32_le;
+use little_endian::read_le;
+use little_endian::read_u16_le;
+use little_endian::read_u32_le;
 use heap_rows::DoublingTable;
 
 // What stands before the fields whose sizes the file chooses.

@@ -5,10 +5,10 @@ use mathlib.Core.List.{List}
 use mathlib.Core.Bool.{cond}
 use lib.ListN.{getD, take, drop}
 use lib.Dec.{eqb}
-use Rattle.fields.specs.LittleEndian.{leAt}
+use Rattle.little_endian.specs.LittleEndian.{leAt}
 use Rattle.fields.specs.Fields.{lenChecked, afterCheck}
-use Rattle.fields.specs.declared.bytes.Checked.{Checked}
-use Rattle.fields.specs.declared.bytes.Checked.the-variants.{Passed, Refused}
+use Rattle.fields.specs.declared.Checked.{Checked}
+use Rattle.fields.specs.declared.Checked.the-variants.{Passed, Refused}
 use Rattle.refusals.specs.declared.FormatError.the-variants.{InvalidFractalHeapSignature, InvalidFractalHeapVersion, ChecksumMismatch}
 use Rattle.checksum.specs.Lookup3.{hashlittle}
 

@@ -5,9 +5,9 @@ ghost use Prim.Native.Nat.{_≤_};
 ghost use lib.ListN.{length};
 ghost use Rattle.header_frame.specs.Frame.{startChecked, sumChecked};
 use checksum::jenkins_lookup3;
-use fields::bytes::Checked;
-use fields::bytes::ensure_len;
-use fields::bytes::read_u32_le;
+use fields::Checked;
+use fields::ensure_len;
+use little_endian::read_u32_le;
 use refusals::FormatError;
 
 // FRHP and version 0.

@@ -7,10 +7,11 @@ use mathlib.Core.List.{List}
 use mathlib.Core.Bool.{cond}
 use lib.ListN.{length}
 use lib.Dec.{ltb}
-use Rattle.fields.specs.LittleEndian.{leAt}
-use Rattle.fields.specs.Fields.{legal, afterCheck}
-use Rattle.fields.specs.declared.bytes.Checked.{Checked}
-use Rattle.fields.specs.declared.bytes.Checked.the-variants.{Refused}
+use Rattle.little_endian.specs.LittleEndian.{leAt}
+use Rattle.little_endian.specs.Widths.{legal}
+use Rattle.fields.specs.Fields.{afterCheck}
+use Rattle.fields.specs.declared.Checked.{Checked}
+use Rattle.fields.specs.declared.Checked.the-variants.{Refused}
 use Rattle.refusals.specs.declared.FormatError.the-variants.{InvalidOffsetSize, InvalidLengthSize}
 use Rattle.header_ends.specs.Ends.{endsChecked, frontEnds, addressEnds, tableEnds}
 use Rattle.header_frame.specs.Frame.{startChecked, sumChecked}

@@ -9,9 +9,12 @@ use native.Mathlib.Nat.{mul-le-mul}
 use lib.ListN.{length}
 use lib.Dec.{leb}
 use borrow.Author.Tests.{le-ltb, leb-true}
-use Rattle.fields.specs.LittleEndian.{leAt}
-use Rattle.fields.specs.Fields.{saturated, legal, offsetAt, undefinedAddr}
-use Rattle.fields.specs.declared.bytes.Field.the-variants.{Value, Refused as NoValue}
+use Rattle.little_endian.specs.LittleEndian.{leAt}
+use Rattle.numbers.specs.Numbers.{saturated}
+use Rattle.little_endian.specs.Widths.{legal}
+use Rattle.fields.specs.Fields.{offsetAt}
+use Rattle.convert.specs.Undefined.{undefinedAddr}
+use Rattle.fields.specs.declared.Field.the-variants.{Value, Refused as NoValue}
 use Rattle.refusals.specs.declared.FormatError.{FormatError}
 use Rattle.fields.proofs.Fields.{offset-read}
 use Rattle.heap_rows.specs.declared.DoublingTable.{DoublingTable}

@@ -2,7 +2,7 @@
 // an object is found. The functions but `answer` are public for the crates above alone.
 ghost use mathlib.Core.Path.{_≡_};
 ghost use Rattle.heap_blocks.specs.Blocks.{holdsOffset, childOf, foundAnswer};
-use fields::convert::is_undefined_addr;
+use convert::is_undefined_addr;
 use heap_rows::DoublingTable;
 use refusals::Answer;
 use refusals::FormatError;

@@ -9,8 +9,8 @@ use mathlib.Core.Logic.{dite}
 use lib.Pow.{pow-lt, pow-mono, shr-le}
 use lib.ListN.{length, getD, take, drop, length-drop}
 use lib.Seq.{take-all, getD-drop}
-use Rattle.fields.specs.LittleEndian.{value, leAt}
-use Rattle.fields.proofs.LittleEndian.{value-lt, leAt-add, leAt-byte, leAt-end}
+use Rattle.little_endian.specs.LittleEndian.{value, leAt}
+use Rattle.little_endian.proofs.LittleEndian.{value-lt, leAt-add, leAt-byte, leAt-end}
 use Rattle.heap_ids.specs.declared.ManagedId.the-variants.{Decoded}
 use Rattle.heap_ids.specs.Id.{splitId}
 

@@ -5,7 +5,7 @@ use mathlib.Core.List.{List}
 use mathlib.Core.Bool.{cond}
 use lib.ListN.{length, getD}
 use lib.Dec.{eqb}
-use Rattle.fields.specs.LittleEndian.{leAt}
+use Rattle.little_endian.specs.LittleEndian.{leAt}
 use Rattle.refusals.specs.Refusals.{answer, refusal}
 use Rattle.refusals.specs.declared.Answer.{Answer}
 use Rattle.refusals.specs.declared.FormatError.the-variants.{UnexpectedEof, InvalidHeapIdType}

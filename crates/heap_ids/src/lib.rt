@@ -2,11 +2,11 @@
 ghost use mathlib.Core.Path.{_≡_};
 ghost use Prim.Native.Nat.{_^_, _%_, _/_, _<_, min};
 ghost use lib.ListN.{length};
-ghost use Rattle.fields.specs.LittleEndian.{leAt};
+ghost use Rattle.little_endian.specs.LittleEndian.{leAt};
 ghost use Rattle.heap_ids.specs.Id.{splitId, decodedId, decodedAnswer};
-use fields::bytes::read_u64_le;
+use little_endian::read_u64_le;
 use heap_id_types::type_of;
-use heap_rows::saturating_sub;
+use numbers::saturating_sub;
 use refusals::Answer;
 use refusals::FormatError;
 use refusals::refused;

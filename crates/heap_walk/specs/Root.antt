@@ -3,7 +3,7 @@ use Prim.Native.Nat.{ℕ}
 use mathlib.Core.List.{List}
 use mathlib.Core.Bool.{cond}
 use lib.Dec.{eqb}
-use Rattle.fields.specs.Fields.{undefinedAddr}
+use Rattle.convert.specs.Undefined.{undefinedAddr}
 use Rattle.refusals.specs.declared.FormatError.the-variants.{UnexpectedEof}
 use Rattle.heap_rows.specs.declared.DoublingTable.{DoublingTable}
 use Rattle.heap_blocks.specs.Blocks.{directAt, walkFrom}

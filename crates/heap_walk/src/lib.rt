@@ -2,9 +2,9 @@
 ghost use mathlib.Core.Path.{_≡_};
 ghost use Rattle.heap_blocks.specs.Blocks.{walkFrom};
 ghost use Rattle.heap_walk.specs.Root.{fromRoot};
-use direct_blocks::read_from_direct_block;
-use fields::bytes::saturating_add;
-use fields::convert::is_undefined_addr;
+use direct_reads::read_from_direct_block;
+use numbers::saturating_add;
+use convert::is_undefined_addr;
 use heap_blocks::Found;
 use heap_blocks::HeapChild;
 use heap_children::child_of_block;

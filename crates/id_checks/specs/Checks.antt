@@ -2,8 +2,8 @@
 use Prim.Native.Nat.{ℕ, _+_, _^_}
 use mathlib.Core.Bool.{_&&_, cond}
 use lib.Dec.{leb, ltb}
-use Rattle.fields.specs.declared.bytes.Checked.{Checked}
-use Rattle.fields.specs.declared.bytes.Checked.the-variants.{Passed, Refused}
+use Rattle.fields.specs.declared.Checked.{Checked}
+use Rattle.fields.specs.declared.Checked.the-variants.{Passed, Refused}
 use Rattle.refusals.specs.declared.FormatError.the-variants.{SliceTooShort, HeapIdTooLarge}
 use Rattle.table.specs.Table.{Table}
 use Rattle.table.specs.Sizes.{offsetBytes}

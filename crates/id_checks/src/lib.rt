@@ -5,7 +5,7 @@ ghost use mathlib.Core.Bool.{_&&_};
 ghost use lib.Dec.{ltb};
 ghost use Rattle.table.specs.Table.{fixed};
 ghost use Rattle.id_checks.specs.Checks.{idChecked};
-use fields::bytes::Checked;
+use fields::Checked;
 use refusals::FormatError;
 
 // Whether an ID can hold this offset and this length.

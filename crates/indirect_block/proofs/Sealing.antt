@@ -5,7 +5,7 @@ use mathlib.Core.List.{List, _++_}
 use native.Mathlib.Omega.{arith}
 use lib.ListN.{length, take, drop, getD, length-append, length-drop}
 use lib.Seq.{drop-at, length-take-le, drop-cons, set-getD}
-use Rattle.fields.specs.LittleEndian.{le}
+use Rattle.little_endian.specs.LittleEndian.{le}
 use Rattle.checksum.specs.Lookup3.{hashlittle}
 use Rattle.table.specs.Table.{fixed}
 use Rattle.region_blocks.specs.Blocks.{indirectBlock}

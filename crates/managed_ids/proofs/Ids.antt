@@ -7,11 +7,11 @@ use native.Mathlib.Nat.{add-zero, add-suc, suc-add}
 use lib.ListN.{length, length-append, set}
 use lib.Seq.{sets}
 use Rattle.refusals.specs.declared.FormatError.{FormatError}
-use Rattle.fields.specs.LittleEndian.{le, put}
-use Rattle.fields.specs.Fields.{putIf}
-use Rattle.fields.specs.declared.bytes.Checked.{Checked}
-use Rattle.fields.specs.declared.bytes.Checked.the-variants.{Passed, Refused as NotPassed}
-use Rattle.fields.proofs.LittleEndian.{length-le, put-sets, length-put}
+use Rattle.little_endian.specs.LittleEndian.{le, put}
+use Rattle.stores.specs.Stores.{putIf}
+use Rattle.fields.specs.declared.Checked.{Checked}
+use Rattle.fields.specs.declared.Checked.the-variants.{Passed, Refused as NotPassed}
+use Rattle.little_endian.proofs.LittleEndian.{length-le, put-sets, length-put}
 use Rattle.table.specs.Table.{Table, fixed}
 use Rattle.table.specs.Sizes.{offsetBytes}
 use Rattle.id_checks.specs.Checks.{idChecked}

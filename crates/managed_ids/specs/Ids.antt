@@ -3,8 +3,8 @@
 use Prim.Native.Nat.{ℕ}
 use mathlib.Core.List.{List, _++_}
 use lib.ListN.{length}
-use Rattle.fields.specs.LittleEndian.{le}
-use Rattle.fields.specs.Fields.{putIf}
+use Rattle.little_endian.specs.LittleEndian.{le}
+use Rattle.stores.specs.Stores.{putIf}
 use Rattle.table.specs.Table.{Table}
 use Rattle.table.specs.Sizes.{offsetBytes}
 use Rattle.id_checks.specs.Checks.{idChecked}

@@ -3,11 +3,11 @@
 ghost use mathlib.Core.Path.{_≡_};
 ghost use Prim.Native.Nat.{_≤_};
 ghost use lib.ListN.{length};
-ghost use Rattle.fields.specs.LittleEndian.{put};
+ghost use Rattle.little_endian.specs.LittleEndian.{put};
 ghost use Rattle.table.specs.Table.{fixed};
 ghost use Rattle.id_checks.specs.Checks.{idChecked};
 ghost use Rattle.managed_ids.specs.Ids.{managedId, idWritten};
-use fields::bytes::Checked;
+use fields::Checked;
 use id_checks::check_id;
 use stores::store_le;
 

@@ -1,7 +1,7 @@
 // One object of a written heap, read back by its ID and compared with the bytes that it was written from.
 ghost use mathlib.Core.Path.{_≡_};
 ghost use Rattle.object_back.specs.Back.{sameBytes, holdsAt, comesBack};
-use fields::bytes::has_room;
+use fields::has_room;
 use fractal_heap::header::FractalHeapHeader;
 use heap_blocks::Found;
 use object_reads::read_object;

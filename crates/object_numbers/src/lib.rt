@@ -2,7 +2,7 @@
 ghost use mathlib.Core.Path.{_≡_};
 ghost use Prim.Native.Nat.{_*_, _/_, _≤_};
 ghost use lib.ListN.{length};
-ghost use Rattle.fields.specs.LittleEndian.{put};
+ghost use Rattle.little_endian.specs.LittleEndian.{put};
 ghost use Rattle.object_numbers.specs.ObjectNumbers.{answersFrom};
 use fractal_heap::header::FractalHeapHeader;
 

@@ -5,16 +5,17 @@ use mathlib.Core.List.{List, append-nil}
 use native.Mathlib.Omega.{arith}
 use lib.ListN.{length, drop-of-length-le}
 use Rattle.refusals.specs.declared.FormatError.{FormatError}
-use Rattle.fields.specs.LittleEndian.{put}
+use Rattle.little_endian.specs.LittleEndian.{put}
 use Rattle.fields.specs.Fields.{afterCheck}
-use Rattle.fields.specs.declared.bytes.Checked.{Checked}
-use Rattle.fields.specs.declared.bytes.Checked.the-variants.{Passed, Refused as NotPassed}
+use Rattle.fields.specs.declared.Checked.{Checked}
+use Rattle.fields.specs.declared.Checked.the-variants.{Passed, Refused as NotPassed}
 use Rattle.table.specs.Table.{fixed}
 use Rattle.table.specs.Sizes.{offsetBytes}
 use Rattle.heap_blocks.specs.declared.Found.the-variants.{Refused}
 use Rattle.fractal_heap.specs.Read.{managedAt}
 use Rattle.fractal_heap.specs.declared.header.FractalHeapHeader.{FractalHeapHeader}
-use Rattle.managed_ids.specs.Ids.{managedId, idLength, idChecked}
+use Rattle.managed_ids.specs.Ids.{managedId}
+use Rattle.id_checks.specs.Checks.{idLength, idChecked}
 use Rattle.managed_ids.proofs.Ids.{id-length}
 use Rattle.object_reads.specs.Objects.{objectAt}
 

@@ -7,7 +7,8 @@ use Rattle.heap_blocks.specs.declared.Found.{Found}
 use Rattle.heap_blocks.specs.declared.Found.the-variants.{Refused}
 use Rattle.fractal_heap.specs.declared.header.FractalHeapHeader.{FractalHeapHeader}
 use Rattle.fractal_heap.specs.Read.{managedAt}
-use Rattle.managed_ids.specs.Ids.{managedId, idLength, idChecked}
+use Rattle.managed_ids.specs.Ids.{managedId}
+use Rattle.id_checks.specs.Checks.{idLength, idChecked}
 
 -- the header of an unfiltered heap with the fixed geometry, with its root and the root's rows; no reader heeds the
 -- other fields

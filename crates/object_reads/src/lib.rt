@@ -1,7 +1,7 @@
 // One object of a written heap, read by the ID that the ID writer gives it.
 ghost use mathlib.Core.Path.{_≡_};
 ghost use Rattle.object_reads.specs.Objects.{fixedHeader, objectAt};
-use fields::bytes::Checked;
+use fields::Checked;
 use fractal_heap::header::FractalHeapHeader;
 use heap_blocks::Found;
 use managed_ids::write_managed_id;

@@ -4,7 +4,7 @@ use mathlib.Core.Bool.{Bool, cond}
 use mathlib.Core.List.{List}
 use lib.ListN.{length}
 use lib.Dec.{ltb}
-use Rattle.fields.specs.LittleEndian.{put}
+use Rattle.little_endian.specs.LittleEndian.{put}
 use Rattle.fractal_heap.specs.declared.header.Parsed.{Parsed}
 use Rattle.fractal_heap.specs.declared.header.Parsed.the-variants.{Header, Refused}
 use Rattle.fractal_heap.specs.Header.{parsedAnswer}

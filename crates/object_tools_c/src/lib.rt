@@ -1,14 +1,14 @@
 // C functions over IDs and objects, for tests, comparisons and tools; the loader's functions are apart from
 // these. Each returns the refusal's number, 0 where there is none.
 ghost use mathlib.Core.Path.{_≡_};
-ghost use Rattle.fields.specs.Answers.{slotNumber, slotBytes};
+ghost use Rattle.slot.specs.Slot.{slotNumber, slotBytes};
 ghost use Rattle.heap_blocks.specs.Blocks.{foundAnswer};
 ghost use Rattle.fractal_heap.specs.Header.{headerAt};
 ghost use Rattle.fractal_heap.specs.Read.{objectBy};
 ghost use Rattle.heap_id_types.specs.IdTypes.{idTypeOf, idTypeAnswer};
 ghost use Rattle.tiny_objects.specs.Tiny.{tinyAt};
 ghost use Rattle.object_tools_c.specs.ObjectTools.{eachNumber, eachList};
-use fields::convert::to_usize;
+use convert::to_usize;
 use fractal_heap::header::FractalHeapHeader;
 use fractal_heap::header::Parsed;
 use object_numbers::read_each;

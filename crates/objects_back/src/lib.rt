@@ -2,7 +2,7 @@
 ghost use mathlib.Core.Path.{_≡_};
 ghost use Prim.Native.Nat.{_+_, min};
 ghost use Rattle.objects_back.specs.Backs.{backOne, backs};
-use fields::bytes::has_room;
+use fields::has_room;
 use fractal_heap::header::FractalHeapHeader;
 use object_back::comes_back;
 

@@ -5,8 +5,8 @@ use mathlib.Core.List.{List, [], _∷_}
 use lib.Dec.{eqb}
 use Rattle.refusals.specs.Refusals.{refusal}
 use Rattle.refusals.specs.declared.FormatError.the-variants.{HeapSpaceExhausted}
-use Rattle.fields.specs.declared.bytes.Checked.{Checked}
-use Rattle.fields.specs.declared.bytes.Checked.the-variants.{Passed, Refused as NotPassed}
+use Rattle.fields.specs.declared.Checked.{Checked}
+use Rattle.fields.specs.declared.Checked.the-variants.{Passed, Refused as NotPassed}
 use Rattle.table.specs.Table.{Table, fixed, rowOffset}
 use Rattle.table.specs.Sizes.{directHeader, indirectSize}
 use Rattle.table.specs.Capacity.{capacity}

@@ -7,7 +7,7 @@ ghost use Rattle.table.specs.Table.{fixed};
 ghost use Rattle.plan_steps.specs.Steps.{planOffsets, planStarts};
 ghost use Rattle.plan_end.specs.Requires.{Totalled};
 ghost use Rattle.plan.specs.Answer.{totals, answer, written};
-use fields::bytes::Checked;
+use fields::Checked;
 use plan_checks::check_input;
 use plan_end::close;
 use plan_end::root_rows;

@@ -13,7 +13,7 @@ use Rattle.table.specs.Table.{Table, fixed, rowOffset}
 use Rattle.table.specs.Slots.{slotAt}
 use Rattle.table_laws.proofs.Format.{direct-local, fixed-slot}
 use Rattle.plan.specs.declared.ManagedPlan.{ManagedPlan}
-use Rattle.heap_rows.proofs.Saturating.{sat-fits}
+use Rattle.numbers.proofs.Saturating.{sat-fits}
 use Rattle.heap_blocks.specs.declared.Found.the-variants.{At, Refused}
 use Rattle.heap_blocks.specs.Blocks.{directAt}
 use Rattle.fractal_heap.specs.declared.header.FractalHeapHeader.{FractalHeapHeader}

@@ -9,8 +9,8 @@ use lib.ListN.{length, take, drop, getD, length-append}
 use lib.Pow.{pow-mono}
 use lib.Seq.{take-at}
 use borrow.Author.Tests.{eq-eqb, ne-eqb}
-use Rattle.fields.specs.Fields.{legal}
-use Rattle.fields.proofs.Fields.{legal-small}
+use Rattle.little_endian.specs.Widths.{legal}
+use Rattle.little_endian.proofs.Widths.{legal-small}
 use Rattle.table.specs.Table.{fixed, rowBits, rowOffset}
 use Rattle.table.specs.Slots.{slotAt}
 use Rattle.table.specs.Capacity.{sum}

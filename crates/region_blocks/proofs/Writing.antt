@@ -6,8 +6,8 @@ use native.Mathlib.Omega.{arith}
 use native.Mathlib.Numerals.{add-one}
 use lib.ListN.{length, drop, set, getD, length-append, replicate}
 use lib.Seq.{drop-cons}
-use Rattle.fields.specs.LittleEndian.{le}
-use Rattle.fields.proofs.LittleEndian.{length-le}
+use Rattle.little_endian.specs.LittleEndian.{le}
+use Rattle.little_endian.proofs.LittleEndian.{length-le}
 use Rattle.table.specs.Table.{fixed}
 use Rattle.table.specs.Sizes.{offsetBytes}
 use Rattle.region_blocks.specs.Blocks.{indirectSignature, directSignature, blockHead}

@@ -5,7 +5,7 @@ ghost use mathlib.Core.Path.{_≡_};
 ghost use mathlib.Core.List.{_++_};
 ghost use Prim.Native.Nat.{_+_, _-_, _≤_};
 ghost use lib.ListN.{length, replicate};
-ghost use Rattle.fields.specs.LittleEndian.{le};
+ghost use Rattle.little_endian.specs.LittleEndian.{le};
 ghost use Rattle.region_blocks.specs.Storing.{stored};
 use stores::store_le;
 

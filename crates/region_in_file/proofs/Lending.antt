@@ -8,7 +8,8 @@ use lib.ListN.{length, take, drop, length-drop, drop-of-length-le}
 use lib.Seq.{take-all}
 use Rattle.table.proofs.Lists.{take-min, drop-min}
 use Rattle.plan.specs.declared.Planned.{Planned}
-use Rattle.fractal_heap_write.specs.Serialize.{serialized, regionWritten}
+use Rattle.write_answer.specs.Answer.{serialized}
+use Rattle.fractal_heap_write.specs.Serialize.{regionWritten}
 use Rattle.region_in_file.specs.InFile.{serializedAt, fileWritten}
 
 module _ (xs : List ℕ) (o b : ℕ) (js F : List ℕ) (address header w s : ℕ) (e : s ≡ min address (length F)) where

@@ -3,7 +3,8 @@ use Prim.Native.Nat.{ℕ}
 use mathlib.Core.List.{List, _++_}
 use lib.ListN.{length, take, drop}
 use Rattle.plan.specs.declared.Planned.{Planned}
-use Rattle.fractal_heap_write.specs.Serialize.{serialized, regionWritten}
+use Rattle.write_answer.specs.Answer.{serialized}
+use Rattle.fractal_heap_write.specs.Serialize.{regionWritten}
 
 -- the writer's answer where the lent region is all of a file from the region's address on
 abbrev pub serializedAt : List ℕ → ℕ → ℕ → List ℕ → List ℕ → ℕ → ℕ → ℕ → Planned

@@ -6,13 +6,14 @@ use mathlib.Core.List.{List}
 use native.Mathlib.Omega.{arith}
 use lib.Dec.{eqb}
 use lib.ListN.{length, take, drop, length-append}
-use Rattle.fields.proofs.Fields.{legal-small}
+use Rattle.little_endian.proofs.Widths.{legal-small}
 use Rattle.table.specs.Table.{fixed}
 use Rattle.plan_steps.specs.Steps.{planOffsets, planStarts}
 use Rattle.plan_steps.specs.declared.State.{State}
 use Rattle.plan.specs.declared.ManagedPlan.{ManagedPlan}
 use Rattle.plan.specs.declared.Planned.the-variants.{Accepted}
-use Rattle.plan.specs.Answer.{oneBlock, closed, answer}
+use Rattle.plan_end.specs.End.{oneBlock, closed}
+use Rattle.plan.specs.Answer.{answer}
 use Rattle.plan.proofs.Answering.{accepted}
 use Rattle.plan_laws.proofs.Tally.{counted, tallied}
 use Rattle.region_walk.specs.Walk.{allSlots}

@@ -25,8 +25,11 @@ use Rattle.fractal_heap.specs.Read.{managedAt}
 use Rattle.heap_laws.proofs.Reading.{read-in-file}
 use Rattle.managed_ids.specs.Ids.{managedId}
 use Rattle.id_checks.proofs.Checking.{held}
-use Rattle.whole_way.specs.Back.{holdsAt, backOne, backs}
-use Rattle.whole_way.proofs.Back.{same-refl, object-read, back-found, one-empty, one-nonempty}
+use Rattle.object_back.specs.Back.{holdsAt}
+use Rattle.objects_back.specs.Backs.{backOne, backs}
+use Rattle.object_back.proofs.Back.{same-refl, back-found}
+use Rattle.object_reads.proofs.Objects.{object-read}
+use Rattle.objects_back.proofs.Backs.{one-empty, one-nonempty}
 use Rattle.read_back.specs.ReadBack.{Call, Written, HoldsRegion, HeaderOf, ComesBack, partOf}
 use Rattle.read_back.proofs.Ids.{id-is}
 use Rattle.read_back.proofs.Finding.{planned, tests, width-legal}

@@ -3,16 +3,16 @@ ghost use mathlib.Core.Path.{_≡_};
 ghost use mathlib.Core.Bool.{_&&_};
 ghost use Prim.Native.Nat.{_+_, _*_};
 ghost use lib.Dec.{leb};
-ghost use Rattle.fields.specs.Fields.{legal};
+ghost use Rattle.little_endian.specs.Widths.{legal};
 ghost use Rattle.heap_blocks.specs.Blocks.{rowScan};
-use fields::bytes::Field;
-use fields::bytes::has_room;
-use fields::bytes::is_width;
-use fields::bytes::read_offset;
-use fields::bytes::saturating_add;
+use fields::Field;
+use fields::has_room;
+use fields::is_width;
+use fields::read_offset;
+use numbers::saturating_add;
 use heap_blocks::RowScan;
 use heap_blocks::holds;
-use heap_rows::saturating_mul;
+use numbers::saturating_mul;
 
 // The slots of a row one by one.
 fn scan_slots(

@@ -19,7 +19,9 @@ use Rattle.plan_checks.specs.Checks.{sizesChecked, placesChecked, widthChecked,
 use Rattle.little_endian.specs.LittleEndian.{le, value, leAt}
 use lib.Count.{leadingZeros}
 use Rattle.heap_rows.specs.Rows.{log2, blockSize, directRows, sizeToRows, heapSize, slotSize}
-use Rattle.heap_ids.specs.Id.{typeOf, splitId, decodedId, tinyIn, tinyAt}
+use Rattle.heap_id_types.specs.IdTypes.{typeOf}
+use Rattle.heap_ids.specs.Id.{splitId, decodedId}
+use Rattle.tiny_objects.specs.Tiny.{tinyIn, tinyAt}
 use Rattle.id_checks.specs.Checks.{idLength, idChecked}
 use Rattle.managed_ids.specs.Ids.{managedId}
 use Rattle.region_laws.proofs.Region.{region-length, root-place}

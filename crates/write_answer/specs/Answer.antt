@@ -1,7 +1,7 @@
 -- The writer's answer: planning's, then that of its own tests.
 use Prim.Native.Nat.{ℕ}
 use mathlib.Core.List.{List}
-use Rattle.fields.specs.declared.bytes.Checked.{Checked}
+use Rattle.fields.specs.declared.Checked.{Checked}
 use Rattle.table.specs.Capacity.{sum}
 use Rattle.plan.specs.declared.ManagedPlan.{ManagedPlan}
 use Rattle.plan.specs.declared.Planned.{Planned}

@@ -1,7 +1,7 @@
 // The writer's answer: planning's, then that of the tests between planning and writing. Nothing is written here.
 ghost use mathlib.Core.Path.{_≡_};
 ghost use Rattle.write_answer.specs.Answer.{serialized};
-use fields::bytes::Checked;
+use fields::Checked;
 use plan::Planned;
 use plan::planned_for;
 use region_blocks::Site;

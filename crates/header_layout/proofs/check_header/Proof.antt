@@ -3,7 +3,7 @@ use borrow.Author.Needs.{needs}
 use Prim.Native.Nat.{ℕ, _+_}
 use mathlib.Core.Path.{_≡_, sym, ap, _∙_}
 use native.Mathlib.Omega.{arith}
-use Rattle.fields.specs.LittleEndian.{leAt}
+use Rattle.little_endian.specs.LittleEndian.{leAt}
 use Rattle.header_layout.specs.Layout.{sumPlace, headerChecked}
 use Rattle.header_frame.specs.Frame.{sumChecked}
 use Rattle.header_layout.proofs.Header.{start-within, layout-within, sum-before}

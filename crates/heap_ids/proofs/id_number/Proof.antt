@@ -4,7 +4,7 @@ use Rattle.heap_ids.proofs.id_number.Statement.{statement}
 use Rattle.heap_ids.proofs.id_number.Tie as tie
 use mathlib.Core.Path.{sym}
 use native.Mathlib.Omega.{arith}
-use Rattle.fields.proofs.LittleEndian.{leAt-last}
+use Rattle.little_endian.proofs.LittleEndian.{leAt-last}
 
 read-u64-le-requires : tie.Need-read-u64-le-requires
 read-u64-le-requires c κs = search needs

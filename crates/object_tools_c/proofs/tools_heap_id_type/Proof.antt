@@ -3,7 +3,7 @@ use borrow.Author.Needs.{needs}
 use Rattle.object_tools_c.proofs.tools_heap_id_type.Statement.{statement}
 use Rattle.object_tools_c.proofs.tools_heap_id_type.Tie as tie
 use mathlib.Core.Path.{ap, _∙_}
-use Rattle.fields.specs.Answers.{slotNumber, slotBytes}
+use Rattle.slot.specs.Slot.{slotNumber, slotBytes}
 use Rattle.heap_id_types.specs.IdTypes.{idTypeAnswer}
 
 heap-id-type-requires : tie.Need-heap-id-type-requires

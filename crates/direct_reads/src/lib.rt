@@ -1,11 +1,11 @@
 // The place of an object in a direct block. Block checksums are not tested.
 ghost use mathlib.Core.Path.{_≡_};
 ghost use Rattle.heap_blocks.specs.Blocks.{directAt};
-use fields::bytes::Checked;
-use fields::bytes::ensure_len;
-use fields::convert::to_usize;
+use fields::Checked;
+use fields::ensure_len;
+use convert::to_usize;
 use heap_blocks::Found;
-use heap_rows::saturating_sub;
+use numbers::saturating_sub;
 use refusals::FormatError;
 
 // An object of `length` bytes at heap offset `target`, in the direct block at `addr` that begins at heap

@@ -1,7 +1,7 @@
 -- `read_from_direct_block` meets its contract. Assumes nothing.
 use borrow.Author.Needs.{needs}
-use Rattle.direct_blocks.proofs.read_from_direct_block.Statement.{statement}
-use Rattle.direct_blocks.proofs.read_from_direct_block.Tie as tie
+use Rattle.direct_reads.proofs.read_from_direct_block.Statement.{statement}
+use Rattle.direct_reads.proofs.read_from_direct_block.Tie as tie
 use mathlib.Core.Path.{sym, _∙_}
 use borrow.Author.Tests.{le-leb, lt-leb}
 use Rattle.heap_blocks.specs.Blocks.{directAt}
