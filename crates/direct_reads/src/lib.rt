@@ -1,9 +1,9 @@
 // The place of an object in a direct block. Block checksums are not tested.
 ghost use mathlib.Core.Path.{_≡_};
 ghost use Rattle.heap_blocks.specs.Blocks.{directAt};
+use convert::to_usize;
 use fields::Checked;
 use fields::ensure_len;
-use convert::to_usize;
 use heap_blocks::Found;
 use numbers::saturating_sub;
 use refusals::FormatError;

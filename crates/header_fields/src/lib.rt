@@ -7,10 +7,10 @@ ghost use lib.ListN.{length};
 ghost use Rattle.little_endian.specs.Widths.{legal};
 ghost use Rattle.header_layout.specs.Layout.{headerEnd};
 ghost use Rattle.header_fields.specs.Groups.{frontFields, objectFields, tableFields, rootFields};
+use heap_rows::DoublingTable;
 use little_endian::read_le;
 use little_endian::read_u16_le;
 use little_endian::read_u32_le;
-use heap_rows::DoublingTable;
 
 // What stands before the fields whose sizes the file chooses.
 pub struct FrontFields {

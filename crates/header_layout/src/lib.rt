@@ -6,12 +6,12 @@ ghost use lib.ListN.{length};
 ghost use Rattle.header_layout.specs.Layout.{sumPlace, layoutChecked, headerChecked};
 use fields::Checked;
 use fields::is_width;
-use little_endian::read_u16_le;
 use header_ends::check_addresses;
 use header_ends::check_front;
 use header_ends::check_table;
 use header_frame::check_start;
 use header_frame::check_sum;
+use little_endian::read_u16_le;
 use refusals::FormatError;
 
 // Every field, each width before the first field that has it.

@@ -1,14 +1,14 @@
 // The child of an indirect block that holds a heap offset, sought row by row.
 ghost use mathlib.Core.Path.{_≡_};
 ghost use Rattle.heap_blocks.specs.Blocks.{childScan, childIn, childAt};
+use convert::to_usize;
 use fields::Checked;
 use fields::ensure_len;
-use little_endian::read_u32_le;
-use convert::to_usize;
 use heap_blocks::HeapChild;
 use heap_blocks::RowScan;
 use heap_blocks::child_at_row;
 use heap_rows::DoublingTable;
+use little_endian::read_u32_le;
 use refusals::FormatError;
 use row_scans::scan_row;
 

@@ -2,13 +2,13 @@
 ghost use mathlib.Core.Path.{_≡_};
 ghost use Rattle.heap_blocks.specs.Blocks.{walkFrom};
 ghost use Rattle.heap_walk.specs.Root.{fromRoot};
-use direct_reads::read_from_direct_block;
-use numbers::saturating_add;
 use convert::is_undefined_addr;
+use direct_reads::read_from_direct_block;
 use heap_blocks::Found;
 use heap_blocks::HeapChild;
 use heap_children::child_of_block;
 use heap_rows::DoublingTable;
+use numbers::saturating_add;
 use refusals::FormatError;
 
 // An object of `length` bytes at heap offset `target`, below the indirect root block at `addr`: child by child, through

@@ -9,9 +9,9 @@ use fields::Field;
 use fields::has_room;
 use fields::is_width;
 use fields::read_offset;
-use numbers::saturating_add;
 use heap_blocks::RowScan;
 use heap_blocks::holds;
+use numbers::saturating_add;
 use numbers::saturating_mul;
 
 // The slots of a row one by one.
