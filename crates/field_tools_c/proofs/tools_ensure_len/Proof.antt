@@ -4,8 +4,8 @@ use mathlib.Core.Path.{ap, ap₂, _∙_}
 use Rattle.fields.specs.Fields.{lenChecked}
 use Rattle.fields.specs.Answers.{checkedAnswer}
 use Rattle.slot.specs.Slot.{slotNumber, slotBytes}
-use Rattle.tools_c.proofs.tools_ensure_len.Statement.{statement}
-use Rattle.tools_c.proofs.tools_ensure_len.Tie as tie
+use Rattle.field_tools_c.proofs.tools_ensure_len.Statement.{statement}
+use Rattle.field_tools_c.proofs.tools_ensure_len.Tie as tie
 
 to-usize-requires : tie.Need-to-usize-requires
 to-usize-requires c κs = search needs
