@@ -1,18 +1,24 @@
 //! Our static libraries, each C function behind a safe one: `fractal_heap_c`, which the loader calls, and the
-//! tests' own `tools_c`, `write_tools_c`, `heap_tools_c` and `object_tools_c`.
+//! tests' own `tools_c`, `field_tools_c`, `store_tools_c`, `write_tools_c`, `heap_tools_c` and `object_tools_c`.
+#[path = "../loader/tools/field_tools_c.rs"]
+mod field_tools_c;
 #[path = "../loader/tools/heap_tools_c.rs"]
 mod heap_tools_c;
 #[path = "../loader/tools/object_tools_c.rs"]
 mod object_tools_c;
+#[path = "../loader/tools/store_tools_c.rs"]
+mod store_tools_c;
 #[path = "../loader/tools/tools_c.rs"]
 mod tools_c;
 #[path = "../loader/tools/write_tools_c.rs"]
 mod write_tools_c;
 
 use crate::made::Heap;
+use field_tools_c::*;
 use heap_tools_c::*;
 use object_tools_c::*;
 use original::Answer;
+use store_tools_c::*;
 use tools_c::*;
 use write_tools_c::*;
 
