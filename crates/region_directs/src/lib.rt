@@ -12,6 +12,8 @@ ghost use Rattle.plan_steps.specs.Requires.{Small, Runs};
 ghost use Rattle.region_blocks.specs.Storing.{stored};
 ghost use Rattle.region_directs.specs.Directs.{directs};
 use direct_block::write_direct_block;
+use plan_runs::fill_block;
+use plan_search::open_block;
 use plan_steps::Step;
 use plan_steps::initial;
 use region_blocks::Site;
