@@ -1,8 +1,8 @@
 // Goes the whole way of a heap: plans a list of sizes, writes the region into a file, and reads every object back by
-// its written ID (`round_trip`, whose contract says that all nonempty ones come back). The file's other bytes are marks, or what an earlier list left there. It prints for each list what is
-// given; the number of objects, how many nonempty ones come back with all their bytes, the lookup3 of the joined IDs
-// and of the file; and for each empty object what reading answers. The file stdout beside src/ holds what the
-// original answers.
+// its written ID (`round_trip`, whose contract says that all nonempty ones come back). The file's other bytes are
+// marks, or what an earlier list left there. It prints for each list what is given; the number of objects, how many
+// nonempty ones come back with all their bytes, the lookup3 of the joined IDs and of the file; and for each empty
+// object what reading answers. The file stdout beside src/ holds what the original answers.
 use checksum::jenkins_lookup3;
 use fractal_heap::header::FractalHeapHeader;
 use managed_ids::write_managed_id;

@@ -18,7 +18,7 @@ use Rattle.plan.specs.Answer.{totals, answer}
 use Rattle.plan_checks.specs.Checks.{sizesChecked, placesChecked, widthChecked, inputChecked}
 use Rattle.little_endian.specs.LittleEndian.{le, value, leAt}
 use lib.Count.{leadingZeros}
-use Rattle.heap_rows.specs.Rows.{log2, blockSize, directRows, sizeToRows, heapSize, slotSize}
+use Rattle.heap_rows.specs.Rows.{blockSize, directRows, sizeToRows, heapSize, slotSize}
 use Rattle.heap_id_types.specs.IdTypes.{typeOf}
 use Rattle.heap_ids.specs.Id.{splitId, decodedId}
 use Rattle.tiny_objects.specs.Tiny.{tinyIn, tinyAt}
