@@ -1,6 +1,6 @@
 -- Laws of the ID writer: its stores are one store, made where the test passed.
 use Prim.Native.Nat.{ℕ, suc, _+_, _≤_}
-use mathlib.Core.Path.{_≡_, refl, sym, ap, _∙_}
+use mathlib.Core.Path.{_≡_, sym, ap, _∙_}
 use mathlib.Core.List.{List, [], _∷_, _++_}
 use native.Mathlib.Omega.{arith}
 use native.Mathlib.Nat.{add-zero, add-suc, suc-add}
