@@ -9,15 +9,12 @@ use Rattle.little_endian.proofs.LittleEndian.{length-le}
 use Rattle.checksum.specs.Lookup3.{hashlittle}
 use Rattle.table.specs.Table.{fixed}
 use Rattle.table.specs.Sizes.{offsetBytes, directHeader}
+use Rattle.table.proofs.Sizes.{header-is}
 use Rattle.region_blocks.specs.Blocks.{directSignature, blockHead, directBody, directBlock}
 use Rattle.region_blocks.specs.Storing.{stored}
 use Rattle.region_blocks.proofs.Lengths.{body-length}
 use Rattle.region_blocks.proofs.Storing.{stored-append, stored-then, stored-inside, stored-read}
 use Rattle.region_blocks.proofs.Writing.{direct-head, head-length}
-
-pub header-is : (w : ℕ) → directHeader fixed w ≡ 14 + w
-unfolding directHeader offsetBytes
-header-is w = omega arith
 
 four-zeros : le 4 0 ≡ replicate 4 0
 unfolding le

@@ -4,6 +4,7 @@ ghost use Prim.Native.Nat.{_+_, min};
 ghost use Rattle.objects_back.specs.Backs.{backOne, backs};
 use fields::has_room;
 use fractal_heap::header::FractalHeapHeader;
+use numbers::least;
 use object_back::comes_back;
 
 // 1 for a nonempty object that comes back.
@@ -25,13 +26,6 @@ fn back_one(
     } else {
         0
     }
-}
-
-// The smaller of two counts.
-fn least(x: usize, y: usize) -> usize
-    ensures { λ r. ⌜ r ≡ min x y ⌝ }
-{
-    if x < y { x } else { y }
 }
 
 // Where the next `size` of `total` bytes end.

@@ -7,7 +7,8 @@ use lib.ListN.{length, getD}
 use Rattle.little_endian.proofs.Widths.{legal-small}
 use Rattle.table.specs.Table.{fixed}
 use Rattle.table.specs.Slots.{Direct}
-use Rattle.table.specs.Sizes.{offsetBytes, directHeader}
+use Rattle.table.specs.Sizes.{directHeader}
+use Rattle.table.proofs.Sizes.{header-is}
 use Rattle.table_laws.proofs.Format.{slot-least, slots-meet, fixed-slot, slot-fixed}
 use Rattle.plan.specs.declared.ManagedPlan.{ManagedPlan}
 use Rattle.plan.specs.declared.Planned.the-variants.{Accepted}
@@ -28,11 +29,6 @@ spaced-apart (none l) i j u v = absurd (omega arith)
 spaced-apart (more l s) i zero u v = absurd (omega arith)
 spaced-apart (more l s) zero (suc j) u v = spaced-from s j (omega arith)
 spaced-apart (more l s) (suc i) (suc j) u v = spaced-apart s i j (omega arith) (omega arith)
-
--- a direct block header has 14 + w bytes
-pub header-is : (w : ℕ) → directHeader fixed w ≡ 14 + w
-unfolding directHeader offsetBytes
-header-is w = omega arith
 
 module _ (xs : List ℕ) (o b w : ℕ) (p : ManagedPlan) (e : answer xs o b w ≡ Accepted p) where
   -- a heap offset is a byte of one object at most

@@ -13,6 +13,7 @@ use Rattle.table.specs.Table.{fixed, rowBits, rowOffset, rowIn, rowOf}
 use Rattle.table.specs.Slots.{Direct, slotIn, slotBits, slotAt}
 use Rattle.table.specs.Sizes.{directHeader}
 use Rattle.table.specs.Capacity.{capacity}
+use Rattle.table.proofs.Sizes.{header-is}
 use Rattle.table.proofs.Rows.{row-lo, row-up, row-mono, row-29, heap-rows}
 use Rattle.table_laws.proofs.Format.{slot-least, fixed-slot, slot-fixed}
 use Rattle.plan_steps.specs.declared.State.{State}
@@ -27,7 +28,6 @@ use Rattle.plan_end.proofs.Room.{no-rows, rows-of-end}
 use Rattle.plan_laws.specs.Plans.{FewestRows, OneBlock}
 use Rattle.plan.proofs.Answering.{Went, accepted}
 use Rattle.plan_laws.proofs.Laying.{filledTo, Blocks, blocks, still-ok, starts-some, ran-ok, ran-laid}
-use Rattle.plan_laws.proofs.Objects.{header-is}
 
 -- ---- the totals of a state
 
@@ -73,7 +73,7 @@ closed-none : (w : ℕ) → closed fixed w (initial fixed w) ≡ oneBlock fixed 
 unfolding closed
 closed-none w = refl
 
-starts-none : (w : ℕ) → planStarts fixed w [] ≡ 0 ∷ []
+pub starts-none : (w : ℕ) → planStarts fixed w [] ≡ 0 ∷ []
 unfolding planStarts
 starts-none w = refl
 

@@ -19,7 +19,7 @@ use Rattle.plan.specs.Answer.{bareTotals, rowTotals, totals, answer}
 use Rattle.plan.proofs.Answering.{accepted}
 use Rattle.plan_end.proofs.Room.{Reach, reach, no-rows}
 use Rattle.plan_laws.proofs.Laying.{Laid, end, same, new, blocks, still-ok, starts-some, ran-ok, ran-laid}
-use Rattle.plan_laws.proofs.Root.{no-root-rows, one-block}
+use Rattle.plan_laws.proofs.Root.{no-root-rows, one-block, starts-none}
 use Rattle.plan_laws.proofs.Tally.{tallied}
 use Rattle.region_laws.specs.Planned.{IndirectPlanned, BareRegion}
 use Rattle.region_laws.proofs.Starts.{Placed, none, more, lastEnd}
@@ -130,12 +130,8 @@ module _ (w x : ℕ) (xs : List ℕ) (p : ManagedPlan) (s : State) (ran : run fi
             opened = laid-opened laid-all ∙ zero-add _;
           }
 
-none-starts : (w : ℕ) → planStarts fixed w [] ≡ 0 ∷ []
-unfolding planStarts
-none-starts w = refl
-
 pub rooted : (xs : List ℕ) (o b w : ℕ) (p : ManagedPlan) → answer xs o b w ≡ Accepted p → 0 < p .«root_rows» → Rooted w xs p
-rooted [] o b w p e l = absurd (let z = one-block [] o b w p e (none-starts w) in omega arith)
+rooted [] o b w p e l = absurd (let z = one-block [] o b w p e (starts-none w) in omega arith)
 rooted (x ∷ xs) o b w p e l = let G = accepted (x ∷ xs) o b w p e .1 in rooted-some w x xs p (G .state) (G .ran) (G .totals-is) l
 
 -- ---- the theorems

@@ -1,10 +1,10 @@
 // What the programs print with: text, numbers, bytes, lists and answers; and the pseudo-random bytes that they
 // work on. It serves the programs alone: what is printed is held to a recorded file, and no contract can speak of it.
 ghost use mathlib.Core.Path.{_≡_};
-ghost use Prim.Native.Nat.{min};
 ghost use lib.ListN.{length};
 ghost use Rattle.report.specs.Sequence.{bytesAfter};
 use libc::STDOUT_FILENO;
+use numbers::least;
 
 pub fn text(bytes: &[u8]) {
     io::write_all(STDOUT_FILENO, bytes);
@@ -26,12 +26,6 @@ pub fn dump(bytes: &[u8]) {
         hex_byte(bytes[i]);
         i = i + 1;
     }
-}
-
-pub fn least(x: usize, y: usize) -> usize
-    ensures { λ r. ⌜ r ≡ min x y ⌝ }
-{
-    if x < y { x } else { y }
 }
 
 // The numbers of a list in their order, as one: s' = (31 s + number) mod 1,000,000,007.

@@ -6,6 +6,8 @@
 use checksum::jenkins_lookup3;
 use fractal_heap::header::FractalHeapHeader;
 use managed_ids::write_managed_id;
+use numbers::least;
+use numbers::saturating_add;
 use object_reads::fixed_header;
 use object_reads::read_object;
 use plan::ManagedPlan;
@@ -14,7 +16,6 @@ use refusals::Answer;
 use refusals::refused;
 use report::answer;
 use report::fill;
-use report::least;
 use report::list;
 use report::number;
 use report::text;

@@ -11,6 +11,7 @@ use Rattle.refusals.specs.declared.FormatError.{FormatError}
 use Rattle.little_endian.specs.Widths.{legal}
 use Rattle.little_endian.proofs.Widths.{legal-small}
 use Rattle.fields.specs.declared.Checked.{Checked}
+use Rattle.fields.proofs.Fields.{passed}
 use Rattle.fields.specs.declared.Checked.the-variants.{Passed, Refused as NotPassed}
 use Rattle.table.specs.Capacity.{sum}
 use Rattle.plan_checks.specs.Checks.{placesChecked, thenChecked}
@@ -68,17 +69,13 @@ kept : (b : Bool) (e : FormatError) (d : Checked) → thenChecked (cond b Passed
 kept true e d h = (refl, h)
 kept false e d h = absurd (let z : _≡_ {A = ℕ} 0 1 = cc in omega arith)
 
-kept-last : (b : Bool) (e : FormatError) → cond b Passed (NotPassed e) ≡ Passed → b ≡ true
-kept-last true e h = refl
-kept-last false e h = absurd (let z : _≡_ {A = ℕ} 0 1 = cc in omega arith)
-
 pub fit : (w sum given size lent header address : ℕ) → outputChecked w sum given size lent header address ≡ Passed → Fit w sum given size lent header address
 unfolding outputChecked bytesChecked placesChecked headerAddressChecked regionAddressChecked
 fit w sum given size lent header address e =
     let a = kept (eqb sum given) _ _ e in
     let b = kept (leb size lent) _ _ (a .1) in
     let c = kept (ltb header (undefinedAddress w)) _ _ (b .1) in
-    let d = kept-last (leb (address + size) (undefinedAddress w)) _ (c .1) in
+    let d = passed (leb (address + size) (undefinedAddress w)) _ (c .1) in
     record {
       bytes = eqb-true sum given (a .0);
       room = leb-true size lent (b .0);

@@ -2,7 +2,8 @@
 use native.Mathlib.Omega.{arith}
 use mathlib.Core.Path.{_≡_, _∙_}
 use Prim.Native.Nat.{_+_}
-use Rattle.direct_block.proofs.Filling.{header-is, written}
+use Rattle.table.proofs.Sizes.{header-is}
+use Rattle.direct_block.proofs.Filling.{written}
 use borrow.Author.Needs.{needs}
 use Rattle.direct_block.proofs.write_direct_block.Statement.{statement}
 use Rattle.direct_block.proofs.write_direct_block.Tie as tie
