@@ -23,6 +23,7 @@ from hdf5_messages import due_messages
 from made_files import WIDTHS, created, some_size, some_value
 
 TYPES = ["managed", "huge", "tiny"]  # of heap IDs
+COMMAND = "target/poilures"  # where it is built, some objects are read by it, too
 KINDS = ["empty", "direct", "indirect", "nested"]  # of heaps: no block, or indirect ones above the direct
 
 
@@ -134,7 +135,15 @@ def check_object(heap, heap_id, due, read, decoded):
     expect(heap.image.data[place : place + length] == due, f"bytes of {heap_id.hex()}")
 
 
-def check_index(program, name, heap, tree, due):
+def check_command(name, heap, heap_id, due):
+    """The command finds the widths in the file, and prints an object's bytes; a huge one it does not read."""
+    words = [COMMAND, "read", name, str(heap.address), heap_id.hex()]
+    run = subprocess.run(words, stdout=subprocess.PIPE, stderr=subprocess.DEVNULL)
+    answer = (1, b"") if heap_id[0] >> 4 & 3 == 1 else (0, due)
+    expect((run.returncode, run.stdout) == answer, f"{' '.join(words)}: {run}")
+
+
+def check_index(program, name, heap, tree, due, counts):
     """Every ID of an index, whose keys must be those of the messages; returns the IDs."""
     keys, ids = zip(*(form.key_and_id(tree.kind, record) for record in tree.records))
     expect(sorted(keys) == sorted(due), "keys of an index")
@@ -142,9 +151,12 @@ def check_index(program, name, heap, tree, due):
     decoded = ask(program, name, heap.image, heap.address, ids, "decode")
     for key, heap_id, *answers in zip(keys, ids, read, decoded):
         check_object(heap, heap_id, due[key], *answers)
-    counts = collections.Counter(heap_id[0] >> 4 & 3 for heap_id in ids)
+    for key, heap_id in list(zip(keys, ids))[:5] if os.path.exists(COMMAND) else []:
+        check_command(name, heap, heap_id, due[key])
+        counts["command"] += 1
+    numbers = collections.Counter(heap_id[0] >> 4 & 3 for heap_id in ids)
     stored = [heap.managed_count, heap.huge_count, heap.tiny_count]
-    expect([counts[kind] for kind in range(3)] == stored, "numbers of objects")
+    expect([numbers[kind] for kind in range(3)] == stored, "numbers of objects")
     return ids
 
 
@@ -156,7 +168,7 @@ def check_heap(program, name, image, owner, kind, counts):
     address, trees = dense
     heap = form.Heap(image, address)
     for tree, due in zip(trees, due_messages(image, owner, kind)):
-        ids = check_index(program, name, heap, form.BTree(image, tree), due)
+        ids = check_index(program, name, heap, form.BTree(image, tree), due, counts)
     heap.ids = [heap_id for heap_id in ids if heap_id[0] >> 4 & 3 == 0]
     if not heap.blocks:
         expect(ask(program, name, image, address, [bytes(7)]) == [(1, 1, 0)], "an undefined root")
@@ -297,6 +309,8 @@ def report(counts, numbers, filtered):
     )
     debugged = f"{counts['h5debug']} headers as it tells them" if counts["h5debug"] else "not at hand"
     print(f"real files: h5debug: {debugged}")
+    commanded = f"{counts['command']} objects" if counts["command"] else "not built"
+    print(f"real files: read by the command: {commanded}")
     heaps = ", ".join(f"{counts[kind]} {kind}" for kind in KINDS)
     total = sum(counts[kind] for kind in KINDS)
     print(
