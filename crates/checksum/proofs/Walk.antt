@@ -1,12 +1,14 @@
 -- The loop of `jenkins_lookup3` over the groups: how it starts, goes on and ends.
 use mathlib.Core.Path.{_≡_, sym, ap, _∙_}
 use mathlib.Core.List.{List}
-use Prim.Native.Nat.{ℕ, suc, _+_, _-_, _*_, _≤_, _<_}
+use Prim.Native.Nat.{ℕ, suc, _+_, _-_, _*_, _%_, _^_, _≤_, _<_}
 use native.Mathlib.Omega.{arith}
 use lib.ListN.{length, drop, length-drop}
 use borrow.Author.Tests.{eq-eqb, ne-eqb}
 use Rattle.lookup3_mix.specs.declared.State.{State}
-use Rattle.checksum.specs.Requires.{Tail}
+use Rattle.checksum.specs.Requires.{Tail, Short}
+use Rattle.lookup3_mix.specs.Words.{add32}
+use Rattle.checksum.proofs.Switch.{tail-group}
 use Rattle.lookup3_mix.specs.Mix.{mixed, finalMixed}
 use Rattle.checksum.specs.Lookup3.{grouped, run, groupsOf, begun, body, tailOf, switched, ended, hashlittle}
 
@@ -73,3 +75,13 @@ module _ {bytes : List ℕ} {s : State} {at : ℕ} (w : Walk bytes s at) where
     unfolding hashlittle ended
     walk-tail e =
         rw (ne-eqb (length (tailOf bytes)) 0 (λ z. e (omega (arith, tail-length, w .inside))), tail-here, words-done)
+
+-- 5 to 12 bytes: no group is mixed, and all of them are the tail
+pub short-ended : (bytes : List ℕ) (x : ℕ) → x ≡ add32 0xdeadbeef (length bytes % 2 ^ 32) → Short bytes → finalMixed (grouped bytes 0 (record { a = x; b = x; c = x })) .c ≡ hashlittle bytes
+unfolding begun add32
+short-ended bytes x e h =
+    let fit : x < 2 ^ 32 = omega (arith, e) in
+    let w : Walk bytes (record { a = x; b = x; c = x }) 0 = walk-start bytes (record { a = x; b = x; c = x }) (rw e) in
+    let all : length bytes - 0 ≤ 12 = omega (arith, h .most) in
+    let some : length bytes ≡ 0 → ⊥ = λ z. absurd (omega (arith, z, h .more)) in
+    ap (λ (t : State). finalMixed t .c) (tail-group (walk-ended w all some) (record { a = fit; b = fit; c = fit })) ∙ walk-tail w all some

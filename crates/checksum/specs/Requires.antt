@@ -8,4 +8,9 @@ use lib.ListN.{length}
 pub record Tail (bytes : List ℕ) (at : ℕ) : Type 0 where
   pub some : at < length bytes
   pub most : length bytes ≤ at + 12
-  pub first : length bytes < 4 → at ≡ 0
+  pub first : length bytes ≤ 4 → at ≡ 0
+
+-- more bytes than a word has, and no more than a group has
+pub record Short (bytes : List ℕ) : Type 0 where
+  pub more : 5 ≤ length bytes
+  pub most : length bytes ≤ 12

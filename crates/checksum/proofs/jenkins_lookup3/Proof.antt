@@ -1,10 +1,11 @@
--- `jenkins_lookup3` meets its contract: the groups by the laws of the walk, then the tail. Assumes nothing.
+-- `jenkins_lookup3` meets its contract: 5 to 12 bytes apart; the groups by the laws of the walk, then the tail.
+-- Assumes nothing.
 use Prim.Native.Nat.{_-_}
 use native.Mathlib.Omega.{arith}
 use lib.ListN.{length}
 use Rattle.lookup3_mix.specs.Words.{add32}
 use Rattle.checksum.specs.Lookup3.{begun}
-use Rattle.checksum.proofs.Walk.{Walk, walk-start, walk-more, walk-empty, walk-ended, walk-tail}
+use Rattle.checksum.proofs.Walk.{Walk, walk-start, walk-more, walk-empty, walk-ended, walk-tail, short-ended}
 use Rattle.checksum.proofs.jenkins_lookup3.Statement.{statement}
 use Rattle.checksum.proofs.jenkins_lookup3.Tie as tie
 
@@ -20,9 +21,19 @@ cast-wrapping-add-u32 c = omega arith
 wrapping-add-u32-requires : tie.Need-wrapping-add-u32-requires Inv-loop μ-loop
 wrapping-add-u32-requires c κs = tt
 
+wrapping-sub-usize-requires : tie.Need-wrapping-sub-usize-requires Inv-loop μ-loop
+wrapping-sub-usize-requires c κs = tt
+
+short-checksum-requires : tie.Need-short-checksum-requires Inv-loop μ-loop
+short-checksum-requires c κs = record { more = omega (arith, c .before .wrapping-sub-usize .ensures, c .if1 .taken); most = omega (arith, c .before .wrapping-sub-usize .ensures, c .if1 .taken) }
+
+returns : tie.Need-returns Inv-loop μ-loop
+unfolding add32
+returns c = rw (c .short-checksum .ensures) (short-ended _ _ (c .before .before .before .wrapping-add-u32 .ensures) (record { more = omega (arith, c .before .before .wrapping-sub-usize .ensures, c .before .if1 .taken); most = omega (arith, c .before .before .wrapping-sub-usize .ensures, c .before .if1 .taken) }))
+
 loop-holds : tie.Need-loop-holds Inv-loop μ-loop
 unfolding begun add32
-loop-holds c = walk-start _ _ (rw (c .wrapping-add-u32 .ensures))
+loop-holds c = walk-start _ _ (rw (c .before .before .wrapping-add-u32 .ensures))
 
 sub-loop : tie.Need-sub-loop Inv-loop μ-loop
 sub-loop c = omega arith
@@ -42,17 +53,17 @@ loop-less c = omega arith
 loop-again : tie.Need-loop-again Inv-loop μ-loop
 loop-again c = rw (c .mix .ensures, c .before .add-group .ensures) (walk-more (c .before .before .before .loop .inv) (omega arith))
 
-returns : tie.Need-returns Inv-loop μ-loop
-returns c = walk-empty (c .before .before .loop .inv) (omega arith) (c .if1 .taken)
+returns-2 : tie.Need-returns-2 Inv-loop μ-loop
+returns-2 c = walk-empty (c .before .before .loop .inv) (omega arith) (c .if2 .taken)
 
 add-tail-requires : tie.Need-add-tail-requires Inv-loop μ-loop
-add-tail-requires c κs = walk-ended (c .before .before .loop .inv) (omega arith) (c .if1 .left)
+add-tail-requires c κs = walk-ended (c .before .before .loop .inv) (omega arith) (c .if2 .left)
 
 final-mix-requires : tie.Need-final-mix-requires Inv-loop μ-loop
 final-mix-requires c κs = tt
 
-returns-2 : tie.Need-returns-2 Inv-loop μ-loop
-returns-2 c = rw (c .final-mix .ensures, c .before .add-tail .ensures) (walk-tail (c .before .before .before .before .loop .inv) (omega arith) (c .before .before .if1 .left))
+returns-3 : tie.Need-returns-3 Inv-loop μ-loop
+returns-3 c = rw (c .final-mix .ensures, c .before .add-tail .ensures) (walk-tail (c .before .before .before .before .loop .inv) (omega arith) (c .before .before .if2 .left))
 
 pub jenkins-lookup3-spec : {M : Type 1} → statement M
 jenkins-lookup3-spec =
@@ -62,6 +73,9 @@ jenkins-lookup3-spec =
     μ-loop
     cast-wrapping-add-u32
     wrapping-add-u32-requires
+    wrapping-sub-usize-requires
+    short-checksum-requires
+    returns
     loop-holds
     sub-loop
     add-group-requires
@@ -69,7 +83,7 @@ jenkins-lookup3-spec =
     add-at
     loop-less
     loop-again
-    returns
+    returns-2
     add-tail-requires
     final-mix-requires
-    returns-2)
+    returns-3)
