@@ -9,8 +9,6 @@ use Rattle.plan.specs.declared.ManagedPlan.{ManagedPlan}
 use Rattle.plan.specs.declared.Planned.{Planned}
 use Rattle.plan.specs.declared.Planned.the-variants.{Accepted}
 use Rattle.plan.specs.Answer.{written}
-use Rattle.write_answer.specs.Answer.{serialized}
-use Rattle.fractal_heap_write.specs.Serialize.{regionWritten}
 use Rattle.fractal_heap.specs.declared.header.FractalHeapHeader.{FractalHeapHeader}
 use Rattle.object_reads.specs.Objects.{fixedHeader}
 use Rattle.objects_back.specs.Backs.{backs}

@@ -5,8 +5,6 @@ use mathlib.Core.List.{List, [], _∷_}
 use lib.Dec.{ltb}
 use Rattle.plan.specs.declared.Planned.{Planned}
 use Rattle.plan.specs.declared.Planned.the-variants.{Accepted, Refused as NotPlanned}
-use Rattle.write_answer.specs.Answer.{serialized}
-use Rattle.fractal_heap_write.specs.Serialize.{regionWritten}
 use Rattle.round_trip.specs.declared.RoundTrip.{RoundTrip}
 use Rattle.round_trip.specs.declared.RoundTrip.the-variants.{Back, Refused}
 
