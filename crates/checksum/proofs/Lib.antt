@@ -1,4 +1,3 @@
 pub mod Switch
 pub mod Tails
 pub mod Walk
-pub mod Worked

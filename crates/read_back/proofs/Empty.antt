@@ -5,7 +5,7 @@ use mathlib.Core.Logic.{_⊎_, inl, inr}
 use mathlib.Core.List.{List, [], _∷_}
 use native.Mathlib.Omega.{arith}
 use native.Mathlib.Decide.{ℕ-discrete, decLe, decLt}
-use lib.ListN.{length, getD}
+use lib.ListN.{length, take, getD}
 use borrow.Author.Tests.{le-ltb}
 use Rattle.refusals.specs.declared.FormatError.the-variants.{UnexpectedEof, HeapIdTooLarge}
 use Rattle.fields.specs.declared.Checked.the-variants.{Refused as NotPassed}
@@ -17,8 +17,9 @@ use Rattle.numbers.proofs.Saturating.{sat-fits}
 use Rattle.heap_blocks.specs.declared.Found.the-variants.{At, Refused}
 use Rattle.heap_blocks.specs.Blocks.{directAt}
 use Rattle.fractal_heap.specs.declared.header.FractalHeapHeader.{FractalHeapHeader}
-use Rattle.fractal_heap.specs.Read.{rootAt}
+use Rattle.fractal_heap.specs.Read.{rootAt, managedAt}
 use Rattle.id_checks.specs.Checks.{idChecked}
+use Rattle.managed_ids.specs.Ids.{idWritten}
 use Rattle.read_laws.proofs.Missing.{Clear, none, more}
 use Rattle.read_back.specs.ReadBack.{Call, Written, HoldsRegion, HeaderOf, offsetOf, EmptyRead, accepts, refuses, EmptyAnswered}
 use Rattle.read_back.proofs.Ids.{id-passes}
@@ -74,6 +75,13 @@ module _ (c : Call) (p : ManagedPlan) (W : Written c p)
     found-there : x < 2 ^ 40 → rootAt h F x 0 w ≡ directAt F (place n l) (its n l) x 0 → EmptyRead F h w x (p .«root_rows»)
     found-there s e = accepts (place n l + (x - its n l)) in-file (λ id k. by-id h F w x 0 c p T s (omega arith) id k ∙ e ∙ nothing-read)
 
+  -- where no placed block holds the offset, and the root has rows
+  pub missed-there : (n : ℕ) → n < length (starts c p W) → 0 < p .«root_rows» → Clear fixed x (starts c p W) → x < 2 ^ 40 → (id : List ℕ) → 8 ≤ length id
+      → managedAt h F (take 8 (idWritten fixed x 0 id)) w ≡ Refused (UnexpectedEof x (length F))
+  missed-there n l r C s id k =
+      by-id h F w x 0 c p T s (omega arith) id k ∙ by-missing c p W n l F H h T x 0 r C
+      ∙ ap (λ (y : ℕ). Refused (UnexpectedEof y (length F))) (sat-fits (x + 0) (omega arith) ∙ (let e : x + 0 ≡ x = omega arith in e))
+
   -- at an offset that lies at or before the end of the n-th block
   read-empty : (n : ℕ) (l : n < length (starts c p W)) → x ≤ its n l + slotAt fixed (its n l) .size → x < 2 ^ 40 → EmptyRead F h w x (p .«root_rows»)
   read-empty n l hi s = go (ℕ-discrete (p .«root_rows») 0) (holder fixed x (starts c p W))
@@ -83,10 +91,7 @@ module _ (c : Call) (p : ManagedPlan) (W : Written c p)
       go (no z) (inl K) =
           let u = K .to in
           found-there (K .n) (K .placed) (omega arith) s (root-finds c p W (K .n) (K .placed) F H h T x 0 (K .from) (K .to))
-      go (no z) (inr C) =
-          refuses (omega arith)
-          (λ id k. by-id h F w x 0 c p T s (omega arith) id k ∙ by-missing c p W n l F H h T x 0 (omega arith) C
-          ∙ ap (λ (y : ℕ). Refused (UnexpectedEof y (length F))) (sat-fits (x + 0) (omega arith) ∙ (let e : x + 0 ≡ x = omega arith in e)))
+      go (no z) (inr C) = refuses (omega arith) (missed-there n l (omega arith) C s)
 
 -- every empty object
 pub empty-answered : (c : Call) (p : ManagedPlan) → Written c p → (file : List ℕ) → HoldsRegion file c p → (h : FractalHeapHeader) → HeaderOf h c p

@@ -1,12 +1,15 @@
 -- The worked cases hold of the definitions.
-use Prim.Native.Nat.{ℕ, max}
-use mathlib.Core.Path.{_≡_, refl}
-use mathlib.Core.List.{List}
-use lib.ListN.{length}
+use Prim.Native.Nat.{ℕ, _^_, _<_, max}
+use mathlib.Core.Path.{_≡_, refl, sym, ap, _∙_, subst₂}
+use mathlib.Core.List.{List, [], _∷_}
+use lib.ListN.{length, getD}
 use native.Mathlib.Omega.{arith}
+use native.Mathlib.Decide.{ℕ-discrete}
 use Rattle.little_endian.specs.Widths.{legal}
 use Rattle.numbers.specs.Numbers.{saturated, log2}
-use Rattle.table.specs.Table.{rowBits, rowOffset, rowIn, rowOf, maxRows, coveringIn, covering}
+use Rattle.lookup3_mix.specs.Words.{add32}
+use Rattle.checksum.specs.Lookup3.{run as mixedGroups, groupsOf, begun, body, tailOf, ended, hashlittle}
+use Rattle.table.specs.Table.{fixed, rowBits, rowOffset, rowIn, rowOf, maxRows, coveringIn, covering}
 use Rattle.table.specs.Slots.{slotStart, slotIn, slotBits, slotAt, enteredIn, entered}
 use Rattle.table.specs.Sizes.{offsetBytes, directHeader, maxManaged, indirectSize}
 use Rattle.table.specs.Capacity.{sum, blockCapacity, capacities, capacity}
@@ -24,8 +27,13 @@ use Rattle.heap_ids.specs.Id.{splitId, decodedId}
 use Rattle.tiny_objects.specs.Tiny.{tinyIn, tinyAt}
 use Rattle.id_checks.specs.Checks.{idLength, idChecked}
 use Rattle.managed_ids.specs.Ids.{managedId}
+use Rattle.region_laws.proofs.Indirect.{bare-planned}
 use Rattle.region_laws.proofs.Region.{region-length, root-place}
-use Rattle.worked.specs.Cases.{Region, Both, All, cases}
+use Rattle.read_laws.proofs.Missing.{Clear, none, more}
+use Rattle.read_back.specs.ReadBack.{Call, offsetOf}
+use Rattle.read_back.proofs.Finding.{planned as planned-call}
+use Rattle.read_back.proofs.Empty.{missed-there}
+use Rattle.worked.specs.Cases.{Region, callFor, Unfound, Both, All, cases}
 
 both : {P Q : Type 0} → P → Q → Both P Q
 both p q = record { first = p; rest = q }
@@ -33,8 +41,37 @@ both p q = record { first = p; rest = q }
 planned : (w : ℕ) (xs : List ℕ) (p : ManagedPlan) → answer xs (length xs) (max 1 (length xs)) w ≡ Accepted p → Region w xs p
 planned w xs p e = record { size = region-length xs (length xs) (max 1 (length xs)) w p e; root = root-place xs (length xs) (max 1 (length xs)) w p e }
 
+module _ (w : ℕ) (xs ss : List ℕ) (starts : planStarts fixed w xs ≡ ss) (two : 1 < length ss) where
+  -- more than one block is under an indirect root
+  rows : (o b : ℕ) (p : ManagedPlan) → answer xs o b w ≡ Accepted p → 0 < p .«root_rows»
+  rows o b p e = go (ℕ-discrete (p .«root_rows») 0)
+    where
+      go : Dec (p .«root_rows» ≡ 0) → 0 < p .«root_rows»
+      go (yes z) = absurd (let n = ap length (sym (bare-planned xs o b w p e z .blocks) ∙ starts) in omega arith)
+      go (no z) = omega arith
+
+  -- an empty object that no placed block holds is not found there
+  missing : (i x : ℕ) → offsetOf w xs i ≡ x → i < length xs → getD xs i 0 ≡ 0 → Clear fixed x ss → x < 2 ^ 40 → Unfound w xs i
+  missing i x is l e C small = record {
+    there = l;
+    empty = e;
+    read = λ o b js lent address header p W file H h T.
+        (let c : Call = callFor w xs o b js lent address header in
+        missed-there c p W file H h T (offsetOf w xs i) 0 (let n = ap length starts in omega arith) (rows o b p (planned-call c p W))
+        (subst₂ (Clear fixed) (sym is) (sym starts) C) (omega arith));
+  }
+
+-- neither of the first two slots holds 2,048
+after-two : Clear fixed 2048 (0 ∷ 1024 ∷ [])
+unfolding slotAt slotBits slotIn rowBits rowOffset rowIn rowOf
+after-two = more {s = 0} (λ _. omega arith) (more {s = 1024} (λ _. omega arith) none)
+
+-- worked case 5's second sentence: after two blocks that are full the third object begins where no block is
+third-missed : planStarts fixed 8 (1002 ∷ 1002 ∷ 0 ∷ []) ≡ 0 ∷ 1024 ∷ [] → offsetOf 8 (1002 ∷ 1002 ∷ 0 ∷ []) 2 ≡ 2048 → Unfound 8 (1002 ∷ 1002 ∷ 0 ∷ []) 2
+third-missed starts is = missing 8 (1002 ∷ 1002 ∷ 0 ∷ []) (0 ∷ 1024 ∷ []) starts (omega arith) 2 2048 is (omega arith) refl after-two (omega arith)
+
 pub worked : All cases
-unfolding legal saturated le value leAt managedId idLength idChecked leadingZeros log2 blockSize directRows sizeToRows heapSize slotSize typeOf splitId decodedId tinyIn tinyAt rowBits rowOffset rowIn rowOf maxRows coveringIn covering slotStart slotIn slotBits slotAt enteredIn entered offsetBytes directHeader maxManaged indirectSize sum blockCapacity capacities capacity openIn openAt stepOf runFrom offsetsFrom startsFrom run planOffsets planStarts closed rootRows totals sizesChecked placesChecked widthChecked inputChecked answer
+unfolding add32 mixedGroups groupsOf begun body tailOf ended hashlittle legal saturated le value leAt managedId idLength idChecked leadingZeros log2 blockSize directRows sizeToRows heapSize slotSize typeOf splitId decodedId tinyIn tinyAt rowBits rowOffset rowIn rowOf maxRows coveringIn covering slotStart slotIn slotBits slotAt enteredIn entered offsetBytes directHeader maxManaged indirectSize sum blockCapacity capacities capacity openIn openAt stepOf runFrom offsetsFrom startsFrom run planOffsets planStarts closed rootRows totals sizesChecked placesChecked widthChecked inputChecked answer
 worked =
     both (refl, refl, refl, planned _ _ _ refl)
     (both (refl, refl, refl, planned _ _ _ refl)
@@ -42,16 +79,20 @@ worked =
     (both (refl, refl, refl, planned _ _ _ refl)
     (both (refl, refl, refl, planned _ _ _ refl)
     (both (refl, refl, refl, planned _ _ _ refl)
+    (both (third-missed refl refl)
+    (both (refl, refl, refl, planned _ _ _ refl)
     (both refl
     (both (refl, refl, refl, planned _ _ _ refl)
     (both (refl, refl)
     (both refl
     (both (omega arith, omega arith, refl)
     (both (omega arith, refl, refl, omega arith, refl, refl)
+    (both refl
     (both (refl, refl, refl, planned _ _ _ refl)
     (both refl
     (both refl
     (both refl
     (both refl
     (both refl
-    refl)))))))))))))))))
+    (both refl
+    refl)))))))))))))))))))))
