@@ -1,10 +1,12 @@
 -- The loop of `jenkins_lookup3` over the groups: how it starts, goes on and ends.
-use mathlib.Core.Path.{_≡_, sym, ap, _∙_}
+use mathlib.Core.Path.{_≡_, refl, sym, ap, _∙_}
+use mathlib.Core.Bool.{Bool, true, false, _&&_}
 use mathlib.Core.List.{List}
 use Prim.Native.Nat.{ℕ, suc, _+_, _-_, _*_, _%_, _^_, _≤_, _<_}
 use native.Mathlib.Omega.{arith}
 use lib.ListN.{length, drop, length-drop}
-use borrow.Author.Tests.{eq-eqb, ne-eqb}
+use lib.Dec.{leb}
+use borrow.Author.Tests.{leb-true, eq-eqb, ne-eqb}
 use Rattle.lookup3_mix.specs.declared.State.{State}
 use Rattle.checksum.specs.Requires.{Tail, Short}
 use Rattle.lookup3_mix.specs.Words.{add32}
@@ -76,7 +78,16 @@ module _ {bytes : List ℕ} {s : State} {at : ℕ} (w : Walk bytes s at) where
     walk-tail e =
         rw (ne-eqb (length (tailOf bytes)) 0 (λ z. e (omega (arith, tail-length, w .inside))), tail-here, words-done)
 
--- 5 to 12 bytes: no group is mixed, and all of them are the tail
+-- 5 to 12 bytes
+pub is-short : (bytes : List ℕ) → (leb 5 (length bytes) && leb (length bytes) 12) ≡ true → Short bytes
+is-short bytes e = by (leb 5 (length bytes)) (leb (length bytes) 12) refl refl e
+  where
+    by : (x y : Bool) → leb 5 (length bytes) ≡ x → leb (length bytes) 12 ≡ y → (x && y) ≡ true → Short bytes
+    by true true f g e = record { more = leb-true 5 (length bytes) f; most = leb-true (length bytes) 12 g }
+    by true false f g e = absurd (let z : _≡_ {A = ℕ} 0 1 = cc in omega arith)
+    by false y f g e = absurd (let z : _≡_ {A = ℕ} 0 1 = cc in omega arith)
+
+-- no group of them is mixed, and all of them are the tail
 pub short-ended : (bytes : List ℕ) (x : ℕ) → x ≡ add32 0xdeadbeef (length bytes % 2 ^ 32) → Short bytes → finalMixed (grouped bytes 0 (record { a = x; b = x; c = x })) .c ≡ hashlittle bytes
 unfolding begun add32
 short-ended bytes x e h =

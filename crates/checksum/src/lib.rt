@@ -1,6 +1,6 @@
 // HDF5's metadata checksum: hashlittle of Bob Jenkins' lookup3.c with initial value 0.
 ghost use mathlib.Core.Path.{_≡_};
-ghost use mathlib.Core.Bool.{cond};
+ghost use mathlib.Core.Bool.{cond, _&&_};
 ghost use Prim.Native.Nat.{_+_, _-_, _*_, _/_, _^_, _≤_, _<_};
 ghost use lib.Dec.{leb};
 ghost use lib.ListN.{length, drop};
@@ -16,7 +16,6 @@ use lookup3_mix::final_mix;
 use lookup3_mix::mix;
 use numbers::least;
 use std::num::wrapping_add_u32;
-use std::num::wrapping_sub_usize;
 
 // A word with the four bytes at `p` added.
 fn add_word(x: u32, bytes: &[u8], p: usize) -> u32
@@ -122,13 +121,22 @@ fn short_checksum(first: u32, bytes: &[u8]) -> u32
     s.c
 }
 
+// 5 to 12 bytes.
+fn is_short(n: usize) -> bool
+    ensures { λ r. ⌜ r ≡ (leb 5 n && leb n 12) ⌝ }
+{
+    if n < 5 {
+        return false;
+    }
+    n <= 12
+}
+
 // hashlittle(bytes, length, 0).
 pub fn jenkins_lookup3(bytes: &[u8]) -> u32
     ensures { λ r. ⌜ r ≡ hashlittle (now (bytes .entry)) ⌝ }
 {
     let first = wrapping_add_u32(0xdeadbeef, (bytes.len() % 0x1_0000_0000) as u32);
-    // 5 to 12 bytes, in one comparison: a smaller length wraps.
-    if wrapping_sub_usize(bytes.len(), 5) < 8 {
+    if is_short(bytes.len()) {
         return short_checksum(first, bytes);
     }
     let mut s = State {

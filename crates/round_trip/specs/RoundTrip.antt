@@ -3,6 +3,8 @@ use Prim.Native.Nat.{ℕ, _+_}
 use mathlib.Core.Bool.{cond}
 use mathlib.Core.List.{List, [], _∷_}
 use lib.Dec.{ltb}
+use Rattle.refusals.specs.Refusals.{answer, refusal}
+use Rattle.refusals.specs.declared.Answer.{Answer}
 use Rattle.plan.specs.declared.Planned.{Planned}
 use Rattle.plan.specs.declared.Planned.the-variants.{Accepted, Refused as NotPlanned}
 use Rattle.round_trip.specs.declared.RoundTrip.{RoundTrip}
@@ -17,3 +19,8 @@ nonempty (x ∷ xs) = cond (ltb 0 x) 1 0 + nonempty xs
 abbrev pub cameBack : Planned → ℕ → RoundTrip
 cameBack (Accepted p) n = Back n
 cameBack (NotPlanned e) n = Refused e
+
+-- a run: 0 and how many came back, or the writer's refusal
+abbrev pub roundTripAnswer : RoundTrip → Answer
+roundTripAnswer (Back n) = answer 0 n 0
+roundTripAnswer (Refused e) = refusal e

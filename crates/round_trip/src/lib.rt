@@ -6,17 +6,35 @@ ghost use Rattle.table.specs.Table.{fixed};
 ghost use Rattle.plan_steps.specs.Steps.{planOffsets, planStarts};
 ghost use Rattle.plan.specs.Answer.{written};
 ghost use Rattle.region_in_file.specs.InFile.{serializedAt, fileWritten};
-ghost use Rattle.round_trip.specs.RoundTrip.{nonempty, cameBack};
+ghost use Rattle.round_trip.specs.RoundTrip.{nonempty, cameBack, roundTripAnswer};
 use object_reads::fixed_header;
 use objects_back::read_back;
 use plan::Planned;
+use refusals::Answer;
 use refusals::FormatError;
+use refusals::refused;
 use region_in_file::serialize_at;
 
 // How many nonempty objects came back, or the writer's refusal.
 pub enum RoundTrip {
     Back(u64),
     Refused(FormatError),
+}
+
+impl RoundTrip {
+    // The answer in numbers: how many came back.
+    pub fn answer(self) -> Answer
+        ensures { λ r. ⌜ r ≡ roundTripAnswer self ⌝ }
+    {
+        match self {
+            RoundTrip::Back(count) => Answer {
+                number: 0,
+                first: count,
+                second: 0,
+            },
+            RoundTrip::Refused(e) => refused(e),
+        }
+    }
 }
 
 // Writes the region of the objects into `file` from the region's address on, and then reads all nonempty objects back.

@@ -19,7 +19,6 @@ use report::fill;
 use report::list;
 use report::number;
 use report::text;
-use round_trip::RoundTrip;
 use round_trip::round_trip;
 
 // The most objects of a list, and the bytes of the file.
@@ -113,13 +112,13 @@ fn go(
     file: &mut [u8],
     width: u8,
 ) {
-    match round_trip(sizes, offsets, blocks, objects, file, REGION, HEADER, width) {
-        RoundTrip::Refused(e) => told(refused(e)),
-        RoundTrip::Back(back) => {
-            let root = saturating_add(REGION, plan.root_place);
-            let header = fixed_header(root, (plan.root_rows % 0x1_0000) as u16);
-            came(back, file, header, sizes, offsets, width);
-        }
+    let a = round_trip(sizes, offsets, blocks, objects, file, REGION, HEADER, width).answer();
+    if a.number == 0 {
+        let root = saturating_add(REGION, plan.root_place);
+        let header = fixed_header(root, (plan.root_rows % 0x1_0000) as u16);
+        came(a.first, file, header, sizes, offsets, width);
+    } else {
+        told(a);
     }
 }
 

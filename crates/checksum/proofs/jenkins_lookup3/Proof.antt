@@ -1,11 +1,12 @@
 -- `jenkins_lookup3` meets its contract: 5 to 12 bytes apart; the groups by the laws of the walk, then the tail.
 -- Assumes nothing.
 use Prim.Native.Nat.{_-_}
+use mathlib.Core.Path.{sym, _∙_}
 use native.Mathlib.Omega.{arith}
 use lib.ListN.{length}
 use Rattle.lookup3_mix.specs.Words.{add32}
 use Rattle.checksum.specs.Lookup3.{begun}
-use Rattle.checksum.proofs.Walk.{Walk, walk-start, walk-more, walk-empty, walk-ended, walk-tail, short-ended}
+use Rattle.checksum.proofs.Walk.{Walk, walk-start, walk-more, walk-empty, walk-ended, walk-tail, is-short, short-ended}
 use Rattle.checksum.proofs.jenkins_lookup3.Statement.{statement}
 use Rattle.checksum.proofs.jenkins_lookup3.Tie as tie
 
@@ -21,15 +22,15 @@ cast-wrapping-add-u32 c = omega arith
 wrapping-add-u32-requires : tie.Need-wrapping-add-u32-requires Inv-loop μ-loop
 wrapping-add-u32-requires c κs = tt
 
-wrapping-sub-usize-requires : tie.Need-wrapping-sub-usize-requires Inv-loop μ-loop
-wrapping-sub-usize-requires c κs = tt
+is-short-requires : tie.Need-is-short-requires Inv-loop μ-loop
+is-short-requires c κs = tt
 
 short-checksum-requires : tie.Need-short-checksum-requires Inv-loop μ-loop
-short-checksum-requires c κs = record { more = omega (arith, c .before .wrapping-sub-usize .ensures, c .if1 .taken); most = omega (arith, c .before .wrapping-sub-usize .ensures, c .if1 .taken) }
+short-checksum-requires c κs = is-short _ (sym (c .before .is-short .ensures) ∙ c .if1 .taken)
 
 returns : tie.Need-returns Inv-loop μ-loop
 unfolding add32
-returns c = rw (c .short-checksum .ensures) (short-ended _ _ (c .before .before .before .wrapping-add-u32 .ensures) (record { more = omega (arith, c .before .before .wrapping-sub-usize .ensures, c .before .if1 .taken); most = omega (arith, c .before .before .wrapping-sub-usize .ensures, c .before .if1 .taken) }))
+returns c = rw (c .short-checksum .ensures) (short-ended _ _ (c .before .before .before .wrapping-add-u32 .ensures) (is-short _ (sym (c .before .before .is-short .ensures) ∙ c .before .if1 .taken)))
 
 loop-holds : tie.Need-loop-holds Inv-loop μ-loop
 unfolding begun add32
@@ -73,7 +74,7 @@ jenkins-lookup3-spec =
     μ-loop
     cast-wrapping-add-u32
     wrapping-add-u32-requires
-    wrapping-sub-usize-requires
+    is-short-requires
     short-checksum-requires
     returns
     loop-holds
