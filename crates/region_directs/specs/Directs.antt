@@ -1,5 +1,5 @@
--- The direct blocks of a region, as bytes (Format, Fractal Heap: Direct Block): each placed block with the
--- objects whose heap offsets lie in it.
+-- The direct blocks of a region, as bytes: each placed block with the objects whose heap offsets lie in it. HDF5 File
+-- Format Specification 3.0, III.G: a direct block has the size of its slot; 'Fractal Heap Direct Block', Object Data.
 use Prim.Native.Nat.{ℕ, _+_}
 use mathlib.Core.Bool.{_&&_, cond}
 use mathlib.Core.List.{List, [], _∷_, _++_}
