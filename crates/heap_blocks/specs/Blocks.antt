@@ -1,7 +1,7 @@
 -- Where an object of a heap lies, from the root block down, as the original walks. HDF5 File Format Specification 3.0,
 -- III.G, 'Fractal Heap Indirect Block': Child Direct Block #K Address, then Child Indirect Block #N Address, the
 -- entries here, row by row. That an undefined address is a block that is not there the text does not say: the original.
--- w is Size of Offsets, t the wanted heap offset. An address is a place in s, which has to begin at Base Address (II.A).
+-- w is Size of Offsets, t the wanted heap offset. An address is a place in s, which is to begin at Base Address (II.A).
 use Prim.Native.Nat.{ℕ, zero, suc, _+_, _-_, _^_, _/_}
 use mathlib.Core.List.{List}
 use mathlib.Core.Bool.{Bool, cond, not, _&&_}
