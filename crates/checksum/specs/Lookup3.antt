@@ -1,5 +1,6 @@
--- hashlittle with initial value 0, after lookup3.c (Bob Jenkins, May 2006, public domain). A comment
--- gives the C that a definition follows.
+-- HDF5 File Format Specification 3.0, I.A: every checksum is Jenkins' lookup3. lookup3.c (Bob Jenkins, May 2006, public
+-- domain), hashlittle, by the last of its three ways, byte by byte. That it is hashlittle with initval 0 the text does
+-- not say: document 01. A comment gives the C that a definition follows.
 use Prim.Native.Nat.{ℕ, zero, suc, _+_, _-_, _*_, _/_, _%_, _^_}
 use mathlib.Core.Bool.{cond}
 use mathlib.Core.List.{List}
@@ -15,7 +16,8 @@ unfoldable pub begun : ℕ → State
 begun n =
     let x = add32 0xdeadbeef (n % 2 ^ 32) in record { a = x; b = x; c = x }
 
--- the 12 bytes from p on:  a += k[0..4];  b += k[4..8];  c += k[8..12];
+-- the loop's twelve additions, of the 12 bytes from p on: four to a, four to b, four to c, shifted by 0, 8, 16 and 24
+-- bits
 unfoldable pub grouped : List ℕ → ℕ → State → State
 grouped bytes p s = record { a = add32 (s .a) (leAt bytes p 4); b = add32 (s .b) (leAt bytes (p + 4) 4); c = add32 (s .c) (leAt bytes (p + 8) 4) }
 
@@ -61,5 +63,6 @@ switched (suc n) tail s = switched n tail (caseMet (suc n) tail s)
 unfoldable pub ended : List ℕ → State → ℕ
 ended tail s = cond (eqb (length tail) 0) (s .c) (finalMixed (switched 12 tail s) .c)
 
+-- hashlittle(bytes, length, 0)
 unfoldable pub hashlittle : List ℕ → ℕ
 hashlittle bytes = ended (tailOf bytes) (body bytes)

@@ -1,5 +1,6 @@
 -- Addresses and lengths of a file: what is read at a place, and what is refused. Where the Rust checks, its
--- order and its pairs are kept.
+-- order and its pairs are kept. HDF5 File Format Specification 3.0, I.A: fields marked O have Size of Offsets bytes,
+-- those marked L Size of Lengths.
 use Prim.Native.Nat.{ℕ, _+_}
 use mathlib.Core.List.{List}
 use mathlib.Core.Bool.{cond}
@@ -40,10 +41,10 @@ module _ {A : Type 0} where
 unfoldable pub fieldAt : List ℕ → ℕ → ℕ → FormatError → Field
 fieldAt s p w e = cond (legal w) (ifPassed (lenChecked s p w) (leAt s p w)) (Refused e)
 
--- an address at p: 2 where w is no width
+-- an address at p, a field marked O: 2 where w is no width
 unfoldable pub offsetAt : List ℕ → ℕ → ℕ → Field
 offsetAt s p w = fieldAt s p w (InvalidOffsetSize w)
 
--- a length at p: 3 where w is no width
+-- a length at p, a field marked L: 3 where w is no width
 unfoldable pub lengthAt : List ℕ → ℕ → ℕ → Field
 lengthAt s p w = fieldAt s p w (InvalidLengthSize w)

@@ -1,6 +1,6 @@
 -- The header's fields by their places, and parsing: the fields where every test passes, else the first
--- refusal. HDF5 File Format Specification, Fractal Heap: the header. The places are those of
--- header_layout/specs/Layout.antt.
+-- refusal. HDF5 File Format Specification 3.0, III.G, 'Fractal Heap Header'. The places are those of
+-- header_layout/specs/Layout.antt, the names of the fields those of header_fields/specs/Groups.antt.
 use Prim.Native.Nat.{ℕ, _+_, _*_}
 use mathlib.Core.List.{List}
 use Rattle.little_endian.specs.LittleEndian.{leAt}

@@ -1,4 +1,6 @@
 -- Reading a managed object in the original's order: filter, ID, undefined root, then the blocks.
+-- HDF5 File Format Specification 3.0, III.G, 'Fractal Heap Header': I/O Filters' Encoded Length, Maximum Heap Size,
+-- Address of Root Block, Current # of Rows in Root Indirect Block.
 use Prim.Native.Nat.{ℕ}
 use mathlib.Core.List.{List}
 use mathlib.Core.Bool.{cond}

@@ -1,5 +1,5 @@
--- The ends of a header's fields in the order in which the original tests them. HDF5 File Format Specification,
--- Fractal Heap; os and ls are the sizes of offsets and of lengths.
+-- The ends of a header's fields in the order in which the original tests them. HDF5 File Format Specification 3.0,
+-- III.G, 'Fractal Heap Header'; os is Size of Offsets, ls is Size of Lengths.
 use Prim.Native.Nat.{ℕ, _+_, _*_}
 use mathlib.Core.List.{List, [], _∷_}
 use mathlib.Core.Bool.{cond}
@@ -21,19 +21,22 @@ unfoldable pub endsChecked : ℕ → List ℕ → Checked
 endsChecked n [] = Passed
 endsChecked n (e ∷ es) = cond (leb e n) (endsChecked n es) (tooShort e n)
 
--- the fields of a header at p up to the next huge object's ID
+-- of a header at p: Heap ID Length, I/O Filters' Encoded Length, Flags, Maximum Size of Managed Objects, Next Huge
+-- Object ID
 abbrev pub frontEnds : ℕ → ℕ → List ℕ
 frontEnds p ls = (p + 7) ∷ (p + 9) ∷ (p + 10) ∷ (p + 14) ∷ (p + (14 + ls)) ∷ []
 
--- the B-tree's address, and the five fields after it as one
+-- v2 B-tree Address of Huge Objects, and the five fields after it as one
 abbrev pub addressEnds : ℕ → ℕ → ℕ → List ℕ
 addressEnds p os ls = (p + (14 + ls + os)) ∷ (p + (14 + 5 * ls + 2 * os)) ∷ []
 
--- from the end of the largest direct block's size on: heap bits, starting rows, root address, root rows
+-- Maximum Direct Block Size, which ends at e, Maximum Heap Size, Starting # of Rows in Root Indirect Block, Address of
+-- Root Block, Current # of Rows in Root Indirect Block
 abbrev pub rootEnds : ℕ → ℕ → List ℕ
 rootEnds e os = e ∷ (e + 2) ∷ (e + 4) ∷ (e + 4 + os) ∷ (e + 6 + os) ∷ []
 
--- the number of managed objects; then four lengths are stepped over, and tested with the table width
+-- Number of Managed Objects in Heap; then four lengths are stepped over, and tested with Table Width; Starting Block
+-- Size, and those above
 abbrev pub tableEnds : ℕ → ℕ → ℕ → List ℕ
 tableEnds p os ls =
     (p + (14 + 6 * ls + 2 * os)) ∷

@@ -26,7 +26,7 @@ fn check_end(lent: usize, end: usize) -> Checked
     }
 }
 
-// The fields up to the next huge object's ID.
+// The fields up to Next Huge Object ID.
 pub fn check_front(lent: usize, at: usize, length_size: u8) -> Checked
     requires { ⌜ lent < 2 ^ 63 ⌝ }
     requires { ⌜ at ≤ lent ⌝ }
@@ -40,7 +40,7 @@ pub fn check_front(lent: usize, at: usize, length_size: u8) -> Checked
     )
 }
 
-// The address of the B-tree of huge objects, and the five fields after it as one.
+// v2 B-tree Address of Huge Objects, and the five fields after it as one.
 pub fn check_addresses(lent: usize, at: usize, offset_size: u8, length_size: u8) -> Checked
     requires { ⌜ lent < 2 ^ 63 ⌝ }
     requires { ⌜ at ≤ lent ⌝ }
@@ -52,7 +52,7 @@ pub fn check_addresses(lent: usize, at: usize, offset_size: u8, length_size: u8)
     check_end(lent, first_past(lent, at + (14 + l + o), end))
 }
 
-// The end to be tested of the fields from the end of the largest direct block's size on.
+// The end to be tested of Maximum Direct Block Size, which ends at `end`, and of the fields after it.
 fn root_end(lent: usize, end: usize, offset_size: u8) -> usize
     requires { ⌜ lent < 2 ^ 63 ⌝ }
     requires { ⌜ end ≤ lent + 65536 ⌝ }
@@ -67,8 +67,8 @@ fn root_end(lent: usize, end: usize, offset_size: u8) -> usize
     )
 }
 
-// The number of managed objects, the table's fields and the root's. The four lengths before the table
-// width are stepped over, and tested with it.
+// Number of Managed Objects in Heap, the table's fields and the root's. The four lengths before Table Width are
+// stepped over, and tested with it.
 pub fn check_table(lent: usize, at: usize, offset_size: u8, length_size: u8) -> Checked
     requires { ⌜ lent < 2 ^ 63 ⌝ }
     requires { ⌜ at ≤ lent ⌝ }

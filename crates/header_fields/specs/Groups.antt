@@ -1,5 +1,5 @@
--- Groups of a header's fields by their places, of the header at p. HDF5 File Format Specification, Fractal Heap: the
--- header; os and ls are the sizes of offsets and of lengths. The places are those of header_layout/specs/Layout.antt.
+-- Groups of a header's fields by their places, of the header at p. HDF5 File Format Specification 3.0, III.G, 'Fractal
+-- Heap Header'; os is Size of Offsets, ls is Size of Lengths. The places are those of header_layout/specs/Layout.antt.
 use Prim.Native.Nat.{ℕ, _+_, _*_}
 use mathlib.Core.List.{List}
 use Rattle.little_endian.specs.LittleEndian.{leAt}
@@ -9,6 +9,7 @@ use Rattle.header_fields.specs.declared.FrontFields.{FrontFields}
 use Rattle.header_fields.specs.declared.ObjectFields.{ObjectFields}
 use Rattle.header_fields.specs.declared.RootFields.{RootFields}
 
+-- Heap ID Length, I/O Filters' Encoded Length, Maximum Size of Managed Objects
 unfoldable pub frontFields : List ℕ → ℕ → FrontFields
 frontFields s p =
     record {
@@ -17,6 +18,7 @@ frontFields s p =
       «max_managed_object_size» = leAt s (p + 10) 4;
     }
 
+-- v2 B-tree Address of Huge Objects, Number of Managed Objects in Heap
 unfoldable pub objectFields : List ℕ → ℕ → ℕ → ℕ → ObjectFields
 objectFields s p os ls =
     record {
@@ -24,6 +26,7 @@ objectFields s p os ls =
       «managed_objects_count» = leAt s (p + countPlace os ls) ls;
     }
 
+-- Table Width, Starting Block Size, Maximum Direct Block Size, Maximum Heap Size
 unfoldable pub tableFields : List ℕ → ℕ → ℕ → ℕ → DoublingTable
 tableFields s p os ls =
     record {
@@ -33,6 +36,7 @@ tableFields s p os ls =
       «max_heap_size» = leAt s (p + tablePlace os ls + (2 + 2 * ls)) 2;
     }
 
+-- Starting # of Rows in Root Indirect Block, Address of Root Block, Current # of Rows in Root Indirect Block
 unfoldable pub rootFields : List ℕ → ℕ → ℕ → ℕ → RootFields
 rootFields s p os ls =
     record {

@@ -12,20 +12,21 @@ use little_endian::read_le;
 use little_endian::read_u16_le;
 use little_endian::read_u32_le;
 
-// What stands before the fields whose sizes the file chooses.
+// Heap ID Length, I/O Filters' Encoded Length, Maximum Size of Managed Objects: before the fields whose sizes the file
+// chooses.
 pub struct FrontFields {
     pub heap_id_length: u16,
     pub io_filter_encoded_length: u16,
     pub max_managed_object_size: u32,
 }
 
-// Where huge objects are found, and how many managed ones there are.
+// v2 B-tree Address of Huge Objects, Number of Managed Objects in Heap.
 pub struct ObjectFields {
     pub btree_huge_objects_address: u64,
     pub managed_objects_count: u64,
 }
 
-// The starting rows, and the root block.
+// Starting # of Rows in Root Indirect Block, Address of Root Block, Current # of Rows in Root Indirect Block.
 pub struct RootFields {
     pub start_root_rows: u16,
     pub root_block_address: u64,

@@ -1,5 +1,5 @@
--- What frames a header: HDF5 File Format Specification, Fractal Heap: the signature FRHP and the version at its start,
--- and the checksum of all bytes before it.
+-- What frames a header. HDF5 File Format Specification 3.0, III.G, 'Fractal Heap Header': Signature and Version at its
+-- start, Checksum at its end. What the checksum covers the text does not say: the original.
 use Prim.Native.Nat.{ℕ, _+_}
 use mathlib.Core.List.{List}
 use mathlib.Core.Bool.{cond}
@@ -12,7 +12,7 @@ use Rattle.fields.specs.declared.Checked.the-variants.{Passed, Refused}
 use Rattle.refusals.specs.declared.FormatError.the-variants.{InvalidFractalHeapSignature, InvalidFractalHeapVersion, ChecksumMismatch}
 use Rattle.checksum.specs.Lookup3.{hashlittle}
 
--- FRHP and version 0
+-- Signature FRHP and Version 0
 unfoldable pub startChecked : List ℕ → ℕ → Checked
 startChecked s p =
     afterCheck (lenChecked s p 5) Refused
@@ -20,7 +20,7 @@ startChecked s p =
     (cond (eqb (getD s (p + 4) 0) 0) Passed (Refused (InvalidFractalHeapVersion (getD s (p + 4) 0))))
     (Refused InvalidFractalHeapSignature))
 
--- the checksum at its place is that of all bytes of the header before it
+-- Checksum at its place is that of all bytes of the header before it
 unfoldable pub sumChecked : List ℕ → ℕ → ℕ → Checked
 sumChecked s p place =
     afterCheck (lenChecked s (p + place) 4) Refused

@@ -10,7 +10,7 @@ use fields::ensure_len;
 use little_endian::read_u32_le;
 use refusals::FormatError;
 
-// FRHP and version 0.
+// Signature FRHP and Version 0.
 pub fn check_start(file: &[u8], at: usize) -> Checked
     ensures { λ r. ⌜ r ≡ startChecked (now (file .entry)) at ⌝ }
 {

@@ -1,7 +1,8 @@
--- The header of a heap: where its fields stand and in which order it is tested. HDF5 File Format
--- Specification, Fractal Heap: signature FRHP, version, heap ID length, filter length, flags, largest
--- managed object, then fields of os and ls bytes, the sizes of offsets and of lengths. The order of the
--- tests, and the place of a filtered header's checksum, are the original's.
+-- The header of a heap: where its fields stand and in which order it is tested. HDF5 File Format Specification 3.0,
+-- III.G, 'Fractal Heap Header': Signature (4 bytes), Version (1), Heap ID Length (2), I/O Filters' Encoded Length (2),
+-- Flags (1), Maximum Size of Managed Objects (4), Next Huge Object ID (ls), then the fields below. os is Size of
+-- Offsets, ls is Size of Lengths. The order of the tests, and the place of a filtered header's checksum, are the
+-- original's.
 use Prim.Native.Nat.{ℕ, _+_, _*_}
 use mathlib.Core.List.{List}
 use mathlib.Core.Bool.{cond}
@@ -16,23 +17,27 @@ use Rattle.refusals.specs.declared.FormatError.the-variants.{InvalidOffsetSize,
 use Rattle.header_ends.specs.Ends.{endsChecked, frontEnds, addressEnds, tableEnds}
 use Rattle.header_frame.specs.Frame.{startChecked, sumChecked}
 
--- where fields stand in the header: the B-tree of huge objects, after the next huge object's ID
+-- where fields stand in the header: v2 B-tree Address of Huge Objects (os)
 abbrev pub btreePlace : ℕ → ℕ
 btreePlace ls = 14 + ls
 
--- the number of managed objects, after four lengths and an address
+-- Number of Managed Objects in Heap (ls), after Amount of Free Space in Managed Blocks (ls), Address of Managed Block
+-- Free Space Manager (os), Amount of Managed Space in Heap (ls), Amount of Allocated Managed Space in Heap (ls),
+-- Offset of Direct Block Allocation Iterator in Managed Space (ls)
 abbrev pub countPlace : ℕ → ℕ → ℕ
 countPlace os ls = 14 + 5 * ls + 2 * os
 
--- the table width, after the sizes and numbers of huge and of tiny objects
+-- Table Width (2), after Size and Number of Huge Objects in Heap, Size and Number of Tiny Objects in Heap (ls each)
 abbrev pub tablePlace : ℕ → ℕ → ℕ
 tablePlace os ls = 14 + 10 * ls + 2 * os
 
--- the end of the last field
+-- the end of Current # of Rows in Root Indirect Block (2), after Starting Block Size and Maximum Direct Block Size (ls
+-- each), Maximum Heap Size (2), Starting # of Rows in Root Indirect Block (2), Address of Root Block (os)
 abbrev pub headerEnd : ℕ → ℕ → ℕ
 headerEnd os ls = 22 + 12 * ls + 3 * os
 
--- the checksum: a filtered header has the root's filtered size and a filter mask before it
+-- Checksum (4): before it a filtered header has Size of Filtered Root Direct Block (ls) and I/O Filter Mask (4); the
+-- I/O Filter Information that the text has behind them is not heeded (docs/DIFFERENCES.md)
 unfoldable pub sumPlace : ℕ → ℕ → ℕ → ℕ
 sumPlace filter os ls = cond (ltb 0 filter) (headerEnd os ls + (ls + 4)) (headerEnd os ls)
 

@@ -40,7 +40,7 @@ fn check_layout(file: &[u8], at: usize, offset_size: u8, length_size: u8) -> Che
     }
 }
 
-// Where the checksum stands: a filtered header has a length and four bytes more.
+// Where the checksum stands: a filtered header has Size of Filtered Root Direct Block and I/O Filter Mask before it.
 fn sum_place(filter: u16, offset_size: u8, length_size: u8) -> usize
     ensures { λ r. ⌜ r ≡ sumPlace filter «offset_size» «length_size» ⌝ }
 {

@@ -1,6 +1,7 @@
--- Where an object of a heap lies, from the root block down, as the original walks. HDF5 File Format
--- Specification, Fractal Heap: the entries of an indirect block stand row by row; an undefined address
--- is a block that is not there. w is the size of offsets, t the wanted heap offset.
+-- Where an object of a heap lies, from the root block down, as the original walks. HDF5 File Format Specification 3.0,
+-- III.G, 'Fractal Heap Indirect Block': Child Direct Block #K Address, then Child Indirect Block #N Address, the
+-- entries here, row by row. That an undefined address is a block that is not there the text does not say: the original.
+-- w is Size of Offsets, t the wanted heap offset. An address is a place in s, which is to begin at Base Address (II.A).
 use Prim.Native.Nat.{ℕ, zero, suc, _+_, _-_, _^_, _/_}
 use mathlib.Core.List.{List}
 use mathlib.Core.Bool.{Bool, cond, not, _&&_}
@@ -52,11 +53,12 @@ childScan table s w t (suc n) row p start =
     afterRow (rowScan s w (slotSize table row) t (table .«table_width») p start) (childOf table row)
     (λ q end. childScan table s w t n (row + 1) q end)
 
--- where the entries of an indirect block begin: after signature, version, header address, block offset
+-- where the entries of an indirect block begin: after Signature, Version, Heap Header Address, Block Offset
 unfoldable pub entriesPlace : DoublingTable → ℕ → ℕ
 entriesPlace table w = 5 + w + (table .«max_heap_size» + 7) / 8
 
--- the child in an indirect block of n rows, whose bytes s begins with: FHIB, then the entries
+-- the child in an indirect block of n rows, whose bytes s begins with: Signature FHIB, then the entries; no other field
+-- is heeded
 unfoldable pub childIn : DoublingTable → List ℕ → ℕ → ℕ → ℕ → ℕ → HeapChild
 childIn table s n start t w =
     afterCheck (lenChecked s 0 4) NoChild
@@ -68,7 +70,7 @@ unfoldable pub childAt : DoublingTable → List ℕ → ℕ → ℕ → ℕ → 
 childAt table s a n start t w =
     afterCheck (lenChecked s a 4) NoChild (childIn table (drop a s) n start t w)
 
--- len bytes at t in the direct block at a that begins at heap offset start
+-- len bytes at t in the direct block at a that begins at heap offset start; none of its fields is heeded
 unfoldable pub directAt : List ℕ → ℕ → ℕ → ℕ → ℕ → Found
 directAt s a start t len =
     cond (leb (t - start) (2 ^ 64 - 1 - a))

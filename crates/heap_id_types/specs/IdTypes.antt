@@ -1,4 +1,5 @@
--- The type of a heap ID. HDF5 File Format Specification, Fractal Heap: managed, huge and tiny objects.
+-- The type of a heap ID. HDF5 File Format Specification 3.0, III.G, 'Fractal Heap ID for Managed Objects', '.. for Huge
+-- Objects': Version and Type; '.. for Tiny Objects': Version, Type, and Length.
 use Prim.Native.Nat.{ℕ, _/_, _%_}
 use mathlib.Core.List.{List}
 use mathlib.Core.Bool.{cond}
@@ -12,7 +13,7 @@ use Rattle.heap_id_types.specs.declared.HeapIdType.the-variants.{Managed
 use Rattle.heap_id_types.specs.declared.IdType.{IdType}
 use Rattle.heap_id_types.specs.declared.IdType.the-variants.{Is, Refused as NoType}
 
--- an ID's type: bits 4 and 5 of its first byte
+-- an ID's type: bits 4 and 5 of its first byte; the version in bits 6 and 7 is not heeded (docs/DIFFERENCES.md)
 unfoldable pub typeOf : ℕ → ℕ
 typeOf b = b / 16 % 4
 

@@ -1,5 +1,6 @@
--- Managed heap IDs. HDF5 File Format Specification, Fractal Heap. Where the original reads an ID otherwise than the
--- format, its reading stands here (docs/DIFFERENCES.md).
+-- Managed heap IDs. HDF5 File Format Specification 3.0, III.G, 'Fractal Heap ID for Managed Objects': Version and Type,
+-- Offset, Length. Where the original reads an ID otherwise than the format, its reading stands here
+-- (docs/DIFFERENCES.md): it counts Offset and Length in bits, the text in bytes.
 use Prim.Native.Nat.{ℕ, _-_, _*_, _^_, _/_, _%_}
 use mathlib.Core.List.{List}
 use mathlib.Core.Bool.{cond}
@@ -13,11 +14,12 @@ use Rattle.heap_id_types.specs.IdTypes.{typeOf}
 use Rattle.heap_ids.specs.declared.ManagedId.{ManagedId}
 use Rattle.heap_ids.specs.declared.ManagedId.the-variants.{Decoded, Refused as NoId}
 
--- of the number x in n bytes: its low B bits are the offset, the rest, kept to the bits left, the length
+-- of the number x in n bytes: its low B bits are Offset, the rest, kept to the bits left, Length
 unfoldable pub splitId : ℕ → ℕ → ℕ → ManagedId
 splitId B n x = Decoded (x % 2 ^ B) (x / 2 ^ B % 2 ^ (8 * n - B))
 
--- the managed ID s at B heap bits: the number is that of the first eight bytes after byte 0
+-- the managed ID s at B heap bits ('Fractal Heap Header': Maximum Heap Size): the number is that of the first eight
+-- bytes after byte 0
 unfoldable pub decodedId : ℕ → List ℕ → ManagedId
 decodedId B s =
     cond (eqb (length s) 0) (NoId (UnexpectedEof 1 0))

@@ -1,5 +1,5 @@
 -- The rows of an indirect block under the numbers of any header, as the original computes them.
--- HDF5 File Format Specification, Fractal Heap: the doubling table. Every sum and product is cut to the
+-- HDF5 File Format Specification 3.0, III.G, the doubling table, before its tables. Every sum and product is cut to the
 -- largest 64-bit number.
 use Prim.Native.Nat.{ℕ, zero, suc, _+_, _-_, _*_, _^_}
 use mathlib.Core.Bool.{cond}
@@ -12,11 +12,12 @@ unfoldable pub blockSize : DoublingTable → ℕ → ℕ
 blockSize t row =
     cond (ltb (row - 1) 64) (saturated (t .«starting_block_size» * 2 ^ (row - 1))) (2 ^ 64 - 1)
 
--- how many rows hold direct blocks
+-- how many rows hold direct blocks: the text's max_dblock_rows, with a difference below 0 cut to 0
 unfoldable pub directRows : DoublingTable → ℕ
 directRows t = log2 (t .«max_direct_block_size») - log2 (t .«starting_block_size») + 2
 
--- how many rows a block has that spans this many bytes
+-- how many rows a block has that spans this many bytes: the text's nrows, but with the width's logarithm subtracted too
+-- (docs/DIFFERENCES.md)
 unfoldable pub sizeToRows : DoublingTable → ℕ → ℕ
 sizeToRows t size =
     log2 size - (log2 (t .«starting_block_size») + log2 (t .«table_width»)) + 1
@@ -26,7 +27,8 @@ unfoldable pub heapSize : DoublingTable → ℕ → ℕ
 heapSize t zero = 0
 heapSize t (suc r) = saturated (heapSize t r + saturated (blockSize t r * t .«table_width»))
 
--- how many bytes a slot of a row spans: a direct block's, or those of the nested block's rows
+-- how many bytes a slot of a row spans: a direct block's, or those of the nested block's rows, at least one; in the
+-- text the row's block size
 unfoldable pub slotSize : DoublingTable → ℕ → ℕ
 slotSize t row =
     cond (ltb row (directRows t)) (blockSize t row) (heapSize t (sizeToRows t (blockSize t row)))

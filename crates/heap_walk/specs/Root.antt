@@ -1,4 +1,5 @@
--- Where the walk begins: at the root block of a heap. w is the size of offsets.
+-- Where the walk begins: at the root block of a heap. HDF5 File Format Specification 3.0, III.G, 'Fractal Heap Header':
+-- Address of Root Block, Current # of Rows in Root Indirect Block. w is Size of Offsets.
 use Prim.Native.Nat.{ℕ}
 use mathlib.Core.List.{List}
 use mathlib.Core.Bool.{cond}

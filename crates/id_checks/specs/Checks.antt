@@ -1,4 +1,5 @@
--- The tests before a managed ID is written, in their order (Format, Fractal Heap: Fractal Heap ID for Managed Objects).
+-- The tests before a managed ID is written, in their order. HDF5 File Format Specification 3.0, III.G, 'Fractal Heap ID
+-- for Managed Objects'; the sizes of Offset and Length are document 01's (docs/DIFFERENCES.md).
 use Prim.Native.Nat.{ℕ, _+_, _^_}
 use mathlib.Core.Bool.{_&&_, cond}
 use lib.Dec.{leb, ltb}
@@ -8,7 +9,7 @@ use Rattle.refusals.specs.declared.FormatError.the-variants.{SliceTooShort, Hea
 use Rattle.table.specs.Table.{Table}
 use Rattle.table.specs.Sizes.{offsetBytes}
 
--- how many bytes an ID has: version and type in one, the offset in as many as the heap's bits need, the length in two
+-- how many bytes an ID has: Version and Type in one, Offset in as many as the heap's bits need, Length in two
 unfoldable pub idLength : Table → ℕ
 idLength t = 1 + offsetBytes t + 2
 

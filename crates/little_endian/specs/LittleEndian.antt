@@ -1,5 +1,5 @@
 -- Little-endian numbers at a place of a list of bytes.
--- HDF5 File Format Specification, Fractal Heap: multi-byte fields are little-endian.
+-- HDF5 File Format Specification 3.0, I.A: fields are unsigned, those of metadata little-endian.
 use Prim.Native.Nat.{ℕ, zero, suc, _+_, _*_, _/_, _%_}
 use mathlib.Core.List.{List, [], _∷_, _++_}
 use lib.ListN.{length, take, drop}

@@ -1,5 +1,5 @@
--- The mix and the final mix of three words, after lookup3.c (Bob Jenkins, May 2006, public domain). A comment
--- gives the C that a definition follows.
+-- The mix and the final mix of three words: the macros mix and final of lookup3.c (Bob Jenkins, May 2006, public
+-- domain). A comment gives the line of C that a definition follows, with k for the line's rotation.
 use Prim.Native.Nat.{ℕ}
 use Rattle.lookup3_mix.specs.Words.{add32, subXor, xorSub}
 use Rattle.lookup3_mix.specs.declared.State.{State}
@@ -18,6 +18,7 @@ mixB k s = record { a = add32 (s .a) (s .c); b = subXor (s .b) (s .a) k; c = s .
 unfoldable pub mixC : ℕ → State → State
 mixC k s = record { a = s .a; b = add32 (s .b) (s .a); c = subXor (s .c) (s .b) k }
 
+-- its six lines in turn, with the rotations 4 6 8 16 19 4
 unfoldable pub mixed : State → State
 mixed s = mixC 4 (mixB 19 (mixA 16 (mixC 8 (mixB 6 (mixA 4 s)))))
 
@@ -35,5 +36,6 @@ finalA k s = record { a = xorSub (s .a) (s .c) k; b = s .b; c = s .c }
 unfoldable pub finalB : ℕ → State → State
 finalB k s = record { a = s .a; b = xorSub (s .b) (s .a) k; c = s .c }
 
+-- its seven lines in turn, with the rotations 14 11 25 16 4 14 24
 unfoldable pub finalMixed : State → State
 finalMixed s = finalC 24 (finalB 14 (finalA 4 (finalC 16 (finalB 25 (finalA 11 (finalC 14 s))))))

@@ -1,4 +1,5 @@
--- 32-bit words as lookup3.c has them: sums and differences modulo 2^32, exclusive or, rotation.
+-- 32-bit words, uint32_t in lookup3.c (Bob Jenkins, May 2006, public domain): sums and differences modulo 2^32,
+-- exclusive or, and its macro rot.
 use Prim.Native.Nat.{ℕ, _+_, _-_, _*_, _/_, _%_, _^_}
 use lib.Bits.{bitOr, bitXor}
 

@@ -1,5 +1,5 @@
-// The mixing of Bob Jenkins' lookup3.c. One line of its mix and of its final mix is one function here; a
-// state is its three words.
+// The mixing of Bob Jenkins' lookup3.c. One line of its macros mix and final is one function here; a state is
+// its three words.
 ghost use mathlib.Core.Path.{_≡_};
 ghost use Rattle.lookup3_mix.specs.Words.{rot, subXor, xorSub};
 ghost use Rattle.lookup3_mix.specs.Requires.{Rotation};

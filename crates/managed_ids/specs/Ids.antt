@@ -1,5 +1,6 @@
--- The ID of a managed object (Format, Fractal Heap: Fractal Heap ID for Managed Objects): version and type in one
--- byte, both 0, then the object's heap offset, then its length.
+-- The ID of a managed object. HDF5 File Format Specification 3.0, III.G, 'Fractal Heap ID for Managed Objects': Version
+-- and Type in one byte, both 0, then Offset, then Length; the sizes of the last two are document 01's
+-- (docs/DIFFERENCES.md).
 use Prim.Native.Nat.{ℕ}
 use mathlib.Core.List.{List, _++_}
 use lib.ListN.{length}
@@ -9,7 +10,7 @@ use Rattle.table.specs.Table.{Table}
 use Rattle.table.specs.Sizes.{offsetBytes}
 use Rattle.id_checks.specs.Checks.{idChecked}
 
--- the bytes of an ID: the offset in as many as the heap's bits need, the length in two
+-- the bytes of an ID: Offset in as many as the heap's bits need, Length in two
 unfoldable pub managedId : Table → ℕ → ℕ → List ℕ
 managedId t offset len = le 1 0 ++ (le (offsetBytes t) offset ++ le 2 len)
 

@@ -1,5 +1,5 @@
-// The writer of managed heap IDs, as the Format has them at the fixed geometry: eight bytes, of which the first is 0,
-// five hold the object's heap offset and two its length.
+// The writer of managed heap IDs at the fixed geometry: eight bytes, of which the first, Version and Type, is 0, five
+// hold the object's heap offset and two its length.
 ghost use mathlib.Core.Path.{_≡_};
 ghost use Prim.Native.Nat.{_≤_};
 ghost use lib.ListN.{length};

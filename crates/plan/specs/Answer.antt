@@ -1,4 +1,8 @@
 -- The planner's answer: totals, the tests and the run in their order, and what the lent lists hold at the end.
+-- HDF5 File Format Specification 3.0, III.G, 'Fractal Heap Header': root_rows is Current # of Rows in Root Indirect
+-- Block, managed_space Amount of Managed Space in Heap, allocated_space Amount of Allocated Managed Space in Heap,
+-- free_space Amount of Free Space in Managed Blocks, allocation_iterator Offset of Direct Block Allocation Iterator in
+-- Managed Space. Free space and the iterator of a direct root are document 01's (docs/DIFFERENCES.md).
 use Prim.Native.Nat.{ℕ, _+_, _-_, _^_}
 use mathlib.Core.Bool.{cond}
 use mathlib.Core.List.{List, [], _∷_}

@@ -1,4 +1,5 @@
--- The end of a plan: the state after the last object, and the root's rows.
+-- The end of a plan: the state after the last object, and the root's rows (HDF5 File Format Specification 3.0, III.G,
+-- 'Fractal Heap Header': Current # of Rows in Root Indirect Block). That they are the fewest is document 01's.
 use Prim.Native.Nat.{ℕ, _^_}
 use mathlib.Core.Bool.{cond}
 use lib.Dec.{eqb}

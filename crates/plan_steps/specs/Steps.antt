@@ -1,5 +1,6 @@
 -- Planning, object by object. Each object goes into the current block if it fits there. Otherwise slots are
--- tried in heap order, each too small one is passed for good, and the first whose body fits opens.
+-- tried in heap order, each too small one is passed for good, and the first whose body fits opens. This is
+-- document 01's: the HDF5 File Format Specification does not say which block an object goes into.
 use Prim.Native.Nat.{ℕ, zero, suc, _+_, _-_, _^_}
 use mathlib.Core.Bool.{true, false, cond}
 use mathlib.Core.List.{List, [], _∷_}

@@ -11,7 +11,7 @@ use Rattle.plan_checks.specs.Checks.{placesChecked, thenChecked}
 unfoldable pub bytesChecked : ℕ → ℕ → Checked
 bytesChecked n m = cond (eqb n m) Passed (NotPassed (ObjectBytesMismatch n m))
 
--- the undefined address of w bytes, above all others
+-- the undefined address of w bytes, above all others (HDF5 File Format Specification 3.0, V, Undefined Address)
 abbrev pub undefinedAddress : ℕ → ℕ
 undefinedAddress w = 2 ^ (8 * w) - 1
 

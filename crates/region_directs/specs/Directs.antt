@@ -1,5 +1,5 @@
--- The direct blocks of a region, as bytes (Format, Fractal Heap: Direct Block): each placed block with the
--- objects whose heap offsets lie in it.
+-- The direct blocks of a region, as bytes: each placed block with the objects whose heap offsets lie in it.
+-- HDF5 File Format Specification 3.0, III.G, 'Fractal Heap Direct Block': Object Data.
 use Prim.Native.Nat.{ℕ, _+_}
 use mathlib.Core.Bool.{_&&_, cond}
 use mathlib.Core.List.{List, [], _∷_, _++_}
@@ -16,7 +16,7 @@ objectsIn s z [] xs js = []
 objectsIn s z (o ∷ os) [] js = []
 objectsIn s z (o ∷ os) (x ∷ xs) js = cond (leb s o && ltb o (s + z)) (take x js) [] ++ objectsIn s z os xs (drop x js)
 
--- the blocks placed at the heap offsets ss, one after the other; a block fills its slot
+-- the blocks placed at the heap offsets ss, one after the other; a block fills its slot (III.G, before its tables)
 unfoldable pub directs : Table → ℕ → ℕ → List ℕ → List ℕ → List ℕ → List ℕ → List ℕ
 directs t w header os xs js [] = []
 directs t w header os xs js (s ∷ ss) =

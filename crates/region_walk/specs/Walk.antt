@@ -1,6 +1,7 @@
--- The indirect blocks of a region, as bytes (Format, Fractal Heap: Indirect Block). A block's slots are gone
+-- The indirect blocks of a region, as bytes. HDF5 File Format Specification 3.0, III.G, 'Fractal Heap Indirect Block':
+-- Child Direct Block #K Address, then Child Indirect Block #N Address, the entries here. A block's slots are gone
 -- through by row and column; an indirect slot with a placed block in it is a block in turn. Every block stands
--- after those in its slots, so the root is the last.
+-- after those in its slots, so the root is the last: document 01.
 use Prim.Native.Nat.{ℕ, zero, suc, _+_, _-_, _^_}
 use mathlib.Core.Bool.{Bool, true, false}
 use mathlib.Core.List.{List, [], _∷_, _++_}
@@ -33,7 +34,7 @@ unfoldable pub slotRows : Table → ℕ → ℕ → List ℕ
 slotRows t zero r = []
 slotRows t (suc m) r = replicate (2 ^ t .widthBits) r ++ slotRows t m (suc r)
 
--- a slot without a block: the undefined address
+-- a slot without a block: the undefined address. What stands there the text does not say: document 01
 unfoldable pub unplaced : ℕ → List ℕ → ℕ → Walked
 unplaced w ss next = record { bytes = []; entries = replicate w 0xFF; rest = ss; next = next }
 

@@ -1,4 +1,5 @@
--- What is stored at a place of lent bytes, and what is refused.
+-- What is stored at a place of lent bytes, and what is refused. HDF5 File Format Specification 3.0, I.A (addresses)
+-- and V (Appendix A), Undefined Address.
 use Prim.Native.Nat.{ℕ, _+_}
 use mathlib.Core.List.{List}
 use mathlib.Core.Bool.{cond}

@@ -1,4 +1,5 @@
--- How many object bytes the blocks of a table can hold.
+-- How many object bytes the blocks of a table can hold: HDF5 File Format Specification 3.0, III.G, 'Fractal Heap Direct
+-- Block', Object Data.
 use Prim.Native.Nat.{ℕ, zero, suc, _+_, _-_, _*_, _^_}
 use mathlib.Core.Bool.{cond}
 use mathlib.Core.List.{List, [], _∷_, _++_}

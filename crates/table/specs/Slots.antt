@@ -1,5 +1,7 @@
 -- The direct slots of the doubling table. A slot of a row whose blocks are no larger than the largest
 -- direct block is direct; a slot of a later row is an indirect block, a table in turn, whose rows fill it.
+-- HDF5 File Format Specification 3.0, III.G, before its tables; but how many rows fill a slot is document 01's, since
+-- the text's nrows leaves out the width (docs/DIFFERENCES.md).
 use Prim.Native.Nat.{ℕ, zero, suc, _+_, _-_, _*_, _/_, _%_, _^_, _≤_, _<_}
 use mathlib.Core.Path.{_≡_}
 use mathlib.Core.Bool.{true, false, cond}

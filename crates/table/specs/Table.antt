@@ -1,5 +1,6 @@
--- The doubling table of a fractal heap (Format, Fractal Heap: Doubling Table), by the logarithms of its
--- four numbers: table width, starting block size, maximum direct block size, maximum heap size.
+-- The doubling table of a fractal heap (HDF5 File Format Specification 3.0, III.G, before its tables), by the
+-- logarithms of its four numbers. 'Fractal Heap Header': Table Width, Starting Block Size, Maximum Direct Block Size,
+-- Maximum Heap Size, which the file too stores as a logarithm.
 use Prim.Native.Nat.{ℕ, zero, suc, _+_, _-_, _/_, _^_}
 use mathlib.Core.Path.{_≡_, refl}
 use mathlib.Core.Bool.{true, false, cond}
@@ -14,7 +15,8 @@ pub record Table : Type 0 where
   pub directBits : ℕ
   pub heapBits : ℕ
 
--- width 4, starting block 1,024, largest direct block 65,536, heap space 2 ^ 40
+-- document 01's geometry: Table Width 4, Starting Block Size 1,024, Maximum Direct Block Size 65,536, Maximum Heap
+-- Size 2 ^ 40
 abbrev pub fixed : Table
 fixed = record { widthBits = 2; startBits = 10; directBits = 16; heapBits = 40 }
 
@@ -40,7 +42,8 @@ rowOf t x = rowIn t (t .heapBits) x
 unfoldable pub placeOf : Table → ℕ → RowCol
 placeOf t x = record { row = rowOf t x; col = (x - rowOffset t (rowOf t x)) / 2 ^ rowBits t (rowOf t x) }
 
--- the most rows that a root has: as many as the heap space holds
+-- the most rows that a root has: as many as the heap space holds ('Fractal Heap Header': Starting # of Rows in Root
+-- Indirect Block, its value 0). Their number is document 01's
 unfoldable pub maxRows : Table → ℕ
 maxRows t = t .heapBits - (t .startBits + t .widthBits) + 1
 

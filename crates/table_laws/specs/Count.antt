@@ -1,4 +1,5 @@
--- What is counted: how many numbers pass a test, and the bodies of the direct slots of the managed space.
+-- What is counted: how many numbers pass a test, and the bodies of the direct slots of the managed space: document 01.
+-- A body is a block's Object Data: HDF5 File Format Specification 3.0, III.G, 'Fractal Heap Direct Block'.
 use Prim.Native.Nat.{ℕ, zero, suc, _+_, _^_, _≤_, _<_}
 use mathlib.Core.Path.{_≡_}
 use mathlib.Core.Bool.{Bool, true, false}

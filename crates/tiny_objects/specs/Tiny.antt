@@ -1,5 +1,6 @@
--- Tiny objects. HDF5 File Format Specification, Fractal Heap. Where the original reads an ID otherwise than the
--- format, its reading stands here (docs/DIFFERENCES.md).
+-- Tiny objects. HDF5 File Format Specification 3.0, III.G, 'Fractal Heap ID for Tiny Objects', sub-types 1, 'Normal',
+-- and 2, 'Extended': Version, Type, and Length, Extended Length, Data. Where the original reads an ID otherwise than
+-- the format, its reading stands here (docs/DIFFERENCES.md).
 use Prim.Native.Nat.{ℕ, _+_, _*_, _%_}
 use mathlib.Core.List.{List}
 use mathlib.Core.Bool.{cond}
@@ -14,8 +15,8 @@ unfoldable pub tinyIn : ℕ → ℕ → ℕ → Found
 tinyIn start len n =
     cond (leb (start + len) n) (At start len) (NotFound (UnexpectedEof (start + len) n))
 
--- the tiny object in the ID s, where IDs have l bytes: above 17 a length of 12 bits in two bytes, else
--- of 4 bits in one; one is added
+-- the tiny object in the ID s, where Heap ID Length is l: above 17, in the text above 18, a length of 12 bits in two
+-- bytes, else of 4 bits in one; one is added
 unfoldable pub tinyAt : ℕ → List ℕ → Found
 tinyAt l s =
     cond (ltb 17 l)
