@@ -18,6 +18,7 @@ use Rattle.fractal_heap.specs.Header.{tableOf}
 use Rattle.heap_ids.specs.Id.{decodedId}
 use Rattle.tiny_objects.specs.Tiny.{tinyIn, tinyAt}
 use Rattle.fractal_heap.specs.Read.{rootAt, afterId, managedAt}
+use Rattle.heap_laws.specs.Reading.{ReadInFile, TinyInId}
 
 -- what holds of both ways of a test holds of the test
 either : (s : List ℕ) (b : Bool) (x y : Found) → Inside s x → Inside s y → Inside s (cond b x y)
@@ -41,8 +42,7 @@ managed-inside h s id w =
     by (Decoded t len) = root-inside h s t len w
     by (NoId e) = tt
 
--- an accepted read: all its bytes are in the file
-pub read-in-file : (h : FractalHeapHeader) (s id : List ℕ) (w p len : ℕ) → managedAt h s id w ≡ At p len → p + len ≤ length s
+pub read-in-file : ReadInFile
 read-in-file h s id w p len e = rw e at (managed-inside h s id w)
 
 -- ---- a tiny object lies in its ID
@@ -60,6 +60,5 @@ unfolding tinyAt
 tiny-all l s =
     (either s (ltb 17 l) _ _ (either s (ltb (length s) 2) _ _ tt (tiny-inside s 2 _)) (either s (eqb (length s) 0) _ _ tt (tiny-inside s 1 _)))
 
--- an accepted tiny object: all its bytes are in the ID
-pub tiny-in-id : (l : ℕ) (s : List ℕ) (p len : ℕ) → tinyAt l s ≡ At p len → p + len ≤ length s
+pub tiny-in-id : TinyInId
 tiny-in-id l s p len e = rw e at (tiny-all l s)

@@ -17,7 +17,8 @@ use Rattle.region_blocks.proofs.Lengths.{direct-head-length}
 use Rattle.region_directs.specs.Directs.{objectsIn, directs}
 use Rattle.region_directs.proofs.Lengths.{directs-cons}
 use Rattle.region_laws.proofs.Starts.{before, from, before-yes, before-no, from-yes, from-no}
-use Rattle.read_laws.proofs.Holding.{Has, has-left, has-right}
+use Rattle.read_laws.specs.Walking.{Has}
+use Rattle.read_laws.proofs.Holding.{has-left, has-right}
 
 -- a block has at least the bytes of its slot
 pub block-least : (t : Table) (w h b z : ℕ) (objects : List ℕ) → z ≤ length (directBlock t w h b z objects)

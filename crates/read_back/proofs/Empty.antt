@@ -20,11 +20,11 @@ use Rattle.fractal_heap.specs.declared.header.FractalHeapHeader.{FractalHeapHea
 use Rattle.fractal_heap.specs.Read.{rootAt, managedAt}
 use Rattle.id_checks.specs.Checks.{idChecked}
 use Rattle.managed_ids.specs.Ids.{idWritten}
-use Rattle.read_laws.proofs.Missing.{Clear, none, more}
 use Rattle.read_back.specs.ReadBack.{Call, Written, HoldsRegion, HeaderOf, offsetOf, EmptyRead, accepts, refuses, EmptyAnswered}
 use Rattle.read_back.proofs.Ids.{id-passes}
 use Rattle.read_back.proofs.Finding.{starts, block-of, start, placeOf, place-fits, block-inside, by-bare, by-missing, root-finds}
 use Rattle.read_back.proofs.Theorem.{by-id, in-block}
+use Rattle.read_laws.specs.Walking.{Clear, none, more}
 
 -- the n-th of the blocks ss holds x
 record Holder (t : Table) (x : ℕ) (ss : List ℕ) : Type 0 where

@@ -42,14 +42,17 @@ use Rattle.heap_blocks.specs.Blocks.{directAt, walkFrom}
 use Rattle.fractal_heap.specs.declared.header.FractalHeapHeader.{FractalHeapHeader}
 use Rattle.fractal_heap.specs.Header.{tableOf}
 use Rattle.fractal_heap.specs.Read.{rootAt}
-use Rattle.read_laws.proofs.Holding.{Has, has-some, has-left, has-right}
-use Rattle.read_laws.proofs.Agreeing.{Agrees, numbersOf, agrees}
+use Rattle.read_laws.specs.Walking.{Has, Agrees, Coming, Clear, missed, Doubles}
+use Rattle.read_laws.proofs.Holding.{has-some, has-left, has-right}
+use Rattle.read_laws.proofs.Agreeing.{numbersOf, agrees}
 use Rattle.read_laws.proofs.Entries.{defined}
-use Rattle.read_laws.proofs.Standing.{missed}
-use Rattle.read_laws.proofs.Finding.{Coming, found}
-use Rattle.read_laws.proofs.Missing.{Clear, not-found}
+use Rattle.read_laws.proofs.Finding.{found}
+use Rattle.read_laws.proofs.Missing.{not-found}
 use Rattle.read_back.specs.ReadBack.{Call, Written, HoldsRegion, HeaderOf}
 use Rattle.read_back.proofs.Directs.{blockAt, block-least, directs-has}
+
+doubles : Doubles fixed
+doubles = record { starts = omega arith; fills = omega arith }
 
 -- ---- an accepted call
 
@@ -278,14 +281,14 @@ module _ (c : Call) (p : ManagedPlan) (W : Written c p) where
               let s = slot-some fixed start in
               let f = few in
               by-walk (directAt F placeOf start t len)
-              (found fixed (omega arith) (omega arith) w header (numbersOf fixed) 29 agree F width-legal t len start placeOf (drop (suc n) starts) lo hi below (p .«root_rows») 0 starts address firstDirect 64 few (omega arith) span-small is-block coming (omega arith) blocks-have blocks-below)
+              (found fixed doubles w header (numbersOf fixed) 29 agree F width-legal t len start placeOf (drop (suc n) starts) lo hi below (p .«root_rows») 0 starts address firstDirect 64 few (omega arith) span-small is-block (coming, omega arith) blocks-have blocks-below)
 
           -- where no placed block holds the offset
           pub by-missing : Clear fixed t starts → rootAt h F t len w ≡ missed F t len
           by-missing X =
               let f = few in
               by-walk (missed F t len)
-              (not-found fixed (omega arith) (omega arith) w header (numbersOf fixed) 29 agree F width-legal t len (p .«root_rows») 0 starts address firstDirect 64 few (omega arith) span-small is-block starts-placed X blocks-have blocks-below)
+              (not-found fixed doubles w header (numbersOf fixed) 29 agree F width-legal t len (p .«root_rows») 0 starts address firstDirect 64 few (omega arith) span-small is-block (record { placed = starts-placed; clear = X }) blocks-have blocks-below)
 
         -- from the root to the block
         pub root-finds : start ≤ t → t < start + slotAt fixed start .size → rootAt h F t len w ≡ directAt F placeOf start t len

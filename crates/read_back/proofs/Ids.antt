@@ -21,6 +21,7 @@ use Rattle.id_checks.specs.Checks.{idLength, idChecked}
 use Rattle.id_checks.proofs.Checking.{held}
 use Rattle.managed_ids.specs.Ids.{managedId, idWritten}
 use Rattle.managed_ids.proofs.Ids.{id-length, id-passed}
+use Rattle.read_back.specs.ReadBack.{IdRoundTrip}
 
 module _ (o x : ℕ) where
   module _ (lo : o < 2 ^ 40) (hi : x < 2 ^ 16) where
@@ -57,9 +58,7 @@ module _ (o x : ℕ) where
         ap (take 8) (id-passed fixed o x id (id-passes id l))
         ∙ subst (λ (n : ℕ). take n (put id 0 (managedId fixed o x)) ≡ managedId fixed o x) (id-length o x) (put-here id 0 (managedId fixed o x) (let n = id-length o x in omega arith))
 
--- what the ID writer accepts decodes to its pair, under every header of the fixed geometry
-pub id-round-trip : (o x : ℕ) (id : List ℕ) → idChecked fixed o x (length id) ≡ Passed → (h : FractalHeapHeader) → h .«max_heap_size» ≡ 40
-    → decodedId (h .«max_heap_size») (take 8 (idWritten fixed o x id)) ≡ Decoded o x
+pub id-round-trip : IdRoundTrip
 id-round-trip o x id e h bits =
     let H = held o x (length id) e in
     ap₂ decodedId bits (id-is o x (H .offset) (H .size) id (H .room)) ∙ decodes o x (H .offset) (H .size)

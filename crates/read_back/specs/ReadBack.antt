@@ -15,6 +15,8 @@ use Rattle.plan.specs.declared.Planned.the-variants.{Accepted}
 use Rattle.plan.specs.Answer.{answer}
 use Rattle.plan_laws.specs.Plans.{InObject, FrontPart, InPlacedBlock, FreeCounted}
 use Rattle.heap_blocks.specs.declared.Found.the-variants.{At, Refused}
+use Rattle.heap_ids.specs.declared.ManagedId.the-variants.{Decoded}
+use Rattle.heap_ids.specs.Id.{decodedId}
 use Rattle.fractal_heap.specs.declared.header.FractalHeapHeader.{FractalHeapHeader}
 use Rattle.fractal_heap.specs.Read.{managedAt}
 use Rattle.write_answer.specs.Answer.{serialized}
@@ -95,6 +97,11 @@ pub record HeapKept : Type 0 where
 pub record EarlyIdHolds (c : Call) (k : ℕ) (file : List ℕ) (h : FractalHeapHeader) (i : ℕ) : Type 0 where
   pub same-id : (id : List ℕ) → idWritten fixed (offsetOf (c .width) (take k (c .sizes)) i) (getD (take k (c .sizes)) i 0) id ≡ idWritten fixed (offsetOf (c .width) (c .sizes) i) (getD (c .sizes) i 0) id
   pub comes-back : ComesBack file h (c .width) (offsetOf (c .width) (take k (c .sizes)) i) (getD (take k (c .sizes)) i 0) (partOf (take k (c .sizes)) (take (sum (take k (c .sizes))) (c .objects)) i)
+
+-- what the ID writer accepts decodes to its pair, under every header of the fixed geometry
+abbrev pub IdRoundTrip : Type 0
+IdRoundTrip = (o x : ℕ) (id : List ℕ) → idChecked fixed o x (length id) ≡ Passed → (h : FractalHeapHeader) → h .«max_heap_size» ≡ 40
+    → decodedId (h .«max_heap_size») (take 8 (idWritten fixed o x id)) ≡ Decoded o x
 
 -- What document 01 leaves free: by the ID of an empty object the reader accepts, with length 0 at a place of the
 -- file, or, under an indirect root alone, it refuses by 1 with the object's offset and the file's length

@@ -14,14 +14,7 @@ use Rattle.heap_rows.proofs.Rows.{block-size, span}
 use Rattle.numbers.proofs.Saturating.{sat-fits}
 use Rattle.heap_blocks.specs.declared.HeapChild.the-variants.{Direct, Indirect}
 use Rattle.heap_blocks.specs.Blocks.{childOf}
-
--- the header's numbers d give the first N rows of the table t
-pub record Agrees (d : DoublingTable) (t : Table) (N : ℕ) : Type 0 where
-  pub width : d .«table_width» ≡ 2 ^ t .widthBits
-  pub bits : d .«max_heap_size» ≡ t .heapBits
-  pub size : (r : ℕ) → r < N → slotSize d r ≡ 2 ^ rowBits t r
-  pub direct : (r a start : ℕ) → r < N → rowBits t r ≤ t .directBits → childOf d r a start ≡ Direct a (2 ^ rowBits t r) start
-  pub deep : (r a start : ℕ) → r < N → t .directBits < rowBits t r → childOf d r a start ≡ Indirect a (r - t .widthBits) start
+use Rattle.read_laws.specs.Walking.{Agrees}
 
 -- the header's numbers of a table
 abbrev pub numbersOf : Table → DoublingTable

@@ -19,7 +19,8 @@ use Rattle.numbers.proofs.Saturating.{sat-fits}
 use Rattle.heap_blocks.specs.declared.RowScan.the-variants.{Hit}
 use Rattle.heap_blocks.specs.Blocks.{holdsOffset, rowScan}
 use Rattle.heap_blocks.proofs.Scanning.{not-yet, row-hit, row-next}
-use Rattle.read_laws.proofs.Holding.{Has, has-number}
+use Rattle.read_laws.specs.Walking.{Has}
+use Rattle.read_laws.proofs.Holding.{has-number}
 
 -- an address below the largest number of its width is defined
 pub defined : (a w : ℕ) → a < 2 ^ (8 * w) - 1 → undefinedAddr a w ≡ false

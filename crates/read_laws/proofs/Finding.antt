@@ -25,21 +25,12 @@ use Rattle.heap_blocks.specs.declared.RowScan.{RowScan}
 use Rattle.heap_blocks.specs.declared.HeapChild.{HeapChild}
 use Rattle.heap_blocks.specs.declared.Found.{Found}
 use Rattle.heap_blocks.specs.Blocks.{childOf, afterRow, directAt, walkFrom}
-use Rattle.read_laws.proofs.Holding.{Has}
-use Rattle.read_laws.proofs.Agreeing.{Agrees}
+use Rattle.read_laws.specs.Walking.{Has, Agrees, Coming, Finds, WalkFinds}
 use Rattle.read_laws.proofs.Entries.{entry-passed, entry-taken}
 use Rattle.read_laws.proofs.Standing.{Stands, block-stands, onward, walk-scans}
 use Rattle.read_laws.proofs.Scanning.{Settled, Passed, leads-inside, scanned}
 
 -- ---- the block that is sought
-
--- of the blocks ss, placed from a heap offset on, the first of them at the address `next`, the one at b is still
--- to come, and stands at the address a; bs come after it
-pub record Coming (t : Table) (b a : ℕ) (bs : List ℕ) (at : ℕ) (ss : List ℕ) (next : ℕ) : Type 0 where
-  pub placed : Placed t at ss
-  pub ahead : at ≤ b
-  pub there : from b ss ≡ b ∷ bs
-  pub stands : next + sizesAt t (before b ss) ≡ a
 
 module _ {t : Table} {b a : ℕ} {bs : List ℕ} where
   -- what begins before it may be passed
@@ -83,12 +74,10 @@ module _ (t : Table) (g : t .startBits ≤ t .directBits) (wd : t .widthBits + t
   Wanted = directAt F a b target len
 
   -- the walk from a block of n rows comes to the block at b
-  abbrev Finds : ℕ → Type 0
-  Finds n = (base : ℕ) (ss : List ℕ) (pos next depth : ℕ) → n ≤ N → n < depth → base + rowOffset t n < 2 ^ 64 → BlockAt t n base → Coming t b a bs base ss next → b < base + rowOffset t n
-      → Has F pos (block t w header n base ss pos next .bytes) → pos + length (block t w header n base ss pos next .bytes) ≤ 2 ^ (8 * w) - 1
-      → walkFrom d F w target len depth (pos + length (allSlots t w header n base ss pos next .bytes)) n base ≡ Wanted
+  abbrev Here : ℕ → Type 0
+  Here n = Finds t w header d N F target len b a bs n
 
-  module _ {n base : ℕ} (finds : (j : ℕ) → j < n → Finds j) (few : n ≤ N) (top : base + rowOffset t n < 2 ^ 64) (B : BlockAt t n base) (depth : ℕ) (deep : n ≤ depth) (s : List ℕ) where
+  module _ {n base : ℕ} (finds : (j : ℕ) → j < n → Here j) (few : n ≤ N) (top : base + rowOffset t n < 2 ^ 64) (B : BlockAt t n base) (depth : ℕ) (deep : n ≤ depth) (s : List ℕ) where
     abbrev then : HeapChild → Found
     then = onward d F w target len depth
 
@@ -124,7 +113,7 @@ module _ (t : Table) (g : t .startBits ≤ t .directBits) (wd : t .widthBits + t
           let x = fits in
           let G : Stands F s w pos e (block t w header j at (s₁ ∷ ss) pos next) = subst (Stands F s w pos e) q H in
           leads-inside t w header d N A F s target len depth r at (s₁ ∷ ss) pos next e ok (omega arith) dr fits (omega arith) (omega arith) G m K
-          ∙ finds j (omega arith) at (s₁ ∷ ss) pos next depth (omega arith) (omega arith) (omega arith) I S (omega arith) (G .bytes) (G .below)
+          ∙ finds j (omega arith) at (s₁ ∷ ss) pos next depth (omega arith) (omega arith) (omega arith) I (S, omega arith) (G .bytes) (G .below)
 
       -- a slot settles it, or ends before the block at b
       law : (ss : List ℕ) (pos next e : ℕ) → Coming t b a bs at ss next → Stands F s w pos e (slot t w header (smaller t w header n) r at ss pos next)
@@ -139,9 +128,9 @@ module _ (t : Table) (g : t .startBits ≤ t .directBits) (wd : t .widthBits + t
               let y = H .entries .within in
               inr (λ m. entry-passed s w z target m e at ok fits (omega arith) (omega arith), coming-later (omega arith) (slot-cut t g wd w header pos next B C (S .placed)) S)
 
-  block-found : (n : ℕ) → ((j : ℕ) → j < n → Finds j) → Finds n
-  block-found n finds base ss pos next zero few deep top B S u H k = absurd (omega arith)
-  block-found n finds base ss pos next (suc depth) few deep top B S u H k =
+  block-found : (n : ℕ) → ((j : ℕ) → j < n → Here j) → Here n
+  block-found n finds base ss pos next zero few deep top B (S, u) H k = absurd (omega arith)
+  block-found n finds base ss pos next (suc depth) few deep top B (S, u) H k =
       let o : Walked = allSlots t w header n base ss pos next in
       let I = block-stands t w header n base ss pos next F H k in
       let p : ℕ = pos + length (o .bytes) in
@@ -150,6 +139,9 @@ module _ (t : Table) (g : t .startBits ≤ t .directBits) (wd : t .widthBits + t
       (λ r at ss pos next e C S H. law finds few top B depth (omega arith) (drop p F) C ss pos next e S H) (λ ss next S. absurd (let l = S .ahead in omega arith))
       ss pos next (5 + w + offsetBytes t) S (I .slots)
 
-  -- the walk from any block in which the block at b is still to come finds it
-  pub found : (n : ℕ) → Finds n
-  found = by-smaller Finds block-found
+  walk-found : (n : ℕ) → Here n
+  walk-found = by-smaller Here block-found
+
+-- the walk from any block in which the block at b is still to come finds it
+pub found : WalkFinds
+found t D w header d N A F ok target len b a bs lo hi last n = walk-found t (D .starts) (D .fills) w header d N A F ok target len b a bs lo hi last n

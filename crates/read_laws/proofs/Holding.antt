@@ -8,11 +8,7 @@ use lib.ListN.{length, take, drop, length-append, length-drop, length-take}
 use lib.Seq.{take-take, take-add, take-length, drop-drop, drop-at, take-append-seam, drop-append-seam, length-take-le}
 use Rattle.little_endian.specs.LittleEndian.{le, value, leAt}
 use Rattle.little_endian.proofs.LittleEndian.{length-le, value-le}
-
--- from p on the file F has the bytes l
-pub record Has (F : List ℕ) (p : ℕ) (l : List ℕ) : Type 0 where
-  pub within : p + length l ≤ length F
-  pub same : take (length l) (drop p F) ≡ l
+use Rattle.read_laws.specs.Walking.{Has}
 
 -- some bytes that are there are in the file
 pub has-some : (F : List ℕ) (p : ℕ) (l : List ℕ) → 0 < length l → take (length l) (drop p F) ≡ l → Has F p l

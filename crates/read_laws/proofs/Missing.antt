@@ -19,16 +19,10 @@ use Rattle.region_laws.proofs.Geometry.{SlotAt, slot-end, BlockAt, inner-span, 
 use Rattle.region_laws.proofs.Walking.{by-smaller, Way, empty, placed, deeper, way, cut-placed, slot-cut}
 use Rattle.heap_rows.specs.declared.DoublingTable.{DoublingTable}
 use Rattle.heap_blocks.specs.Blocks.{walkFrom}
-use Rattle.read_laws.proofs.Holding.{Has}
-use Rattle.read_laws.proofs.Agreeing.{Agrees}
+use Rattle.read_laws.specs.Walking.{Has, Agrees, Clear, none, more, Absent, missed, Misses, WalkMisses}
 use Rattle.read_laws.proofs.Entries.{entry-passed, entry-later, entry-undefined}
-use Rattle.read_laws.proofs.Standing.{Stands, block-stands, missed, onward, walk-scans}
+use Rattle.read_laws.proofs.Standing.{Stands, block-stands, onward, walk-scans}
 use Rattle.read_laws.proofs.Scanning.{Settled, Passed, leads-inside, scanned}
-
--- no block at one of ss holds the heap offset x
-pub data Clear (t : Table) (x : ℕ) : List ℕ → Type 0 where
-  none : Clear t x []
-  more : {s : ℕ} {ss : List ℕ} → (s ≤ x → s + slotAt t s .size ≤ x) → Clear t x ss → Clear t x (s ∷ ss)
 
 from-clear : {t : Table} {x : ℕ} {ss : List ℕ} (end : ℕ) → Clear t x ss → Clear t x (from end ss)
 unfolding from
@@ -39,19 +33,12 @@ from-clear {t} {x} end (more {s = s} {ss = ss} f C) = go (decLt s end) (from-cle
     go (yes l) ih = subst (Clear t x) (sym (from-yes s ss end l)) ih
     go (no l) ih = subst (Clear t x) (sym (from-no s ss end (omega arith))) (more f C)
 
--- the blocks ss, placed from a heap offset on, do not hold x
-record Absent (t : Table) (x at : ℕ) (ss : List ℕ) : Type 0 where
-  placed : Placed t at ss
-  clear : Clear t x ss
-
 module _ (t : Table) (g : t .startBits ≤ t .directBits) (wd : t .widthBits + t .startBits ≤ suc (t .directBits)) (w header : ℕ) (d : DoublingTable) (N : ℕ) (A : Agrees d t N) (F : List ℕ) (ok : legal w ≡ true) (target len : ℕ) where
   -- the walk from a block of n rows ends with 1
-  abbrev Misses : ℕ → Type 0
-  Misses n = (base : ℕ) (ss : List ℕ) (pos next depth : ℕ) → n ≤ N → n < depth → base + rowOffset t n < 2 ^ 64 → BlockAt t n base → Placed t base ss → Clear t target ss
-      → Has F pos (block t w header n base ss pos next .bytes) → pos + length (block t w header n base ss pos next .bytes) ≤ 2 ^ (8 * w) - 1
-      → walkFrom d F w target len depth (pos + length (allSlots t w header n base ss pos next .bytes)) n base ≡ missed F target len
+  abbrev Here : ℕ → Type 0
+  Here n = Misses t w header d N F target len n
 
-  module _ {n base : ℕ} (misses : (j : ℕ) → j < n → Misses j) (few : n ≤ N) (top : base + rowOffset t n < 2 ^ 64) (B : BlockAt t n base) (depth : ℕ) (deep : n ≤ depth) (s : List ℕ) {r at : ℕ} (C : SlotAt t n base r at) where
+  module _ {n base : ℕ} (misses : (j : ℕ) → j < n → Here j) (few : n ≤ N) (top : base + rowOffset t n < 2 ^ 64) (B : BlockAt t n base) (depth : ℕ) (deep : n ≤ depth) (s : List ℕ) {r at : ℕ} (C : SlotAt t n base r at) where
     abbrev z : ℕ
     z = 2 ^ rowBits t r
 
@@ -74,7 +61,7 @@ module _ (t : Table) (g : t .startBits ≤ t .directBits) (wd : t .widthBits + t
         let x = fits in
         let G : Stands F s w pos e (block t w header j at (s₁ ∷ ss) pos next) = subst (Stands F s w pos e) q H in
         inl (λ m K. leads-inside t w header d N A F s target len depth r at (s₁ ∷ ss) pos next e ok (omega arith) dr fits lo hi G m K
-        ∙ misses j (omega arith) at (s₁ ∷ ss) pos next depth (omega arith) (omega arith) (omega arith) (inner-block t g wd B C dr) (S .placed) (S .clear) (G .bytes) (G .below))
+        ∙ misses j (omega arith) at (s₁ ∷ ss) pos next depth (omega arith) (omega arith) (omega arith) (inner-block t g wd B C dr) (record { placed = S .placed; clear = S .clear }) (G .bytes) (G .below))
 
     law : (ss : List ℕ) (pos next e : ℕ) → Absent t target at ss → Stands F s w pos e (slot t w header (smaller t w header n) r at ss pos next)
         → Settled d (onward d F w target len depth) (missed F target len) s w z target r e at
@@ -102,17 +89,20 @@ module _ (t : Table) (g : t .startBits ≤ t .directBits) (wd : t .widthBits + t
         by (no l) (yes u) = inr (λ m. entry-passed s w z target m e at ok fits room u, behind)
         by (no l) (no u) = or-passed (holding e room (way t g wd w header B C (S .placed) pos next) S (omega arith) (omega arith) H)
 
-  block-missed : (n : ℕ) → ((j : ℕ) → j < n → Misses j) → Misses n
-  block-missed n misses base ss pos next zero few deep top B P X H k = absurd (omega arith)
-  block-missed n misses base ss pos next (suc depth) few deep top B P X H k =
+  block-missed : (n : ℕ) → ((j : ℕ) → j < n → Here j) → Here n
+  block-missed n misses base ss pos next zero few deep top B S H k = absurd (omega arith)
+  block-missed n misses base ss pos next (suc depth) few deep top B S H k =
       let o : Walked = allSlots t w header n base ss pos next in
       let I = block-stands t w header n base ss pos next F H k in
       let p : ℕ = pos + length (o .bytes) in
       walk-scans t w header d (A .bits) F target len p n base depth (o .entries) (I .own)
       ∙ scanned t w header d N A F (drop p F) target n base few (onward d F w target len depth) (missed F target len) (λ at ss next. Absent t target at ss)
       (λ r at ss pos next e C S H. law misses few top B depth (omega arith) (drop p F) C ss pos next e S H) (λ ss next S. refl)
-      ss pos next (5 + w + offsetBytes t) (record { placed = P; clear = X }) (I .slots)
+      ss pos next (5 + w + offsetBytes t) S (I .slots)
 
-  -- the walk from any block whose placed blocks do not hold the offset
-  pub not-found : (n : ℕ) → Misses n
-  not-found = by-smaller Misses block-missed
+  walk-missed : (n : ℕ) → Here n
+  walk-missed = by-smaller Here block-missed
+
+-- the walk from any block whose placed blocks do not hold the offset
+pub not-found : WalkMisses
+not-found t D w header d N A F ok target len n = walk-missed t (D .starts) (D .fills) w header d N A F ok target len n

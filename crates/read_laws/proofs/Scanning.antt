@@ -21,8 +21,7 @@ use Rattle.heap_blocks.specs.declared.HeapChild.{HeapChild}
 use Rattle.heap_blocks.specs.declared.HeapChild.the-variants.{Missing}
 use Rattle.heap_blocks.specs.declared.Found.{Found}
 use Rattle.heap_blocks.specs.Blocks.{rowScan, childOf, afterRow, childScan, walkFrom}
-use Rattle.read_laws.proofs.Holding.{Has}
-use Rattle.read_laws.proofs.Agreeing.{Agrees}
+use Rattle.read_laws.specs.Walking.{Has, Agrees}
 use Rattle.read_laws.proofs.Entries.{entry-taken}
 use Rattle.read_laws.proofs.Standing.{Stands, stands-first, stands-next, block-entry, block-below, onward}
 

@@ -22,7 +22,8 @@ use Rattle.heap_blocks.specs.declared.HeapChild.{HeapChild}
 use Rattle.heap_blocks.specs.declared.Found.{Found}
 use Rattle.heap_blocks.specs.declared.Found.the-variants.{Refused}
 use Rattle.heap_blocks.specs.Blocks.{childScan, entriesPlace, childIn, childAt, directAt, afterChild, walkFrom}
-use Rattle.read_laws.proofs.Holding.{Has, has-left, has-right, has-drop, has-number}
+use Rattle.read_laws.specs.Walking.{Has, missed}
+use Rattle.read_laws.proofs.Holding.{has-left, has-right, has-drop, has-number}
 
 -- the outcome o of a walk is in the file F: its blocks from pos on, its entries at e of s; addresses have w bytes
 pub record Stands (F s : List ℕ) (w pos e : ℕ) (o : Walked) : Type 0 where
@@ -98,10 +99,6 @@ block-stands t w header n at ss pos next F H k =
       own = I;
       slots = record { bytes = has-left F pos (o .bytes) (indirectBlock t w header at (o .entries)) G; below = omega arith; entries = entries-has t w header F (pos + length (o .bytes)) at (o .entries) I };
     }
-
--- where the walk refuses: no child holds the wanted offset
-abbrev pub missed : List ℕ → ℕ → ℕ → Found
-missed F target len = Refused (UnexpectedEof (saturated (target + len)) (length F))
 
 -- what the walk makes of a child, with so many blocks to go
 abbrev pub onward : DoublingTable → List ℕ → ℕ → ℕ → ℕ → ℕ → HeapChild → Found

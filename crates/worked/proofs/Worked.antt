@@ -29,11 +29,11 @@ use Rattle.id_checks.specs.Checks.{idLength, idChecked}
 use Rattle.managed_ids.specs.Ids.{managedId}
 use Rattle.region_laws.proofs.Indirect.{bare-planned}
 use Rattle.region_laws.proofs.Region.{region-length, root-place}
-use Rattle.read_laws.proofs.Missing.{Clear, none, more}
 use Rattle.read_back.specs.ReadBack.{Call, offsetOf}
 use Rattle.read_back.proofs.Finding.{planned as planned-call}
 use Rattle.read_back.proofs.Empty.{missed-there}
 use Rattle.worked.specs.Cases.{Region, callFor, Unfound, Both, All, cases}
+use Rattle.read_laws.specs.Walking.{Clear, none, more}
 
 both : {P Q : Type 0} → P → Q → Both P Q
 both p q = record { first = p; rest = q }
