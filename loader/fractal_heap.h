@@ -33,6 +33,9 @@ enum fractal_heap_refusal {
     FRACTAL_HEAP_HEAP_ID_TOO_LARGE = 16                 /* offset, length */
 };
 
+/* A pointer whose length is 0 is not touched and may be NULL. That was seen in the compiled library;
+ * example.c calls every function so. */
+
 /* Jenkins' lookup3 (hashlittle, initial value 0), the checksum of HDF5's metadata. */
 uint32_t fractal_heap_checksum(const uint8_t *bytes, size_t bytes_len);
 
