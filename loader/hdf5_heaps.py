@@ -203,14 +203,19 @@ def check_nested(folder):
     expect(found == [(0, 16), (524288, 6)], "a nested block, found by an entry of the root's row 8")
 
 
-def check_widths():
-    """The sizes of offsets that a file can be given (28)."""
-    sizes = h5p.create(h5p.FILE_CREATE)
+def check_widths(folder):
+    """The sizes of offsets that a file can have (28): a heap of attributes is written and read at each."""
+    name = os.path.join(folder, "widths.h5")
     for size in (2, 4, 8, 16):
-        sizes.set_sizes(size, 8)
+        with created(name, size, 8) as file:
+            file.attrs.update({f"attribute {i}": i for i in range(12)})
+        with h5py.File(name, "r") as file:
+            found = {key: int(value) for key, value in file.attrs.items()}
+        expect(found == {f"attribute {i}": i for i in range(12)}, f"an offset size of {size}")
+    os.remove(name)
     for size in (1, 3, 5, 32):
         try:
-            sizes.set_sizes(size, 8)
+            h5p.create(h5p.FILE_CREATE).set_sizes(size, 8)
         except ValueError:
             continue
         raise AssertionError(f"an offset size of {size}")
@@ -218,7 +223,7 @@ def check_widths():
 
 def check(folder):
     """What to print of it."""
-    check_widths()
+    check_widths(folder)
     if h5py.version.hdf5_version_tuple[:2] != VERSION:
         return "HDF5's own functions: skipped, their declarations are known of HDF5 1.10 alone"
     for part in (check_fields, check_kinds, check_reads, check_spaces, check_nested):
