@@ -1,6 +1,6 @@
 //! Files in and out, with a plain message where one cannot be read or written.
 use crate::failure::Failure;
-use crate::image::{room, LARGEST_DIRECT};
+use crate::image::{LARGEST_DIRECT, room};
 use crate::numbers::grouped;
 use crate::progress::Progress;
 use std::ffi::OsStr;

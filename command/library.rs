@@ -49,7 +49,16 @@ fn accepted(number: u32, first: u64, second: u64) -> Result<(), Refusal> {
 
 fn totals(number: u32, numbers: [u64; 8]) -> Result<Totals, Refusal> {
     accepted(number, numbers[0], numbers[1])?;
-    let [blocks, region_size, root_rows, root_place, managed, allocated, free, iterator] = numbers;
+    let [
+        blocks,
+        region_size,
+        root_rows,
+        root_place,
+        managed,
+        allocated,
+        free,
+        iterator,
+    ] = numbers;
     Ok(Totals {
         blocks,
         region_size,

@@ -2,7 +2,7 @@
 //! blocks that are open in it. What is alike is drawn once.
 use crate::image::STARTING;
 use crate::numbers::{count, grouped};
-use crate::table::{direct_slots, Fill, Fullness, Row, Slot, Table};
+use crate::table::{Fill, Fullness, Row, Slot, Table, direct_slots};
 
 /// A longer picture is drawn with fewer levels of indirect blocks.
 const MOST_LINES: usize = 100;

@@ -3,7 +3,7 @@ use crate::arguments::{self, Arguments, Known};
 use crate::failure::Failure;
 use crate::files;
 use crate::fractal_heap::{decode_managed_id, read_managed_object};
-use crate::library::{kind, parse_header, tiny_object, Kind};
+use crate::library::{Kind, kind, parse_header, tiny_object};
 use crate::numbers::{count, grouped, hex};
 use crate::progress::Progress;
 use crate::{refusals, tell};

@@ -1,5 +1,5 @@
 //! A planned heap as a tree: the rows and slots of its root, and those of every opened indirect block in them.
-use crate::image::{block_header, LARGEST_DIRECT, STARTING, WIDTH};
+use crate::image::{LARGEST_DIRECT, STARTING, WIDTH, block_header};
 use std::ops::Range;
 
 /// Bytes of objects, and of the bodies that hold them.
@@ -52,7 +52,7 @@ impl<'a> Fullness<'a> {
         let mut used = vec![0; starts.len()];
         let mut block = 0;
         // Objects lie in the order of their blocks; an empty one adds nothing wherever it is.
-        for (&offset, &size) in offsets.iter().zip(sizes).filter(|(_, &size)| size > 0) {
+        for (&offset, &size) in offsets.iter().zip(sizes).filter(|&(_, &size)| size > 0) {
             while starts.get(block + 1).is_some_and(|&next| next <= offset) {
                 block += 1;
             }

@@ -1,19 +1,25 @@
-// The original, taken in unchanged: `src` is a link to the folder that holds it, made by `run`. Its
+// The original, taken in unchanged: `src` is a link to the folder that holds it, made by `build`. Its
 // functions are private to their crate, so this root hands them on. Features: `checksum`, not `std`.
-// Planner and reader are taken from copies that `run` makes, each text followed by one line:
-// `block_starts!();`, since the heap offsets of the placed blocks have no accessor, and
-// `private_reads!();`, since tiny objects and ID types are private to their file.
+// Planner and reader are taken from copies that `build` makes, each text followed by one line:
+// `private_plans!();`, since the heap offsets of the placed blocks have no accessor and the root's rows are
+// private to their file, and `private_reads!();`, since tiny objects and ID types are.
+// Four modules are stand-ins of ours for what is not at hand: `byteorder`, `btree_v2`, `source` and
+// `file_writer`. Every region that is compared is written through the last.
 #![allow(dead_code, unused_imports)]
 extern crate alloc;
 // The reader asks for the crate `byteorder`: this root stands in for it.
 extern crate self as byteorder;
 
-macro_rules! block_starts {
+macro_rules! private_plans {
     () => {
         impl ManagedPlan {
             pub(crate) fn block_starts(&self) -> Vec<u64> {
                 self.directs.iter().map(|b| b.heap_offset).collect()
             }
+        }
+
+        pub(crate) fn rows_covering(span: u64) -> Option<u64> {
+            root_rows_covering(span).map(|rows| rows as u64)
         }
     };
 }
@@ -249,6 +255,11 @@ pub fn region(objects: &[&[u8]], offset_size: u8, region_at: u64, header_at: u64
     let sizes: Vec<u64> = objects.iter().map(|o| o.len() as u64).collect();
     let plan = planned(&sizes, offset_size).expect("within the heap space");
     plan.serialize(objects, region_at, header_at)
+}
+
+/// The rows of a root that spans so many bytes of heap space.
+pub fn rows_covering(span: u64) -> Option<u64> {
+    fractal_heap_write::rows_covering(span)
 }
 
 /// A header that was parsed.

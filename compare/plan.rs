@@ -390,13 +390,14 @@ fn heap_ends(sizes: &[u64], w: u8, fits: usize) {
 /// How many blocks of 65,536 the heap has: so many of the largest objects fill it, at every width.
 const FULL: usize = 4_191_796;
 
-/// Largest objects with `last` in the last block, which they fill, and an empty one at 2^40.
+/// Largest objects with `last` in the last block, which they fill, and an empty one at 2^40; the root has 29 rows.
 fn heap_filled(w: u8, last: &[u64]) -> Vec<u64> {
     let mut sizes = vec![limit(w); FULL - 1];
     sizes.extend(last);
     sizes.push(0);
     let plan = accepted(&sizes, enough(&sizes, [1, 2, 3]), w);
     assert_eq!(plan.totals[0], FULL as u64, "width {w}");
+    assert_eq!(plan.totals[2], 29, "width {w}");
     assert_eq!(plan.offsets.last(), Some(&(1 << 40)), "width {w}");
     sizes
 }

@@ -1,4 +1,4 @@
-//! What the programs `vectors` and `heaps` must print, from the original alone (stores: by the facts of
+//! What the programs `vectors` and `heaps` must print, from the original (stores: by the facts of
 //! docs/DECISIONS.md; the refusals of planning that the original does not have: by the scope's table). What
 //! the program `reads` replays and prints is in reads.rs, what `regions` and `round_trips` print in the files of
 //! their names.

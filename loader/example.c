@@ -117,8 +117,7 @@ static int answers(uint32_t number, uint32_t due, uint64_t due_first, uint64_t d
 static void checksums(void)
 {
     const char *text = "Four score and seven years ago";
-    uint8_t none = 0;
-    check(fractal_heap_checksum(&none, 0) == 0xDEADBEEF, "checksum of no bytes is DEADBEEF");
+    check(fractal_heap_checksum(NULL, 0) == 0xDEADBEEF, "checksum of no bytes is DEADBEEF");
     check(fractal_heap_checksum((const uint8_t *)text, strlen(text)) == 0x17770551,
           "checksum of \"Four score and seven years ago\" is 17770551");
 }
@@ -126,12 +125,13 @@ static void checksums(void)
 static void accepted(const uint8_t *id)
 {
     static const uint8_t worked[8] = {0x00, 0x16, 0x20, 0x00, 0x00, 0x00, 0xEB, 0x03};
-    check(answers(ask(fractal_heap_decode_managed_id, FILE_LEN, worked), 0, 8214, 1003),
+    check(answers(ask(fractal_heap_decode_managed_id, FILE_LEN, worked), FRACTAL_HEAP_OK, 8214, 1003),
           "ID 00 16 20 00 00 00 EB 03 is offset 8214, length 1003");
-    check(answers(ask(fractal_heap_decode_managed_id, FILE_LEN, id), 0, BLOCK_HEADER, sizeof OBJECT),
-          "the object's ID is the offset after the block's header, and the object's length");
-    check(answers(ask(fractal_heap_read_managed_object, FILE_LEN, id), 0, ROOT + BLOCK_HEADER,
+    check(answers(ask(fractal_heap_decode_managed_id, FILE_LEN, id), FRACTAL_HEAP_OK, BLOCK_HEADER,
                   sizeof OBJECT),
+          "the object's ID is the offset after the block's header, and the object's length");
+    check(answers(ask(fractal_heap_read_managed_object, FILE_LEN, id), FRACTAL_HEAP_OK,
+                  ROOT + BLOCK_HEADER, sizeof OBJECT),
           "the object lies after the root block's header");
     check(memcmp(file + first, OBJECT, sizeof OBJECT) == 0, "its bytes are those that were put there");
 }
@@ -142,20 +142,24 @@ static void refused(const uint8_t *id)
     uint8_t huge[8];
     put_id(huge, BLOCK_HEADER, sizeof OBJECT);
     huge[0] = 0x10;
-    check(answers(ask(fractal_heap_read_managed_object, end - 1, id), 1, end, end - 1),
+    check(answers(ask(fractal_heap_read_managed_object, end - 1, id), FRACTAL_HEAP_UNEXPECTED_EOF,
+                  end, end - 1),
           "a file cut in the object: 1 with its end and the bytes there are");
-    check(answers(ask(fractal_heap_read_managed_object, AT + 3, id), 1, AT + 5, AT + 3),
+    check(answers(ask(fractal_heap_read_managed_object, AT + 3, id), FRACTAL_HEAP_UNEXPECTED_EOF,
+                  AT + 5, AT + 3),
           "a file cut in the header's signature: 1");
-    check(answers(ask(fractal_heap_read_managed_object, FILE_LEN, huge), 6, 1, 0),
+    check(answers(ask(fractal_heap_read_managed_object, FILE_LEN, huge),
+                  FRACTAL_HEAP_INVALID_HEAP_ID_TYPE, 1, 0),
           "an ID of a huge object: 6 with its type");
 
     file[AT] ^= 1;
-    check(answers(ask(fractal_heap_read_managed_object, FILE_LEN, id), 4, 0, 0),
+    check(answers(ask(fractal_heap_read_managed_object, FILE_LEN, id),
+                  FRACTAL_HEAP_INVALID_SIGNATURE, 0, 0),
           "another signature: 4");
     file[AT] ^= 1;
 
     file[AT + 20] ^= 1;
-    check(answers(ask(fractal_heap_read_managed_object, FILE_LEN, id), 7,
+    check(answers(ask(fractal_heap_read_managed_object, FILE_LEN, id), FRACTAL_HEAP_CHECKSUM_MISMATCH,
                   get(file + AT + HEADER - 4, 4), fractal_heap_checksum(file + AT, HEADER - 4)),
           "a flipped byte in the header: 7 with the stored and the computed checksum");
     file[AT + 20] ^= 1;
@@ -166,13 +170,32 @@ static void slots(const uint8_t *id)
     uint8_t slot[24], before[24];
     for (int i = 0; i < 24; i++)
         slot[i] = before[i] = (uint8_t)(0xA0 + i);
-    check(fractal_heap_read_managed_object(file, FILE_LEN, AT, WIDTH, WIDTH, id, 8, slot, 15) == 13 &&
+    check(fractal_heap_read_managed_object(file, FILE_LEN, AT, WIDTH, WIDTH, id, 8, slot, 15) ==
+                  FRACTAL_HEAP_SLICE_TOO_SHORT &&
               memcmp(slot, before, 24) == 0,
           "a slot of 15 bytes: 13, and the slot is as it was");
-    check(fractal_heap_read_managed_object(file, FILE_LEN, AT, WIDTH, WIDTH, id, 8, slot, 24) == 0 &&
+    check(fractal_heap_read_managed_object(file, FILE_LEN, AT, WIDTH, WIDTH, id, 8, slot, 24) ==
+                  FRACTAL_HEAP_OK &&
               get(slot, 8) == ROOT + BLOCK_HEADER && get(slot + 8, 8) == sizeof OBJECT &&
               memcmp(slot + 16, before + 16, 8) == 0,
           "a slot of 24 bytes: the answer in 16, the rest as it was");
+}
+
+/* No bytes at no address: one by one, and all together. */
+static void nulls(call *function, const uint8_t *id)
+{
+    uint8_t slot[16];
+    check(function(NULL, 0, AT, WIDTH, WIDTH, id, 8, slot, sizeof slot) == FRACTAL_HEAP_UNEXPECTED_EOF &&
+              get(slot, 8) == AT + 5 && get(slot + 8, 8) == 0,
+          "no file: 1 with the end of signature and version");
+    check(function(file, FILE_LEN, AT, WIDTH, WIDTH, NULL, 0, slot, sizeof slot) ==
+                  FRACTAL_HEAP_UNEXPECTED_EOF &&
+              get(slot, 8) == 1 && get(slot + 8, 8) == 0,
+          "no ID: 1 with (1, 0)");
+    check(function(file, FILE_LEN, AT, WIDTH, WIDTH, id, 8, NULL, 0) == FRACTAL_HEAP_SLICE_TOO_SHORT,
+          "no slot: 13");
+    check(function(NULL, 0, AT, WIDTH, WIDTH, NULL, 0, NULL, 0) == FRACTAL_HEAP_SLICE_TOO_SHORT,
+          "no file, no ID, no slot: 13");
 }
 
 int main(void)
@@ -185,6 +208,8 @@ int main(void)
     accepted(id);
     refused(id);
     slots(id);
+    nulls(fractal_heap_decode_managed_id, id);
+    nulls(fractal_heap_read_managed_object, id);
     printf("example.c: %u checks\n", checks);
     return 0;
 }

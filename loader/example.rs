@@ -4,7 +4,7 @@
 mod fractal_heap;
 
 use fractal_heap::{
-    checksum, decode_managed_id, read_managed_object, read_managed_object_into, Refusal,
+    Refusal, checksum, decode_managed_id, read_managed_object, read_managed_object_into,
 };
 
 /// The starting block size.

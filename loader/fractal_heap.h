@@ -10,12 +10,37 @@
 extern "C" {
 #endif
 
+/* What a function returns: 0, or why it refuses. Behind each number are its two values, those that go
+ * into the slot. The functions of this library give 0 to 10 and 13; 11, 12 and 14 to 16 are those of
+ * planning and writing, in the same table. */
+enum fractal_heap_refusal {
+    FRACTAL_HEAP_OK = 0,                                /* the answer's own */
+    FRACTAL_HEAP_UNEXPECTED_EOF = 1,                    /* expected end (at most 2^64 - 1), available */
+    FRACTAL_HEAP_INVALID_OFFSET_SIZE = 2,               /* size, 0 */
+    FRACTAL_HEAP_INVALID_LENGTH_SIZE = 3,               /* size, 0 */
+    FRACTAL_HEAP_INVALID_SIGNATURE = 4,                 /* 0, 0 */
+    FRACTAL_HEAP_INVALID_VERSION = 5,                   /* version, 0 */
+    FRACTAL_HEAP_INVALID_HEAP_ID_TYPE = 6,              /* type, 0 */
+    FRACTAL_HEAP_CHECKSUM_MISMATCH = 7,                 /* stored, computed */
+    FRACTAL_HEAP_UNSUPPORTED_FILTERED_HEAP_OBJECT = 8,  /* 0, 0 */
+    FRACTAL_HEAP_OFFSET_OVERFLOW = 9,                   /* block address, distance */
+    FRACTAL_HEAP_DEPTH_EXCEEDED = 10,                   /* 64, 0 */
+    FRACTAL_HEAP_OBJECT_TOO_LARGE = 11,                 /* index, size */
+    FRACTAL_HEAP_HEAP_SPACE_EXHAUSTED = 12,             /* index, 0 */
+    FRACTAL_HEAP_SLICE_TOO_SHORT = 13,                  /* needed, lent; for a slot: nothing is put */
+    FRACTAL_HEAP_OBJECT_BYTES_MISMATCH = 14,            /* sum of the sizes, bytes given */
+    FRACTAL_HEAP_ADDRESS_TOO_LARGE = 15,                /* header address, 0; or region address, region size */
+    FRACTAL_HEAP_HEAP_ID_TOO_LARGE = 16                 /* offset, length */
+};
+
+/* A pointer whose length is 0 is not touched and may be NULL. That was seen in the compiled library;
+ * example.c calls every function so. */
+
 /* Jenkins' lookup3 (hashlittle, initial value 0), the checksum of HDF5's metadata. */
 uint32_t fractal_heap_checksum(const uint8_t *bytes, size_t bytes_len);
 
 /* The two functions below parse the heap header at `at` in the file first; offset_size and
- * length_size are the file's (2, 4 or 8). They return 0, or the number of a refusal by the table in
- * README.md.
+ * length_size are the file's (2, 4 or 8). They return 0, or the number of a refusal.
  *
  * Accepted or refused, two 64-bit numbers go little-endian into the first 16 bytes of the slot: those
  * of the answer, or those of the refusal. Bytes past 16 keep their content. A slot of fewer than 16

@@ -15,7 +15,7 @@ type Call = unsafe extern "C" fn(
 ) -> u32;
 
 #[link(name = "fractal_heap_c", kind = "static")]
-extern "C" {
+unsafe extern "C" {
     fn fractal_heap_checksum(bytes: *const u8, bytes_len: usize) -> u32;
     fn fractal_heap_decode_managed_id(
         file: *const u8,

@@ -18,6 +18,7 @@ from h5py import h5g, h5o, h5p
 
 import h5debug
 import hdf5_format as form
+import hdf5_heaps
 from hdf5_format import expect
 from hdf5_messages import due_messages
 from made_files import WIDTHS, created, some_size, some_value
@@ -167,6 +168,7 @@ def check_heap(program, name, image, owner, kind, counts):
         return None
     address, trees = dense
     heap = form.Heap(image, address)
+    expect(heap.largest_object == 4096, "the largest managed object")
     for tree, due in zip(trees, due_messages(image, owner, kind)):
         ids = check_index(program, name, heap, form.BTree(image, tree), due, counts)
     heap.ids = [heap_id for heap_id in ids if heap_id[0] >> 4 & 3 == 0]
@@ -300,17 +302,18 @@ def check_filtered(program, folder):
     return len(answers)
 
 
-def report(counts, numbers, filtered):
+def report(counts, numbers, filtered, own):
     """Prints what was met; the last line is the sum."""
     copies = ", ".join(f"{count} by {number}" for number, count in sorted(numbers.items()))
     print(
         f"real files: refused: damaged copies, {copies}; {filtered} IDs of a filtered heap by 7; "
         f"{counts['huge']} huge and {counts['tiny']} tiny IDs by 6"
     )
-    debugged = f"{counts['h5debug']} headers as it tells them" if counts["h5debug"] else "not at hand"
-    print(f"real files: h5debug: {debugged}")
-    commanded = f"{counts['command']} objects" if counts["command"] else "not built"
-    print(f"real files: read by the command: {commanded}")
+    debugged = f"{counts['h5debug']} headers as it tells them"
+    print(f"real files: h5debug: {debugged if counts['h5debug'] else 'skipped, it is not at hand'}")
+    commanded = f"{counts['command']} objects"
+    print(f"real files: read by the command: {commanded if counts['command'] else 'skipped, it is not built'}")
+    print(f"real files: {own}")
     heaps = ", ".join(f"{counts[kind]} {kind}" for kind in KINDS)
     total = sum(counts[kind] for kind in KINDS)
     print(
@@ -330,7 +333,7 @@ def main():
     for due in [(2, 0), (2, 1)] + [(width, depth) for width in (4, 8) for depth in range(4)]:
         expect(due in depths, f"no heap of offset size and depth {due}")
     filtered = check_filtered(program, folder)
-    report(counts, numbers, filtered)
+    report(counts, numbers, filtered, hdf5_heaps.check(folder))
 
 
 main()

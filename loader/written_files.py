@@ -617,7 +617,7 @@ def report(counts, tools):
         refusals += f"and h5debug {counts['damaged for h5debug']}"
         print(f"written files: h5debug tells {counts['blocks']} blocks as we wrote them; {refusals}")
     else:
-        print("written files: h5dump and h5debug are not at hand")
+        print("written files: h5dump and h5debug: skipped, they are not at hand")
     print(
         f"written files: {counts['files']} files, {sum(counts[kind] for kind in KINDS)} heaps, "
         f"{counts['attributes']} attributes read back by h5py{', h5dump and h5debug' if tools else ''}; "
