@@ -118,8 +118,9 @@ pub fn enough(sizes: &[u64], more: Places) -> Places {
 /// Numbers by their index.
 type Values = &'static [(usize, u64)];
 
-/// The worked heaps 1 to 7 of the scope (w = 8) and its wrong turn: the sizes, offsets, totals.
-const WORKED: [(&[u64], Values, Values); 8] = [
+/// The worked heaps 1 to 7 of the scope (w = 8), its wrong turn and an empty object after two full blocks: the sizes,
+/// offsets, totals.
+const WORKED: [(&[u64], Values, Values); 9] = [
     (&[], &[], &[(1, 1024), (6, 1002), (2, 0), (7, 0)]),
     (&[1002], &[(0, 22)], &[(6, 0), (7, 0)]),
     (
@@ -150,6 +151,20 @@ const WORKED: [(&[u64], Values, Values); 8] = [
         ],
     ),
     (&[1003, 1], &[(1, 9217)], &[]),
+    (
+        &[1002, 1002, 0],
+        &[(0, 22), (1, 1046), (2, 2048)],
+        &[
+            (0, 2),
+            (1, 2102),
+            (2, 1),
+            (3, 0),
+            (4, 4096),
+            (5, 2048),
+            (6, 2004),
+            (7, 2048),
+        ],
+    ),
 ];
 
 fn worked() -> Row {
@@ -161,7 +176,7 @@ fn worked() -> Row {
     }
     refused(&[65_515], [1, 1, 8], 8, (11, 0, 65_515));
     row(
-        "plans of worked heaps 1 to 7 and the wrong turn",
+        "plans of worked heaps 1 to 7, the wrong turn and an empty object",
         WORKED.len() as u64,
     )
 }
