@@ -3,8 +3,8 @@
 // Planner and reader are taken from copies that `build` makes, each text followed by one line:
 // `private_plans!();`, since the heap offsets of the placed blocks have no accessor and the root's rows are
 // private to their file, and `private_reads!();`, since tiny objects and ID types are.
-// Four modules are stand-ins of ours for what is not at hand: `byteorder`, `btree_v2`, `source` and
-// `file_writer`. Every region that is compared is written through the last.
+// For what is not at hand there are stand-ins of ours: this root for the crate `byteorder`, and the modules
+// `btree_v2`, `source` and `file_writer`. Every region that is compared is written through the last.
 #![allow(dead_code, unused_imports)]
 extern crate alloc;
 // The reader asks for the crate `byteorder`: this root stands in for it.

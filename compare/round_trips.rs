@@ -1,5 +1,5 @@
 //! What the program `round_trips` must print: the original plans, writes and reads; IDs are by the scope's words,
-//! refusals by its table.
+//! refusals of writing by its table.
 use crate::back::by_rule;
 use crate::made;
 use crate::ours::Writing;
@@ -112,7 +112,7 @@ fn list(k: u64) -> (Vec<u64>, u8) {
 
 pub fn round_trips() -> String {
     let first =
-        "The original Rust's answers (IDs and refusals: by the scope's words), from compare/run --record\n";
+        "The original Rust's answers (IDs and refusals of writing: by the scope's words), from compare/run --record\n";
     let (mut out, mut file) = (String::from(first), vec![0xA5; FILE]);
     for k in 0..66 {
         let (sizes, w) = list(k);

@@ -10,10 +10,10 @@
 extern "C" {
 #endif
 
-/* What a function returns: 0, or why it refuses. Behind each number are its two values, those that go
- * into the slot. The functions of this library give 0 to 10 and 13; 11, 12 and 14 to 16 are those of
+/* What the two functions with a slot return: 0, or why they refuse. Behind each number are its two values,
+ * those that go into the slot. These functions give 0 to 10 and 13; 11, 12 and 14 to 16 are those of
  * planning and writing, in the same table. */
-enum fractal_heap_refusal {
+enum fractal_heap_number {
     FRACTAL_HEAP_OK = 0,                                /* the answer's own */
     FRACTAL_HEAP_UNEXPECTED_EOF = 1,                    /* expected end (at most 2^64 - 1), available */
     FRACTAL_HEAP_INVALID_OFFSET_SIZE = 2,               /* size, 0 */

@@ -1,20 +1,20 @@
 -- The mix and the final mix of three words: the macros mix and final of lookup3.c (Bob Jenkins, May 2006, public
--- domain). A comment gives the line of C that a definition follows, with k for the line's rotation.
+-- domain). A definition follows one line of C, with k for the line's rotation.
 use Prim.Native.Nat.{ℕ}
 use Rattle.lookup3_mix.specs.Words.{add32, subXor, xorSub}
 use Rattle.lookup3_mix.specs.declared.State.{State}
 
--- ---- #define mix(a,b,c)
+-- ---- the macro mix
 
--- a -= c;  a ^= rot(c, k);  c += b;
+-- a line for a: c is taken from it, then it is exclusive-ored with c rotated by k; b is added to c
 unfoldable pub mixA : ℕ → State → State
 mixA k s = record { a = subXor (s .a) (s .c) k; b = s .b; c = add32 (s .c) (s .b) }
 
--- b -= a;  b ^= rot(a, k);  a += c;
+-- a line for b: likewise with a; c is added to a
 unfoldable pub mixB : ℕ → State → State
 mixB k s = record { a = add32 (s .a) (s .c); b = subXor (s .b) (s .a) k; c = s .c }
 
--- c -= b;  c ^= rot(b, k);  b += a;
+-- a line for c: likewise with b; a is added to b
 unfoldable pub mixC : ℕ → State → State
 mixC k s = record { a = s .a; b = add32 (s .b) (s .a); c = subXor (s .c) (s .b) k }
 
@@ -22,17 +22,17 @@ mixC k s = record { a = s .a; b = add32 (s .b) (s .a); c = subXor (s .c) (s .b) 
 unfoldable pub mixed : State → State
 mixed s = mixC 4 (mixB 19 (mixA 16 (mixC 8 (mixB 6 (mixA 4 s)))))
 
--- ---- #define final(a,b,c)
+-- ---- the macro final
 
--- c ^= b;  c -= rot(b, k);
+-- a line for c: it is exclusive-ored with b, then b rotated by k is taken from it
 unfoldable pub finalC : ℕ → State → State
 finalC k s = record { a = s .a; b = s .b; c = xorSub (s .c) (s .b) k }
 
--- a ^= c;  a -= rot(c, k);
+-- a line for a: likewise with c
 unfoldable pub finalA : ℕ → State → State
 finalA k s = record { a = xorSub (s .a) (s .c) k; b = s .b; c = s .c }
 
--- b ^= a;  b -= rot(a, k);
+-- a line for b: likewise with a
 unfoldable pub finalB : ℕ → State → State
 finalB k s = record { a = s .a; b = xorSub (s .b) (s .a) k; c = s .c }
 

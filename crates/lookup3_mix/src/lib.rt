@@ -21,7 +21,7 @@ fn rotate_left(x: u32, k: u32) -> u32
     (x << k) | (x >> (32 - k))
 }
 
-// x -= y;  x ^= rot(y, k);
+// `y` is taken from `x`, then `x` is exclusive-ored with `y` rotated by `k`.
 fn sub_xor(x: u32, y: u32, k: u32) -> u32
     requires { ⌜ Rotation k ⌝ }
     ensures { λ r. ⌜ r ≡ subXor x y k ⌝ }
@@ -29,7 +29,7 @@ fn sub_xor(x: u32, y: u32, k: u32) -> u32
     wrapping_sub_u32(x, y) ^ rotate_left(y, k)
 }
 
-// x ^= y;  x -= rot(y, k);
+// `x` is exclusive-ored with `y`, then `y` rotated by `k` is taken from it.
 fn xor_sub(x: u32, y: u32, k: u32) -> u32
     requires { ⌜ Rotation k ⌝ }
     ensures { λ r. ⌜ r ≡ xorSub x y k ⌝ }
@@ -37,7 +37,7 @@ fn xor_sub(x: u32, y: u32, k: u32) -> u32
     wrapping_sub_u32(x ^ y, rotate_left(y, k))
 }
 
-// a -= c;  a ^= rot(c, k);  c += b;
+// A line of mix for a: c is taken from it, then it is exclusive-ored with c rotated by `k`; b is added to c.
 fn mix_a(s: State, k: u32) -> State
     requires { ⌜ Rotation k ⌝ }
     ensures { λ r. ⌜ r ≡ mixA k s ⌝ }
@@ -49,7 +49,7 @@ fn mix_a(s: State, k: u32) -> State
     }
 }
 
-// b -= a;  b ^= rot(a, k);  a += c;
+// A line of mix for b: likewise with a; c is added to a.
 fn mix_b(s: State, k: u32) -> State
     requires { ⌜ Rotation k ⌝ }
     ensures { λ r. ⌜ r ≡ mixB k s ⌝ }
@@ -61,7 +61,7 @@ fn mix_b(s: State, k: u32) -> State
     }
 }
 
-// c -= b;  c ^= rot(b, k);  b += a;
+// A line of mix for c: likewise with b; a is added to b.
 fn mix_c(s: State, k: u32) -> State
     requires { ⌜ Rotation k ⌝ }
     ensures { λ r. ⌜ r ≡ mixC k s ⌝ }
@@ -85,7 +85,7 @@ pub fn mix(s: State) -> State
     mix_c(s, 4)
 }
 
-// c ^= b;  c -= rot(b, k);
+// A line of final for c: it is exclusive-ored with b, then b rotated by `k` is taken from it.
 fn final_c(s: State, k: u32) -> State
     requires { ⌜ Rotation k ⌝ }
     ensures { λ r. ⌜ r ≡ finalC k s ⌝ }
@@ -97,7 +97,7 @@ fn final_c(s: State, k: u32) -> State
     }
 }
 
-// a ^= c;  a -= rot(c, k);
+// A line of final for a: likewise with c.
 fn final_a(s: State, k: u32) -> State
     requires { ⌜ Rotation k ⌝ }
     ensures { λ r. ⌜ r ≡ finalA k s ⌝ }
@@ -109,7 +109,7 @@ fn final_a(s: State, k: u32) -> State
     }
 }
 
-// b ^= a;  b -= rot(a, k);
+// A line of final for b: likewise with a.
 fn final_b(s: State, k: u32) -> State
     requires { ⌜ Rotation k ⌝ }
     ensures { λ r. ⌜ r ≡ finalB k s ⌝ }

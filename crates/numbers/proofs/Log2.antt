@@ -23,4 +23,4 @@ log2-law x p h =
     let t = leading-top 64 x p h in
     let e = t .1 in
     let k : t .0 ≡ log2 x = omega arith in
-    subst (TopExponent x) k (record { reached = t .2; next = t .3 })
+    subst (TopExponent x) k (record { reached = t .2; below-next = t .3 })

@@ -13,4 +13,4 @@ log2 v = 63 - leadingZeros 64 v
 -- k is the exponent of the largest power of two that is at most x: the law of `log2`
 pub record TopExponent (x k : ℕ) : Type 0 where
   pub reached : 2 ^ k ≤ x
-  pub next : x < 2 ^ suc k
+  pub below-next : x < 2 ^ suc k

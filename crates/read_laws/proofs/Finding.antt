@@ -74,10 +74,10 @@ module _ (t : Table) (g : t .startBits ≤ t .directBits) (wd : t .widthBits + t
   Wanted = directAt F a b target len
 
   -- the walk from a block of n rows comes to the block at b
-  abbrev Here : ℕ → Type 0
-  Here n = Finds t w header d N F target len b a bs n
+  abbrev FindsFrom : ℕ → Type 0
+  FindsFrom n = Finds t w header d N F target len b a bs n
 
-  module _ {n base : ℕ} (finds : (j : ℕ) → j < n → Here j) (few : n ≤ N) (top : base + rowOffset t n < 2 ^ 64) (B : BlockAt t n base) (depth : ℕ) (deep : n ≤ depth) (s : List ℕ) where
+  module _ {n base : ℕ} (finds : (j : ℕ) → j < n → FindsFrom j) (few : n ≤ N) (top : base + rowOffset t n < 2 ^ 64) (B : BlockAt t n base) (depth : ℕ) (deep : n ≤ depth) (s : List ℕ) where
     abbrev then : HeapChild → Found
     then = onward d F w target len depth
 
@@ -128,7 +128,7 @@ module _ (t : Table) (g : t .startBits ≤ t .directBits) (wd : t .widthBits + t
               let y = H .entries .within in
               inr (λ m. entry-passed s w z target m e at ok fits (omega arith) (omega arith), coming-later (omega arith) (slot-cut t g wd w header pos next B C (S .placed)) S)
 
-  block-found : (n : ℕ) → ((j : ℕ) → j < n → Here j) → Here n
+  block-found : (n : ℕ) → ((j : ℕ) → j < n → FindsFrom j) → FindsFrom n
   block-found n finds base ss pos next zero few deep top B (S, u) H k = absurd (omega arith)
   block-found n finds base ss pos next (suc depth) few deep top B (S, u) H k =
       let o : Walked = allSlots t w header n base ss pos next in
@@ -139,8 +139,8 @@ module _ (t : Table) (g : t .startBits ≤ t .directBits) (wd : t .widthBits + t
       (λ r at ss pos next e C S H. law finds few top B depth (omega arith) (drop p F) C ss pos next e S H) (λ ss next S. absurd (let l = S .ahead in omega arith))
       ss pos next (5 + w + offsetBytes t) S (I .slots)
 
-  walk-found : (n : ℕ) → Here n
-  walk-found = by-smaller Here block-found
+  walk-found : (n : ℕ) → FindsFrom n
+  walk-found = by-smaller FindsFrom block-found
 
 -- the walk from any block in which the block at b is still to come finds it
 pub found : WalkFinds

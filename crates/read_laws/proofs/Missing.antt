@@ -35,10 +35,10 @@ from-clear {t} {x} end (more {s = s} {ss = ss} f C) = go (decLt s end) (from-cle
 
 module _ (t : Table) (g : t .startBits ≤ t .directBits) (wd : t .widthBits + t .startBits ≤ suc (t .directBits)) (w header : ℕ) (d : DoublingTable) (N : ℕ) (A : Agrees d t N) (F : List ℕ) (ok : legal w ≡ true) (target len : ℕ) where
   -- the walk from a block of n rows ends with 1
-  abbrev Here : ℕ → Type 0
-  Here n = Misses t w header d N F target len n
+  abbrev MissesFrom : ℕ → Type 0
+  MissesFrom n = Misses t w header d N F target len n
 
-  module _ {n base : ℕ} (misses : (j : ℕ) → j < n → Here j) (few : n ≤ N) (top : base + rowOffset t n < 2 ^ 64) (B : BlockAt t n base) (depth : ℕ) (deep : n ≤ depth) (s : List ℕ) {r at : ℕ} (C : SlotAt t n base r at) where
+  module _ {n base : ℕ} (misses : (j : ℕ) → j < n → MissesFrom j) (few : n ≤ N) (top : base + rowOffset t n < 2 ^ 64) (B : BlockAt t n base) (depth : ℕ) (deep : n ≤ depth) (s : List ℕ) {r at : ℕ} (C : SlotAt t n base r at) where
     abbrev z : ℕ
     z = 2 ^ rowBits t r
 
@@ -89,7 +89,7 @@ module _ (t : Table) (g : t .startBits ≤ t .directBits) (wd : t .widthBits + t
         by (no l) (yes u) = inr (λ m. entry-passed s w z target m e at ok fits room u, behind)
         by (no l) (no u) = or-passed (holding e room (way t g wd w header B C (S .placed) pos next) S (omega arith) (omega arith) H)
 
-  block-missed : (n : ℕ) → ((j : ℕ) → j < n → Here j) → Here n
+  block-missed : (n : ℕ) → ((j : ℕ) → j < n → MissesFrom j) → MissesFrom n
   block-missed n misses base ss pos next zero few deep top B S H k = absurd (omega arith)
   block-missed n misses base ss pos next (suc depth) few deep top B S H k =
       let o : Walked = allSlots t w header n base ss pos next in
@@ -100,8 +100,8 @@ module _ (t : Table) (g : t .startBits ≤ t .directBits) (wd : t .widthBits + t
       (λ r at ss pos next e C S H. law misses few top B depth (omega arith) (drop p F) C ss pos next e S H) (λ ss next S. refl)
       ss pos next (5 + w + offsetBytes t) S (I .slots)
 
-  walk-missed : (n : ℕ) → Here n
-  walk-missed = by-smaller Here block-missed
+  walk-missed : (n : ℕ) → MissesFrom n
+  walk-missed = by-smaller MissesFrom block-missed
 
 -- the walk from any block whose placed blocks do not hold the offset
 pub not-found : WalkMisses

@@ -59,18 +59,18 @@ pub record Absent (t : Table) (x at : ℕ) (ss : List ℕ) : Type 0 where
 module _ (t : Table) (w header : ℕ) (d : DoublingTable) (N : ℕ) (F : List ℕ) (target len : ℕ) where
   -- where the file has an indirect block of n rows that begins at the heap offset `base`, behind the blocks in its
   -- slots, and P holds of its placed blocks ss, the first of them at the address `next`, the walk from it on gives x
-  abbrev Gives : (ℕ → List ℕ → ℕ → Type 0) → Found → ℕ → Type 0
-  Gives P x n = (base : ℕ) (ss : List ℕ) (pos next depth : ℕ) → n ≤ N → n < depth → base + rowOffset t n < 2 ^ 64 → BlockAt t n base → P base ss next
+  abbrev WalkGives : (ℕ → List ℕ → ℕ → Type 0) → Found → ℕ → Type 0
+  WalkGives P x n = (base : ℕ) (ss : List ℕ) (pos next depth : ℕ) → n ≤ N → n < depth → base + rowOffset t n < 2 ^ 64 → BlockAt t n base → P base ss next
       → Has F pos (block t w header n base ss pos next .bytes) → pos + length (block t w header n base ss pos next .bytes) ≤ 2 ^ (8 * w) - 1
       → walkFrom d F w target len depth (pos + length (allSlots t w header n base ss pos next .bytes)) n base ≡ x
 
   -- it comes to the block at b, which begins in this one
   abbrev pub Finds : ℕ → ℕ → List ℕ → ℕ → Type 0
-  Finds b a bs n = Gives (λ base ss next. Coming t b a bs base ss next × (b < base + rowOffset t n)) (directAt F a b target len) n
+  Finds b a bs n = WalkGives (λ base ss next. Coming t b a bs base ss next × (b < base + rowOffset t n)) (directAt F a b target len) n
 
   -- it ends with 1, where no block holds the target
   abbrev pub Misses : ℕ → Type 0
-  Misses n = Gives (λ base ss next. Absent t target base ss) (missed F target len) n
+  Misses n = WalkGives (λ base ss next. Absent t target base ss) (missed F target len) n
 
 -- a table whose rows fill the slots of later rows
 pub record Doubles (t : Table) : Type 0 where

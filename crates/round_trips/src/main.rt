@@ -233,7 +233,9 @@ fn lists(sizes: &mut [u64], objects: &[u8], file: &mut [u8]) {
 }
 
 fn title() {
-    text(b"The original Rust's answers (IDs and refusals: by the scope's words), from compare/run --record\n");
+    text(
+        b"The original Rust's answers (IDs and refusals of writing: by the scope's words), from compare/run --record\n",
+    );
 }
 
 fn main() {
