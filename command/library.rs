@@ -1,8 +1,8 @@
 //! The proved functions that this program calls beside the loader's, each behind a safe one.
 use crate::fractal_heap::Refusal;
-use crate::heap_tools_c::tools_parse_header;
-use crate::object_tools_c::{tools_heap_id_type, tools_read_tiny_object};
-use crate::write_tools_c::{tools_plan, tools_serialize, tools_write_managed_id};
+use crate::tools_header::tools_parse_header;
+use crate::tools_objects::{tools_heap_id_type, tools_read_tiny_object};
+use crate::tools_write::{tools_plan, tools_serialize, tools_write_managed_id};
 
 /// A managed object's ID.
 pub type Id = [u8; 8];

@@ -18,13 +18,13 @@ mod write;
 #[allow(dead_code)]
 #[path = "../loader/fractal_heap.rs"]
 mod fractal_heap;
-#[path = "../loader/tools/heap_tools_c.rs"]
-mod heap_tools_c;
+#[path = "../loader/tools/tools_header.rs"]
+mod tools_header;
 #[allow(dead_code)]
-#[path = "../loader/tools/object_tools_c.rs"]
-mod object_tools_c;
-#[path = "../loader/tools/write_tools_c.rs"]
-mod write_tools_c;
+#[path = "../loader/tools/tools_objects.rs"]
+mod tools_objects;
+#[path = "../loader/tools/tools_write.rs"]
+mod tools_write;
 
 use failure::Failure;
 use fractal_heap::Refusal;

@@ -1,26 +1,26 @@
 //! Our static libraries, each C function behind a safe one: `fractal_heap_c`, which the loader calls, and the
-//! tests' own `tools_c`, `field_tools_c`, `store_tools_c`, `write_tools_c`, `heap_tools_c` and `object_tools_c`.
-#[path = "../loader/tools/field_tools_c.rs"]
-mod field_tools_c;
-#[path = "../loader/tools/heap_tools_c.rs"]
-mod heap_tools_c;
-#[path = "../loader/tools/object_tools_c.rs"]
-mod object_tools_c;
-#[path = "../loader/tools/store_tools_c.rs"]
-mod store_tools_c;
-#[path = "../loader/tools/tools_c.rs"]
-mod tools_c;
-#[path = "../loader/tools/write_tools_c.rs"]
-mod write_tools_c;
+//! tests' own `tools_checksum`, `tools_fields`, `tools_stores`, `tools_write`, `tools_header` and `tools_objects`.
+#[path = "../loader/tools/tools_checksum.rs"]
+mod tools_checksum;
+#[path = "../loader/tools/tools_fields.rs"]
+mod tools_fields;
+#[path = "../loader/tools/tools_header.rs"]
+mod tools_header;
+#[path = "../loader/tools/tools_objects.rs"]
+mod tools_objects;
+#[path = "../loader/tools/tools_stores.rs"]
+mod tools_stores;
+#[path = "../loader/tools/tools_write.rs"]
+mod tools_write;
 
 use crate::made::Heap;
-use field_tools_c::*;
-use heap_tools_c::*;
-use object_tools_c::*;
 use original::Answer;
-use store_tools_c::*;
-use tools_c::*;
-use write_tools_c::*;
+use tools_checksum::*;
+use tools_fields::*;
+use tools_header::*;
+use tools_objects::*;
+use tools_stores::*;
+use tools_write::*;
 
 #[link(name = "fractal_heap_c", kind = "static")]
 unsafe extern "C" {

@@ -1,4 +1,4 @@
-//! The list that the program `reads` replays: headers, IDs and files with the original's answers.
+//! The list that the program `run_reads` replays: headers, IDs and files with the original's answers.
 //!
 //! A case, all numbers little-endian: kind (1 byte), offset size, length size, offset size of the read (1
 //! each), heap ID length (2), bytes of the file (4), bytes of the ID (4), the header's place (8), number of

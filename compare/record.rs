@@ -1,7 +1,7 @@
-//! What the programs `vectors` and `heaps` must print, from the original (stores: by the facts of
+//! What the programs `run_vectors` and `run_heaps` must print, from the original (stores: by the facts of
 //! docs/DECISIONS.md; the refusals of planning that the original does not have: by the scope's table). What
-//! the program `reads` replays and prints is in reads.rs, what `regions` and `round_trips` print in the files of
-//! their names.
+//! the program `run_reads` replays and prints is in reads.rs, what `run_regions` and `run_round_trips` print in
+//! regions.rs and round_trips.rs.
 use crate::fields::stored;
 use crate::plan::{by_table, header, limit};
 pub use crate::reads::{reads, reads_summary};
@@ -130,7 +130,7 @@ pub fn answered(answer: &Result<Plan, Answer>, places: (usize, usize)) -> String
     )
 }
 
-/// A line of the program `heaps`: planning in lists of so many places.
+/// A line of the program `run_heaps`: planning in lists of so many places.
 fn case_in(name: &str, sizes: &[u64], places: (usize, usize), w: u8) -> String {
     let answer = match by_table(sizes, places.0, places.1, w) {
         Some(refusal) => Err(refusal),

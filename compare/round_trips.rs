@@ -1,5 +1,5 @@
-//! What the program `round_trips` must print: the original plans, writes and reads; IDs are by the scope's words,
-//! refusals of writing by its table.
+//! What the program `run_round_trips` must print: the original plans, writes and reads; IDs are by the scope's
+//! words, refusals of writing by its table.
 use crate::back::by_rule;
 use crate::made;
 use crate::ours::Writing;

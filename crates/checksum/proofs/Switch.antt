@@ -8,10 +8,10 @@ use lib.ListN.{length, take, drop, length-drop}
 use lib.Pow.{pow-add}
 use Rattle.little_endian.specs.LittleEndian.{leAt, value}
 use Rattle.little_endian.proofs.LittleEndian.{leAt-drop}
-use Rattle.lookup3_mix.specs.Words.{add32}
-use Rattle.lookup3_mix.specs.declared.State.{State}
+use Rattle.checksum_mix.specs.Words.{add32}
+use Rattle.checksum_mix.specs.declared.State.{State}
 use Rattle.checksum.specs.Requires.{Tail}
-use Rattle.lookup3_mix.proofs.Words.{Fit}
+use Rattle.checksum_mix.proofs.Words.{Fit}
 use Rattle.checksum.specs.Lookup3.{grouped, caseAdded, caseMet, switched}
 
 -- the cases of one word from the last down, the first shifted by k bits

@@ -12,10 +12,10 @@ use native.Mathlib.Decide.{decLe}
 use native.Mathlib.Omega.{arith}
 use lib.ListN.{length, getD}
 use lib.Pow.{pow-mono}
-use Rattle.lookup3_mix.specs.Words.{add32}
+use Rattle.checksum_mix.specs.Words.{add32}
 use Rattle.checksum.specs.Lookup3.{grouped}
-use Rattle.lookup3_mix.specs.declared.State.{State}
-use Rattle.lookup3_mix.proofs.Words.{Fit, add-none}
+use Rattle.checksum_mix.specs.declared.State.{State}
+use Rattle.checksum_mix.proofs.Words.{Fit, add-none}
 use Rattle.little_endian.specs.LittleEndian.{leAt, value}
 use Rattle.little_endian.proofs.LittleEndian.{leAt-add, leAt-byte, leAt-end, leAt-last}
 

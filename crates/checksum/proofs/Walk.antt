@@ -7,11 +7,11 @@ use native.Mathlib.Omega.{arith}
 use lib.ListN.{length, drop, length-drop}
 use lib.Dec.{leb}
 use borrow.Author.Tests.{leb-true, eq-eqb, ne-eqb}
-use Rattle.lookup3_mix.specs.declared.State.{State}
+use Rattle.checksum_mix.specs.declared.State.{State}
 use Rattle.checksum.specs.Requires.{Tail, Short}
-use Rattle.lookup3_mix.specs.Words.{add32}
+use Rattle.checksum_mix.specs.Words.{add32}
 use Rattle.checksum.proofs.Switch.{tail-group}
-use Rattle.lookup3_mix.specs.Mix.{mixed, finalMixed}
+use Rattle.checksum_mix.specs.Mix.{mixed, finalMixed}
 use Rattle.checksum.specs.Lookup3.{grouped, run, groupsOf, begun, body, tailOf, switched, ended, hashlittle}
 
 -- ---- the groups

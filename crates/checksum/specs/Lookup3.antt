@@ -7,9 +7,9 @@ use mathlib.Core.List.{List}
 use lib.ListN.{length, getD, drop}
 use lib.Dec.{leb, eqb}
 use Rattle.little_endian.specs.LittleEndian.{leAt}
-use Rattle.lookup3_mix.specs.Words.{add32}
-use Rattle.lookup3_mix.specs.Mix.{mixed, finalMixed}
-use Rattle.lookup3_mix.specs.declared.State.{State}
+use Rattle.checksum_mix.specs.Words.{add32}
+use Rattle.checksum_mix.specs.Mix.{mixed, finalMixed}
+use Rattle.checksum_mix.specs.declared.State.{State}
 
 -- the start: each word is hexadecimal DEADBEEF plus the length as a 32-bit number, plus initval, 0
 unfoldable pub begun : ℕ → State

@@ -9,10 +9,10 @@ use lib.Dec.{leb}
 use borrow.Author.Tests.{le-leb, lt-leb, leb-true, leb-false}
 use Rattle.little_endian.specs.LittleEndian.{leAt}
 use Rattle.little_endian.specs.Widths.{legal}
-use Rattle.fields.specs.Fields.{lenChecked, ifPassed, fieldAt, offsetAt}
+use Rattle.fields.specs.Fields.{lenChecked, afterCheck, fieldAt, offsetAt}
 use Rattle.fields.specs.declared.Checked.{Checked}
 use Rattle.fields.specs.declared.Checked.the-variants.{Passed, Refused as NotPassed}
-use Rattle.fields.specs.declared.Field.the-variants.{Value}
+use Rattle.fields.specs.declared.Field.the-variants.{Value, Refused}
 use Rattle.refusals.specs.declared.FormatError.{FormatError}
 
 -- p + n ≤ l without the sum
@@ -38,7 +38,7 @@ pub record Readable (s : List ℕ) (p w v : ℕ) : Type 0 where
   pub room : p + w ≤ length s
   pub here : v ≡ leAt s p w
 
-if-value : (t : Checked) (v x : ℕ) → ifPassed t v ≡ Value x → (t ≡ Passed) × (x ≡ v)
+if-value : (t : Checked) (v x : ℕ) → afterCheck t Refused (Value v) ≡ Value x → (t ≡ Passed) × (x ≡ v)
 if-value Passed v x h = (refl, cc)
 if-value (NotPassed e) v x h = let z : _≡_ {A = ℕ} 0 1 = cc in absurd (omega arith)
 

@@ -21,11 +21,6 @@ unfoldable pub lenChecked : List ℕ → ℕ → ℕ → Checked
 lenChecked s p n =
     cond (leb (p + n) (length s)) Passed (NotPassed (UnexpectedEof (saturated (p + n)) (length s)))
 
--- v, where the test before it passed
-abbrev pub ifPassed : Checked → ℕ → Field
-ifPassed Passed v = Value v
-ifPassed (NotPassed e) v = Refused e
-
 module _ {A : Type 0} where
   -- what follows a test, and what its refusal gives
   abbrev pub afterCheck : Checked → (FormatError → A) → A → A
@@ -39,7 +34,7 @@ module _ {A : Type 0} where
 
 -- the number of w bytes at p; e where w is no width; 1 where the bytes end too early
 unfoldable pub fieldAt : List ℕ → ℕ → ℕ → FormatError → Field
-fieldAt s p w e = cond (legal w) (ifPassed (lenChecked s p w) (leAt s p w)) (Refused e)
+fieldAt s p w e = cond (legal w) (afterCheck (lenChecked s p w) Refused (Value (leAt s p w))) (Refused e)
 
 -- an address at p, a field marked O: 2 where w is no width
 unfoldable pub offsetAt : List ℕ → ℕ → ℕ → Field

@@ -1,2 +1,4 @@
+pub mod Undefined
 pub mod Fields
 pub mod Answers
+pub mod Signatures

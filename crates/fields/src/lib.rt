@@ -1,4 +1,6 @@
 // Fields of an HDF5 file: bounds-checked reads of addresses and lengths in a lent slice.
+pub mod convert;
+
 ghost use mathlib.Core.Path.{_≡_};
 ghost use Prim.Native.Nat.{_+_};
 ghost use lib.Dec.{leb};

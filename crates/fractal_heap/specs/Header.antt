@@ -1,34 +1,37 @@
--- The header's fields by their places, and parsing: the fields where every test passes, else the first
--- refusal. HDF5 File Format Specification 3.0, III.G, 'Fractal Heap Header'. The places are those of
--- header_layout/specs/Layout.antt, the names of the fields those of header_fields/specs/Groups.antt.
-use Prim.Native.Nat.{ℕ, _+_, _*_}
+-- The header as a value, and parsing: the fields where every test passes, else the first refusal. HDF5 File Format
+-- Specification 3.0, III.G, 'Fractal Heap Header'; where the fields stand is header_layout/specs/FieldList.antt.
+use Prim.Native.Nat.{ℕ}
 use mathlib.Core.List.{List}
-use Rattle.little_endian.specs.LittleEndian.{leAt}
 use Rattle.fields.specs.Fields.{afterCheck}
 use Rattle.refusals.specs.Refusals.{answer, refusal}
 use Rattle.refusals.specs.declared.Answer.{Answer}
-use Rattle.header_layout.specs.Layout.{btreePlace, countPlace, tablePlace, headerChecked}
-use Rattle.heap_rows.specs.declared.DoublingTable.{DoublingTable}
+use Rattle.header_layout.specs.Layout.{headerChecked}
+use Rattle.header_fields.specs.Groups.{frontFields, objectFields, tableFields, rootFields}
+use Rattle.read_rows.specs.declared.DoublingTable.{DoublingTable}
 use Rattle.fractal_heap.specs.declared.header.FractalHeapHeader.{FractalHeapHeader}
 use Rattle.fractal_heap.specs.declared.header.Parsed.{Parsed}
 use Rattle.fractal_heap.specs.declared.header.Parsed.the-variants.{Header, Refused}
 
--- the fields of the header at p
+-- the fields of the header at p, group by group
 unfoldable pub headerFields : List ℕ → ℕ → ℕ → ℕ → FractalHeapHeader
 headerFields s p os ls =
+    let front = frontFields s p os ls in
+    let objects = objectFields s p os ls in
+    let table = tableFields s p os ls in
+    let root = rootFields s p os ls in
     record {
-      «heap_id_length» = leAt s (p + 5) 2;
-      «io_filter_encoded_length» = leAt s (p + 7) 2;
-      «max_managed_object_size» = leAt s (p + 10) 4;
-      «btree_huge_objects_address» = leAt s (p + btreePlace ls) os;
-      «table_width» = leAt s (p + tablePlace os ls) 2;
-      «starting_block_size» = leAt s (p + tablePlace os ls + 2) ls;
-      «max_direct_block_size» = leAt s (p + tablePlace os ls + (2 + ls)) ls;
-      «max_heap_size» = leAt s (p + tablePlace os ls + (2 + 2 * ls)) 2;
-      «start_root_rows» = leAt s (p + tablePlace os ls + (4 + 2 * ls)) 2;
-      «root_block_address» = leAt s (p + tablePlace os ls + (6 + 2 * ls)) os;
-      «current_rows_in_root_indirect_block» = leAt s (p + tablePlace os ls + (6 + 2 * ls + os)) 2;
-      «managed_objects_count» = leAt s (p + countPlace os ls) ls;
+      «heap_id_length» = front .«heap_id_length»;
+      «io_filter_encoded_length» = front .«io_filter_encoded_length»;
+      «max_managed_object_size» = front .«max_managed_object_size»;
+      «btree_huge_objects_address» = objects .«btree_huge_objects_address»;
+      «table_width» = table .«table_width»;
+      «starting_block_size» = table .«starting_block_size»;
+      «max_direct_block_size» = table .«max_direct_block_size»;
+      «max_heap_size» = table .«max_heap_size»;
+      «start_root_rows» = root .«start_root_rows»;
+      «root_block_address» = root .«root_block_address»;
+      «current_rows_in_root_indirect_block» = root .«current_rows_in_root_indirect_block»;
+      «managed_objects_count» = objects .«managed_objects_count»;
     }
 
 -- the header at p of the file s

@@ -6,22 +6,22 @@ use mathlib.Core.List.{List}
 use mathlib.Core.Bool.{cond}
 use lib.Dec.{ltb}
 use Rattle.refusals.specs.declared.FormatError.the-variants.{UnsupportedFilteredHeapObject}
-use Rattle.heap_blocks.specs.declared.Found.{Found}
-use Rattle.heap_blocks.specs.declared.Found.the-variants.{Refused}
-use Rattle.heap_walk.specs.Root.{fromRoot}
-use Rattle.heap_ids.specs.Id.{decodedId}
+use Rattle.read_blocks.specs.declared.Found.{Found}
+use Rattle.read_blocks.specs.declared.Found.the-variants.{Refused}
+use Rattle.read_walk.specs.Root.{fromRoot}
+use Rattle.id_decode.specs.Id.{decodedId}
 use Rattle.fractal_heap.specs.declared.header.FractalHeapHeader.{FractalHeapHeader}
 use Rattle.fractal_heap.specs.declared.header.Parsed.{Parsed}
 use Rattle.fractal_heap.specs.declared.header.Parsed.the-variants.{Header, Refused as NoHeader}
-use Rattle.heap_ids.specs.declared.ManagedId.{ManagedId}
-use Rattle.heap_ids.specs.declared.ManagedId.the-variants.{Decoded, Refused as NoId}
+use Rattle.id_decode.specs.declared.ManagedId.{ManagedId}
+use Rattle.id_decode.specs.declared.ManagedId.the-variants.{Decoded, Refused as NoId}
 use Rattle.fractal_heap.specs.Header.{tableOf}
 
--- len bytes at heap offset t, from the root block on
+-- len bytes at the heap offset target, from the root block on
 unfoldable pub rootAt : FractalHeapHeader → List ℕ → ℕ → ℕ → ℕ → Found
 unfolding fromRoot
-rootAt h s t len w =
-    fromRoot (tableOf h) s (h .«root_block_address») (h .«current_rows_in_root_indirect_block») t len w
+rootAt h s target len w =
+    fromRoot (tableOf h) s (h .«root_block_address») (h .«current_rows_in_root_indirect_block») target len w
 
 abbrev pub afterId : ManagedId → (ℕ → ℕ → Found) → Found
 afterId (Decoded offset len) next = next offset len
@@ -31,7 +31,7 @@ afterId (NoId e) next = Refused e
 unfoldable pub managedAt : FractalHeapHeader → List ℕ → List ℕ → ℕ → Found
 managedAt h s id w =
     cond (ltb 0 (h .«io_filter_encoded_length»)) (Refused UnsupportedFilteredHeapObject)
-    (afterId (decodedId (h .«max_heap_size») id) (λ t len. rootAt h s t len w))
+    (afterId (decodedId (h .«max_heap_size») id) (λ target len. rootAt h s target len w))
 
 -- by a header that was parsed: a refusal of the header is the answer
 abbrev pub idBy : Parsed → List ℕ → ManagedId

@@ -1,14 +1,14 @@
 // IDs and objects by a header: where the bytes of a managed object are in the file.
 ghost use mathlib.Core.Path.{_≡_};
-ghost use Rattle.heap_id_types.specs.IdTypes.{idTypeOf};
-ghost use Rattle.heap_ids.specs.Id.{decodedId};
+ghost use Rattle.id_decode.specs.IdTypes.{idTypeOf};
+ghost use Rattle.id_decode.specs.Id.{decodedId};
 ghost use Rattle.fractal_heap.specs.Read.{managedAt, idBy, objectBy};
 use crate::header::FractalHeapHeader;
 use crate::header::Parsed;
-use heap_blocks::Found;
-use heap_id_types::IdType;
-use heap_ids::ManagedId;
-use heap_walk::read_from_root;
+use id_decode::ManagedId;
+use id_decode::types::IdType;
+use read_blocks::Found;
+use read_walk::read_from_root;
 use refusals::FormatError;
 
 impl FractalHeapHeader {
@@ -16,14 +16,14 @@ impl FractalHeapHeader {
     pub fn heap_id_type(id: &[u8]) -> IdType
         ensures { λ r. ⌜ r ≡ idTypeOf (now (id .entry)) ⌝ }
     {
-        heap_id_types::heap_id_type(id)
+        id_decode::types::heap_id_type(id)
     }
 
     // The heap offset and the length in a managed ID.
     pub fn decode_managed_id(self, id: &[u8]) -> ManagedId
         ensures { λ r. ⌜ r ≡ decodedId (self .«max_heap_size») (now (id .entry)) ⌝ }
     {
-        heap_ids::decode_managed_id(self.max_heap_size, id)
+        id_decode::decode_managed_id(self.max_heap_size, id)
     }
 
     // The managed object that an ID names: its position in the file, and its length.

@@ -3,15 +3,15 @@
 // two values into the first 16 bytes of the slot; a shorter slot gives 13 before all else.
 ghost use mathlib.Core.Path.{_≡_};
 ghost use Rattle.checksum.specs.Lookup3.{hashlittle};
-ghost use Rattle.slot.specs.Slot.{slotNumber, slotBytes};
-ghost use Rattle.heap_ids.specs.Id.{decodedAnswer};
-ghost use Rattle.heap_blocks.specs.Blocks.{foundAnswer};
+ghost use Rattle.c_slot.specs.Slot.{slotNumber, slotBytes};
+ghost use Rattle.id_decode.specs.Id.{decodedAnswer};
+ghost use Rattle.read_blocks.specs.Blocks.{foundAnswer};
 ghost use Rattle.fractal_heap.specs.Header.{headerAt};
 ghost use Rattle.fractal_heap.specs.Read.{idBy, objectBy};
+use c_slot::put_answer;
 use checksum::jenkins_lookup3;
-use convert::to_usize;
+use fields::convert::to_usize;
 use fractal_heap::header::FractalHeapHeader;
-use slot::put_answer;
 
 #[no_mangle]
 pub extern "C" fn fractal_heap_checksum(bytes: &[u8]) -> u32

@@ -11,14 +11,15 @@ use lib.Seq.{take-at, length-take-le}
 use Rattle.little_endian.proofs.Widths.{legal-small}
 use Rattle.table.specs.Table.{fixed, rowOffset}
 use Rattle.table.specs.Sizes.{maxManaged}
-use Rattle.table.specs.Capacity.{sum}
+use Rattle.numbers.specs.Sums.{sum}
 use Rattle.plan_steps.specs.Steps.{planStarts}
 use Rattle.plan_steps.specs.Requires.{Small, Runs}
 use Rattle.plan_checks.proofs.Checking.{Passing, all-small}
-use Rattle.plan_lists.specs.Lists.{fronted}
+use Rattle.little_endian.specs.LittleEndian.{put}
+use Rattle.little_endian.proofs.LittleEndian.{put-front}
 use Rattle.plan.specs.declared.ManagedPlan.{ManagedPlan}
 use Rattle.plan.specs.declared.Planned.the-variants.{Accepted}
-use Rattle.plan.specs.Answer.{answer}
+use Rattle.plan.specs.Answer.{plannedFor}
 use Rattle.plan.proofs.Answering.{Went, accepted}
 use Rattle.plan_laws.proofs.Tally.{tallied}
 use Rattle.plan_laws.proofs.Root.{Bare, Rowed, shape}
@@ -26,8 +27,8 @@ use Rattle.region_blocks.specs.declared.Site.{Site}
 use Rattle.region_laws.proofs.Indirect.{indirect-planned}
 use Rattle.region_write.specs.Region.{region}
 use Rattle.region_write.specs.Requires.{Rooted, Writable}
-use Rattle.write_answer.specs.Answer.{serialized}
-use Rattle.write_answer.proofs.Answering.{written, Fit, fit, below-undefined}
+use Rattle.write_checks.proofs.Answering.{written, Fit, fit, below-undefined}
+use Rattle.fractal_heap_write.specs.Serialize.{Call, lentBy, Written}
 use Rattle.region_laws.proofs.Region.{indirect-bytes, indirects-planned, region-length}
 
 -- as many rows as the heap space has
@@ -39,19 +40,31 @@ rows-few n l = go (decLe 29 n)
     go (yes u) = let m : 2 ^ 41 ≤ 2 ^ (12 + n) = pow-mono {i = 41} {j = 12 + n} (omega arith) in absurd (omega arith)
     go (no u) = omega arith
 
-front-of : (new old : List ℕ) → take (length new) (fronted new old) ≡ new
-unfolding fronted
-front-of new old = take-at new (drop (length new) old) (length new) refl
+front-of : (new old : List ℕ) → take (length new) (put old 0 new) ≡ new
+front-of new old = ap (take (length new)) (put-front old new) ∙ take-at new (drop (length new) old) (length new) refl
 
-front-length : (new old : List ℕ) → length new ≤ length (fronted new old)
-unfolding fronted
-front-length new old = let z = length-append new (drop (length new) old) in omega arith
+front-length : (new old : List ℕ) → length new ≤ length (put old 0 new)
+front-length new old = let z = ap length (put-front old new) ∙ length-append new (drop (length new) old) in omega arith
 
--- the objects of sizes xs and bytes js are accepted for the plan p, with lists of o and b places and the lent region r
-pub record Accepts (xs : List ℕ) (o b : ℕ) (js r : List ℕ) (site : Site) (p : ManagedPlan) : Type 0 where
-  pub is : serialized xs o b (length js) (length r) (site .«region_address») (site .«heap_header_address») (site .«offset_size») ≡ Accepted p
+module _ {c : Call} {p : ManagedPlan} (A : Written c p) where
+  abbrev xs : List ℕ
+  xs = c .sizes
 
-module _ {xs : List ℕ} {o b : ℕ} {js r : List ℕ} {site : Site} {p : ManagedPlan} (A : Accepts xs o b js r site p) where
+  abbrev js : List ℕ
+  js = c .objects
+
+  abbrev site : Site
+  site = c .site
+
+  abbrev o : ℕ
+  o = length (c .lent .offsets)
+
+  abbrev b : ℕ
+  b = length (c .lent .blocks)
+
+  abbrev r : List ℕ
+  r = c .lent .bytes
+
   abbrev w : ℕ
   w = site .«offset_size»
 
@@ -61,11 +74,11 @@ module _ {xs : List ℕ} {o b : ℕ} {js r : List ℕ} {site : Site} {p : Manage
   abbrev a : ℕ
   a = site .«region_address»
 
-  plan : answer xs o b w ≡ Accepted p
-  plan = written xs o b (length js) (length r) a h w p (A .is) .0
+  plan : plannedFor xs o b w ≡ Accepted p
+  plan = written xs (lentBy c) site p (A .accepted) .0
 
-  fits : Fit w (sum xs) (length js) (p .«region_size») (length r) h a
-  fits = fit w (sum xs) (length js) (p .«region_size») (length r) h a (written xs o b (length js) (length r) a h w p (A .is) .1)
+  fits : Fit site (lentBy c) (sum xs) (p .«region_size»)
+  fits = fit site (lentBy c) (sum xs) (p .«region_size») (written xs (lentBy c) site p (A .accepted) .1)
 
   passes : Passing xs o b w
   passes = accepted xs o b w p plan .0
@@ -96,12 +109,12 @@ module _ {xs : List ℕ} {o b : ℕ} {js r : List ℕ} {site : Site} {p : Manage
       (shape w xs p (legal-small w (passes .width)) went)
 
   -- the starts that the list of blocks holds then
-  module _ (bs bs′ : List ℕ) (f : bs′ ≡ fronted (planStarts fixed w xs) bs) where
+  module _ (bs bs′ : List ℕ) (f : bs′ ≡ put bs 0 (planStarts fixed w xs)) where
     pub count-fits : p .«block_count» ≤ length bs′
     count-fits = let c = tallied xs o b w p plan .blocks in let l = front-length (planStarts fixed w xs) bs in let z = ap length f in omega arith
 
     starts-there : take (p .«block_count») bs′ ≡ planStarts fixed w xs
-    starts-there = ap (take (p .«block_count»)) f ∙ ap (λ (n : ℕ). take n (fronted (planStarts fixed w xs) bs)) (tallied xs o b w p plan .blocks) ∙ front-of (planStarts fixed w xs) bs
+    starts-there = ap (take (p .«block_count»)) f ∙ ap (λ (n : ℕ). take n (put bs 0 (planStarts fixed w xs))) (tallied xs o b w p plan .blocks) ∙ front-of (planStarts fixed w xs) bs
 
     rooted : Rooted site (planStarts fixed w xs) (take (p .«region_size») r) (p .«root_rows») (p .«region_size» - p .«allocated_space»)
     rooted =
@@ -139,8 +152,7 @@ module _ {xs : List ℕ} {o b : ℕ} {js r : List ℕ} {site : Site} {p : Manage
         subst (λ (y : List ℕ). Writable site xs y js (take (p .«region_size») r) (p .«root_rows») (p .«region_size» - p .«allocated_space»)) (sym s) W
 
   -- the bytes behind the region are as they were
-  pub behind-kept : (l : List ℕ) → l ≡ region w h a (p .«root_rows») xs js → l ++ drop (p .«region_size») r ≡ fronted (region w h a (p .«root_rows») xs js) r
-  unfolding fronted
+  pub behind-kept : (l : List ℕ) → l ≡ region site (p .«root_rows») xs js → l ++ drop (p .«region_size») r ≡ put r 0 (region site (p .«root_rows») xs js)
   behind-kept l f =
       ap (λ (y : List ℕ). y ++ drop (p .«region_size») r) f
-      ∙ ap (λ (n : ℕ). region w h a (p .«root_rows») xs js ++ drop n r) (sym (region-length xs o b w p plan h a js))
+      ∙ ap (λ (n : ℕ). region site (p .«root_rows») xs js ++ drop n r) (sym (region-length xs o b w p plan h a js)) ∙ sym (put-front r (region site (p .«root_rows») xs js))

@@ -2,15 +2,15 @@
 // table, the root block. Public for `fractal_heap` alone, which has tested that they are there.
 ghost use mathlib.Core.Path.{_≡_};
 ghost use mathlib.Core.Bool.{true};
-ghost use Prim.Native.Nat.{_+_, _≤_};
+ghost use Prim.Native.Nat.{ℕ, _+_, _≤_};
 ghost use lib.ListN.{length};
 ghost use Rattle.little_endian.specs.Widths.{legal};
-ghost use Rattle.header_layout.specs.Layout.{headerEnd};
+ghost use Rattle.header_layout.specs.FieldList.{headerEnd};
 ghost use Rattle.header_fields.specs.Groups.{frontFields, objectFields, tableFields, rootFields};
-use heap_rows::DoublingTable;
 use little_endian::read_le;
 use little_endian::read_u16_le;
 use little_endian::read_u32_le;
+use read_rows::DoublingTable;
 
 // Heap ID Length, I/O Filters' Encoded Length, Maximum Size of Managed Objects: before the fields whose sizes the file
 // chooses.
@@ -33,10 +33,10 @@ pub struct RootFields {
     pub current_rows_in_root_indirect_block: u16,
 }
 
-// Of the header at `at`, as in all below.
+// Of the header at `at`, as in all below; these fields stand at the same places at every size of offsets and lengths.
 pub fn read_front(file: &[u8], at: usize) -> FrontFields
     requires { ⌜ at + 14 ≤ length (now file) ⌝ }
-    ensures { λ r. ⌜ r ≡ frontFields (now (file .entry)) at ⌝ }
+    ensures { λ r. ⌜ ((os ls : ℕ) → r ≡ frontFields (now (file .entry)) at os ls) ⌝ }
 {
     FrontFields {
         heap_id_length: read_u16_le(file, at + 5),

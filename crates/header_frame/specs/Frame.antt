@@ -5,7 +5,8 @@ use mathlib.Core.List.{List}
 use mathlib.Core.Bool.{cond}
 use lib.ListN.{getD, take, drop}
 use lib.Dec.{eqb}
-use Rattle.little_endian.specs.LittleEndian.{leAt}
+use Rattle.little_endian.specs.LittleEndian.{value, leAt}
+use Rattle.fields.specs.Signatures.{headerSignature}
 use Rattle.fields.specs.Fields.{lenChecked, afterCheck}
 use Rattle.fields.specs.declared.Checked.{Checked}
 use Rattle.fields.specs.declared.Checked.the-variants.{Passed, Refused}
@@ -16,7 +17,7 @@ use Rattle.checksum.specs.Lookup3.{hashlittle}
 unfoldable pub startChecked : List ℕ → ℕ → Checked
 startChecked s p =
     afterCheck (lenChecked s p 5) Refused
-    (cond (eqb (leAt s p 4) 0x50485246)
+    (cond (eqb (leAt s p 4) (value headerSignature))
     (cond (eqb (getD s (p + 4) 0) 0) Passed (Refused (InvalidFractalHeapVersion (getD s (p + 4) 0))))
     (Refused InvalidFractalHeapSignature))
 

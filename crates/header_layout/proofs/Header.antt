@@ -7,15 +7,15 @@ use native.Mathlib.Omega.{arith}
 use lib.ListN.{length}
 use lib.Dec.{leb, ltb}
 use borrow.Author.Tests.{leb-true}
-use Rattle.little_endian.specs.LittleEndian.{leAt}
 use Rattle.little_endian.specs.Widths.{legal}
 use Rattle.fields.specs.Fields.{lenChecked, afterCheck}
 use Rattle.fields.proofs.Fields.{len-within}
 use Rattle.fields.specs.declared.Checked.{Checked}
 use Rattle.fields.specs.declared.Checked.the-variants.{Passed, Refused}
 use Rattle.refusals.specs.declared.FormatError.{FormatError}
-use Rattle.header_layout.specs.Layout.{headerEnd, sumPlace, layoutChecked, headerChecked}
-use Rattle.header_ends.specs.Ends.{endsChecked, frontEnds, addressEnds}
+use Rattle.header_layout.specs.FieldList.{headerList, spanOf, fieldPlace, fieldNumber, headerEnd}
+use Rattle.header_layout.specs.Layout.{sumPlace, layoutChecked, headerChecked}
+use Rattle.header_layout.specs.Ends.{endsChecked, endsOf, frontTests, addressTests}
 use Rattle.header_frame.specs.Frame.{startChecked, sumChecked}
 
 -- ---- tests that passed
@@ -60,12 +60,12 @@ pub record Laid (s : List ℕ) (p os ls : ℕ) : Type 0 where
   pub lengths : legal ls ≡ true
 
 pub layout-within : (s : List ℕ) (p os ls : ℕ) → layoutChecked s p os ls ≡ Passed → Laid s p os ls
-unfolding layoutChecked
+unfolding headerList spanOf fieldPlace endsOf layoutChecked
 layout-within s p os ls h =
     let n = length s in
-    let front : Both (endsChecked n (frontEnds p ls)) _ = both _ _ h in
+    let front : Both (endsChecked n (endsOf p os ls frontTests)) _ = both _ _ h in
     let offsets : Held (legal os) _ = held _ _ _ (front .next) in
-    let addresses : Both (endsChecked n (addressEnds p os ls)) _ = both _ _ (offsets .next) in
+    let addresses : Both (endsChecked n (endsOf p os ls addressTests)) _ = both _ _ (offsets .next) in
     let lengths : Held (legal ls) _ = held _ _ _ (addresses .next) in
     record {
       front = ends-within n _ _ (ends-next n _ _ (ends-next n _ _ (ends-next n _ _ (front .first))));
@@ -83,7 +83,7 @@ sum-after filter os ls = by (ltb 0 filter)
     by false = omega arith
 
 pub sum-before : (filter os ls : ℕ) → os < 256 → ls < 256 → sumPlace filter os ls ≤ 65536
-unfolding sumPlace
+unfolding headerList spanOf fieldPlace sumPlace
 sum-before filter os ls ho hl = by (ltb 0 filter)
   where
     by : (t : Bool) → cond t (headerEnd os ls + (ls + 4)) (headerEnd os ls) ≤ 65536
@@ -105,7 +105,7 @@ pub record Fits (s : List ℕ) (p os ls : ℕ) : Type 0 where
 pub header-fits : (s : List ℕ) (p os ls : ℕ) → headerChecked s p os ls ≡ Passed → Fits s p os ls
 unfolding headerChecked
 header-fits s p os ls h =
-    let place : ℕ = sumPlace (leAt s (p + 7) 2) os ls in
+    let place : ℕ = sumPlace (fieldNumber s p os ls 1) os ls in
     let start : Both (startChecked s p) _ = both _ _ h in
     let layout : Both (layoutChecked s p os ls) (sumChecked s p place) = both _ _ (start .next) in
     let laid : Laid s p os ls = layout-within s p os ls (layout .first) in

@@ -1,1 +1,3 @@
+pub mod FieldList
+pub mod Ends
 pub mod Layout

@@ -1,14 +1,16 @@
 // The tests of a heap's header in the original's order: each field is tested where the original reads it,
 // and a width where it first reads with it. The definitions say where the fields stand.
+mod ends;
+
 ghost use mathlib.Core.Path.{_≡_};
 ghost use Prim.Native.Nat.{_+_, _≤_};
 ghost use lib.ListN.{length};
 ghost use Rattle.header_layout.specs.Layout.{sumPlace, layoutChecked, headerChecked};
+use crate::ends::check_addresses;
+use crate::ends::check_front;
+use crate::ends::check_table;
 use fields::Checked;
 use fields::is_width;
-use header_ends::check_addresses;
-use header_ends::check_front;
-use header_ends::check_table;
 use header_frame::check_start;
 use header_frame::check_sum;
 use little_endian::read_u16_le;

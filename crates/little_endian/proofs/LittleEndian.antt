@@ -2,7 +2,7 @@
 use mathlib.Core.Path.{_≡_, refl, sym, ap, _∙_}
 use mathlib.Core.List.{List, [], _∷_, _++_, append-assoc}
 use Prim.Native.Nat.{ℕ, zero, suc, _+_, _-_, _*_, _/_, _%_, _^_, _≤_, _<_}
-use native.Mathlib.Nat.{zero-div}
+use native.Mathlib.Nat.{zero-add, zero-div}
 use native.Mathlib.Omega.{arith}
 use lib.ListN.{length, take, drop, getD, replicate, length-append, length-drop}
 use lib.Seq.{take-add, drop-drop, drop-cons, take-all, take-at, drop-at, length-take-le, getD-drop, sets, length-sets, sets-eq}
@@ -94,6 +94,11 @@ le-undefined w h =
 
 -- ---- bytes in the place of others
 
+-- in the first places, also where there are fewer
+pub put-front : (s bs : List ℕ) → put s 0 bs ≡ bs ++ drop (length bs) s
+unfolding put
+put-front s bs = ap (λ (n : ℕ). bs ++ drop n s) (zero-add (length bs))
+
 module _ (s : List ℕ) (p : ℕ) (bs : List ℕ) (room : p + length bs ≤ length s) where
   -- byte by byte
   pub put-sets : put s p bs ≡ sets s p bs
@@ -109,6 +114,10 @@ module _ (s : List ℕ) (p : ℕ) (bs : List ℕ) (room : p + length bs ≤ leng
   pub put-before : take p (put s p bs) ≡ take p s
   unfolding put
   put-before = rw append-assoc (take-at (take p s) (bs ++ drop (p + length bs) s) p (length-take-le p s (omega arith)))
+
+  pub put-through : take (p + length bs) (put s p bs) ≡ take p s ++ bs
+  unfolding put
+  put-through = take-at (take p s ++ bs) (drop (p + length bs) s) (p + length bs) front
 
   pub put-after : drop (p + length bs) (put s p bs) ≡ drop (p + length bs) s
   unfolding put

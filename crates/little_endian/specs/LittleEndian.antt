@@ -18,6 +18,6 @@ value (b ∷ bs) = b + value bs * 256
 unfoldable pub leAt : List ℕ → ℕ → ℕ → ℕ
 leAt s p w = value (take w (drop p s))
 
--- s with bs in place of its bytes from p on
+-- s with bs in place of its bytes, or numbers, from p on
 unfoldable pub put : List ℕ → ℕ → List ℕ → List ℕ
 put s p bs = take p s ++ bs ++ drop (p + length bs) s

@@ -1,2 +1,3 @@
 pub mod Saturating
 pub mod Log2
+pub mod Sums

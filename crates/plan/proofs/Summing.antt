@@ -8,7 +8,8 @@ use lib.ListN.{take}
 use borrow.Author.Tests.{eq-eqb, ne-eqb}
 use Rattle.table.specs.Table.{fixed, rowOffset}
 use Rattle.table.specs.Sizes.{directHeader, indirectSize}
-use Rattle.table.specs.Capacity.{sum, capacities, capacity}
+use Rattle.numbers.specs.Sums.{sum}
+use Rattle.table.specs.Capacity.{capacities, capacity}
 use Rattle.table.proofs.Capacity.{take-capacities, capacity-small}
 use Rattle.plan_steps.specs.Steps.{blockEnd}
 use Rattle.plan_end.specs.End.{rootRows}

@@ -9,6 +9,7 @@ use mathlib.Core.List.{List, [], _∷_}
 use lib.Dec.{eqb}
 use Rattle.refusals.specs.Refusals.{refusal}
 use Rattle.refusals.specs.declared.FormatError.the-variants.{HeapSpaceExhausted}
+use Rattle.fields.specs.Fields.{afterCheck}
 use Rattle.fields.specs.declared.Checked.{Checked}
 use Rattle.fields.specs.declared.Checked.the-variants.{Passed, Refused as NotPassed}
 use Rattle.table.specs.Table.{Table, fixed, rowOffset}
@@ -18,9 +19,9 @@ use Rattle.plan_steps.specs.declared.State.{State}
 use Rattle.plan_steps.specs.declared.Run.{Run}
 use Rattle.plan_steps.specs.declared.Run.the-variants.{Done, Short}
 use Rattle.plan_steps.specs.Steps.{blockEnd, run}
-use Rattle.plan_end.specs.End.{closed, rootRows}
+use Rattle.plan_end.specs.End.{endState, rootRows}
 use Rattle.plan_checks.specs.Checks.{inputChecked}
-use Rattle.plan_lists.specs.Lists.{fronted}
+use Rattle.little_endian.specs.LittleEndian.{put}
 use Rattle.plan.specs.declared.ManagedPlan.{ManagedPlan}
 use Rattle.plan.specs.declared.Planned.{Planned}
 use Rattle.plan.specs.declared.Planned.the-variants.{Accepted, Refused}
@@ -57,16 +58,12 @@ totals t w s =
     cond (eqb (rootRows t (blockEnd s)) 0) (bareTotals t w s) (rowTotals t w s (rootRows t (blockEnd s)))
 
 abbrev pub ranPlan : ℕ → Run → Planned
-ranPlan w (Done s) = Accepted (totals fixed w (closed fixed w s))
+ranPlan w (Done s) = Accepted (totals fixed w (endState fixed w s))
 ranPlan w (Short i) = Refused (HeapSpaceExhausted i)
 
-abbrev pub ifChecked : Checked → Planned → Planned
-ifChecked Passed p = p
-ifChecked (NotPassed e) p = Refused e
-
 -- the answer for the sizes xs, lists of o and b places and addresses of w bytes: 12 after the tests
-unfoldable pub answer : List ℕ → ℕ → ℕ → ℕ → Planned
-answer xs o b w = ifChecked (inputChecked xs o b w) (ranPlan w (run fixed w xs))
+unfoldable pub plannedFor : List ℕ → ℕ → ℕ → ℕ → Planned
+plannedFor xs o b w = afterCheck (inputChecked xs o b w) Refused (ranPlan w (run fixed w xs))
 
 -- a plan's eight numbers
 abbrev pub numbers : ManagedPlan → List ℕ
@@ -86,5 +83,5 @@ plannedValues (Refused e) = refusal e .first ∷ refusal e .second ∷ []
 
 -- a lent list at the end: new numbers in front where the plan is accepted, else as it was
 abbrev pub written : Planned → List ℕ → List ℕ → List ℕ
-written (Accepted p) new old = fronted new old
+written (Accepted p) new old = put old 0 new
 written (Refused e) new old = old

@@ -6,7 +6,7 @@ ghost use lib.ListN.{length};
 ghost use Rattle.table.specs.Table.{fixed};
 ghost use Rattle.plan_steps.specs.Steps.{planOffsets, planStarts};
 ghost use Rattle.plan_end.specs.Requires.{Totalled};
-ghost use Rattle.plan.specs.Answer.{totals, answer, written};
+ghost use Rattle.plan.specs.Answer.{totals, plannedFor, written};
 use fields::Checked;
 use plan_checks::check_input;
 use plan_end::close;
@@ -73,7 +73,7 @@ pub fn totals(s: State, offset_size: u8) -> ManagedPlan
 
 // The answer for lists of so many places; nothing is written.
 pub fn planned_for(sizes: &[u64], offsets: usize, blocks: usize, offset_size: u8) -> Planned
-    ensures { λ r. ⌜ r ≡ answer (now (sizes .entry)) offsets blocks «offset_size» ⌝ }
+    ensures { λ r. ⌜ r ≡ plannedFor (now (sizes .entry)) offsets blocks «offset_size» ⌝ }
 {
     match check_input(sizes, offsets, blocks, offset_size) {
         Checked::Refused(e) => Planned::Refused(e),
@@ -88,7 +88,7 @@ impl ManagedPlan {
     // Lay out objects of the given sizes: each object's heap offset and each placed block's start go into
     // the lent lists. A refusal leaves both as they were.
     pub fn new(sizes: &[u64], offsets: &mut [u64], blocks: &mut [u64], offset_size: u8) -> Planned
-        ensures { λ r. ⌜ r ≡ answer (now (sizes .entry)) (length (now (offsets .entry))) (length (now (blocks .entry))) «offset_size» ⌝ }
+        ensures { λ r. ⌜ r ≡ plannedFor (now (sizes .entry)) (length (now (offsets .entry))) (length (now (blocks .entry))) «offset_size» ⌝ }
         ensures { λ r. ⌜ now (offsets .exit) ≡ written r (planOffsets fixed «offset_size» (now (sizes .entry))) (now (offsets .entry)) ⌝ }
         ensures { λ r. ⌜ now (blocks .exit) ≡ written r (planStarts fixed «offset_size» (now (sizes .entry))) (now (blocks .entry)) ⌝ }
     {

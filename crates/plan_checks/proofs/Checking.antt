@@ -11,11 +11,12 @@ use lib.Seq.{drop-cons}
 use borrow.Author.Tests.{le-leb, lt-leb, leb-true}
 use Rattle.little_endian.specs.Widths.{legal}
 use Rattle.refusals.specs.declared.FormatError.the-variants.{InvalidOffsetSize, ObjectTooLarge, HeapSpaceExhausted, SliceTooShort}
+use Rattle.fields.specs.Fields.{afterCheck}
 use Rattle.fields.specs.declared.Checked.{Checked}
 use Rattle.fields.specs.declared.Checked.the-variants.{Passed, Refused as NotPassed}
 use Rattle.table.specs.Table.{fixed}
 use Rattle.table.specs.Sizes.{maxManaged}
-use Rattle.plan_checks.specs.Checks.{sizesChecked, placesChecked, widthChecked, thenChecked, inputChecked}
+use Rattle.plan_checks.specs.Checks.{sizesChecked, placesChecked, widthChecked, inputChecked}
 
 -- ---- one size
 
@@ -77,9 +78,9 @@ module _ (xs : List ℕ) (o b w : ℕ) where
   -- the tests in their order, from what each says
   abbrev tests : Bool → Bool → Bool → Checked
   tests u v y =
-      thenChecked (cond u Passed (NotPassed (InvalidOffsetSize w)))
-      (thenChecked (cond v Passed (NotPassed (SliceTooShort (length xs) o)))
-      (thenChecked (cond y Passed (NotPassed (SliceTooShort (max 1 (length xs)) b))) (sizesChecked (maxManaged fixed w) 0 xs)))
+      afterCheck (cond u Passed (NotPassed (InvalidOffsetSize w))) NotPassed
+      (afterCheck (cond v Passed (NotPassed (SliceTooShort (length xs) o))) NotPassed
+      (afterCheck (cond y Passed (NotPassed (SliceTooShort (max 1 (length xs)) b))) NotPassed (sizesChecked (maxManaged fixed w) 0 xs)))
 
   pub passing : inputChecked xs o b w ≡ Passed → Passing xs o b w
   unfolding inputChecked widthChecked placesChecked

@@ -6,6 +6,7 @@ use lib.ListN.{length}
 use lib.Dec.{leb}
 use Rattle.little_endian.specs.Widths.{legal}
 use Rattle.refusals.specs.declared.FormatError.the-variants.{InvalidOffsetSize, ObjectTooLarge, SliceTooShort}
+use Rattle.fields.specs.Fields.{afterCheck}
 use Rattle.fields.specs.declared.Checked.{Checked}
 use Rattle.fields.specs.declared.Checked.the-variants.{Passed, Refused as NotPassed}
 use Rattle.table.specs.Table.{fixed}
@@ -25,13 +26,9 @@ placesChecked n m = cond (leb n m) Passed (NotPassed (SliceTooShort n m))
 unfoldable pub widthChecked : ℕ → Checked
 widthChecked w = cond (legal w) Passed (NotPassed (InvalidOffsetSize w))
 
-abbrev pub thenChecked : Checked → Checked → Checked
-thenChecked Passed d = d
-thenChecked (NotPassed e) d = NotPassed e
-
 -- the tests before any planning, for lists of o and b places: 2, 13 offsets, 13 blocks, 11
 unfoldable pub inputChecked : List ℕ → ℕ → ℕ → ℕ → Checked
 inputChecked xs o b w =
-    thenChecked (widthChecked w)
-    (thenChecked (placesChecked (length xs) o)
-    (thenChecked (placesChecked (max 1 (length xs)) b) (sizesChecked (maxManaged fixed w) 0 xs)))
+    afterCheck (widthChecked w) NotPassed
+    (afterCheck (placesChecked (length xs) o) NotPassed
+    (afterCheck (placesChecked (max 1 (length xs)) b) NotPassed (sizesChecked (maxManaged fixed w) 0 xs)))

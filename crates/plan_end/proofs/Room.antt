@@ -20,7 +20,7 @@ use Rattle.table_laws.proofs.Counting.{count-add, count-all}
 use Rattle.table_laws.proofs.Format.{inBody, slot-body}
 use Rattle.table_laws.proofs.Bodies.{first-bodies, bodies}
 use Rattle.plan_steps.specs.Steps.{blockEnd, initial, stepOf, runFrom, run}
-use Rattle.plan_end.specs.End.{oneBlock, closed, rowsIn, rootRows}
+use Rattle.plan_end.specs.End.{oneBlock, endState, rowsIn, rootRows}
 use Rattle.plan_end.specs.Requires.{Totalled}
 use Rattle.plan_steps.specs.declared.State.{State}
 use Rattle.plan_steps.specs.declared.Step.{Step}
@@ -149,10 +149,10 @@ module _ (w : ℕ) (l : w ≤ 255) (s : State) where
             omega arith;
       }
 
-  pub totalled : (xs : List ℕ) → run fixed w xs ≡ Done s → Totalled w (closed fixed w s)
-  unfolding closed
+  pub totalled : (xs : List ℕ) → run fixed w xs ≡ Done s → Totalled w (endState fixed w s)
+  unfolding endState
   totalled xs e = go (ℕ-discrete (s .count) 0)
     where
-      go : Dec (s .count ≡ 0) → Totalled w (closed fixed w s)
-      go (yes q) = rw (eq-eqb (s .count) 0 q, closed) one-totalled
-      go (no q) = rw (ne-eqb (s .count) 0 q, closed) (some-totalled q (roomy w l xs s e))
+      go : Dec (s .count ≡ 0) → Totalled w (endState fixed w s)
+      go (yes q) = rw (eq-eqb (s .count) 0 q, endState) one-totalled
+      go (no q) = rw (ne-eqb (s .count) 0 q, endState) (some-totalled q (roomy w l xs s e))

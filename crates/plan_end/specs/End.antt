@@ -21,8 +21,8 @@ oneBlock t w = record {
   indirect = 0;
 }
 
-unfoldable pub closed : Table → ℕ → State → State
-closed t w s = cond (eqb (s .count) 0) (oneBlock t w) s
+unfoldable pub endState : Table → ℕ → State → State
+endState t w s = cond (eqb (s .count) 0) (oneBlock t w) s
 
 abbrev pub rowsIn : Covering → ℕ
 rowsIn (Rows n) = n

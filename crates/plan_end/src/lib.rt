@@ -1,7 +1,7 @@
 // The end of a plan: the state after the last object, and the root's rows.
 ghost use mathlib.Core.Path.{_≡_};
 ghost use Rattle.table.specs.Table.{fixed};
-ghost use Rattle.plan_end.specs.End.{closed, rootRows};
+ghost use Rattle.plan_end.specs.End.{endState, rootRows};
 use plan_steps::State;
 use table::Covering;
 use table_rows::root_rows_covering;
@@ -9,7 +9,7 @@ use table_sizes::direct_block_header;
 
 // The state at the end; without objects one block is placed.
 pub fn close(s: State, offset_size: u8) -> State
-    ensures { λ r. ⌜ r ≡ closed fixed «offset_size» s ⌝ }
+    ensures { λ r. ⌜ r ≡ endState fixed «offset_size» s ⌝ }
 {
     if s.count == 0 {
         return State {

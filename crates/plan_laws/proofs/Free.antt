@@ -10,7 +10,8 @@ use borrow.Author.Tests.{lt-ltb, le-leb, lt-leb, leb-true, ltb-true, not-true}
 use Rattle.little_endian.proofs.Widths.{legal-small}
 use Rattle.table.specs.Table.{Table, fixed, rowOffset}
 use Rattle.table.specs.Sizes.{directHeader}
-use Rattle.table.specs.Capacity.{sum, capacity}
+use Rattle.numbers.specs.Sums.{sum}
+use Rattle.table.specs.Capacity.{capacity}
 use Rattle.table_laws.specs.Count.{count, InBody}
 use Rattle.table_laws.proofs.Counting.{count-ext, count-none, count-or, count-less, count-interval}
 use Rattle.table_laws.proofs.Format.{inBody, slot-body, body-in, body-out}
@@ -19,7 +20,7 @@ use Rattle.plan_steps.specs.declared.State.{State}
 use Rattle.plan.specs.declared.ManagedPlan.{ManagedPlan}
 use Rattle.plan.specs.declared.Planned.the-variants.{Accepted}
 use Rattle.plan_steps.specs.Steps.{initial, planOffsets, startsFrom}
-use Rattle.plan.specs.Answer.{answer}
+use Rattle.plan.specs.Answer.{plannedFor}
 use Rattle.plan_steps.proofs.Stepping.{Ok}
 use Rattle.plan_laws.specs.Plans.{InObject, FreeByte, Free, FreeCounted}
 use Rattle.plan.proofs.Answering.{Went, accepted}
@@ -159,7 +160,7 @@ module _ (t : Table) (g : t .startBits ≤ t .directBits) (k : t .startBits ≤ 
   free-test x = (λ e. let q = and-eq-true-iff (ltb x m) (isFree x) .0 e in free-out x (ltb-true x m (q .0)) (q .1), λ F. let b = free-in x F in ap₂ _&&_ (lt-ltb x m (b .0)) (b .1))
 
 -- free space is the count of the free bytes
-pub free-is-count : (xs : List ℕ) (o b w : ℕ) (p : ManagedPlan) → answer xs o b w ≡ Accepted p → FreeCounted w xs p
+pub free-is-count : (xs : List ℕ) (o b w : ℕ) (p : ManagedPlan) → plannedFor xs o b w ≡ Accepted p → FreeCounted w xs p
 free-is-count xs o b w p e = ⊎-elim bare rowed (shape w xs p w8 G)
   where
     G : Went w xs p

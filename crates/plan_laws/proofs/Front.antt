@@ -18,8 +18,8 @@ use Rattle.plan_steps.specs.declared.Run.the-variants.{Done}
 use Rattle.plan.specs.declared.ManagedPlan.{ManagedPlan}
 use Rattle.plan.specs.declared.Planned.the-variants.{Accepted}
 use Rattle.plan_steps.specs.Steps.{initial, stepOf, runFrom, offsetsFrom, startsFrom, run, planOffsets, planStarts}
-use Rattle.plan_end.specs.End.{closed}
-use Rattle.plan.specs.Answer.{totals, answer}
+use Rattle.plan_end.specs.End.{endState}
+use Rattle.plan.specs.Answer.{totals, plannedFor}
 use Rattle.plan_checks.specs.Checks.{sizesChecked}
 use Rattle.plan_steps.proofs.Running.{run-stops, run-goes, offsets-go, starts-go-same, starts-go-new}
 use Rattle.plan_laws.specs.Plans.{FrontPart}
@@ -86,13 +86,13 @@ blocks-front w [] (suc k) F l = ap (λ (y : List ℕ). 0 ∷ y) (F .same-starts)
 blocks-front w (x ∷ xs) (suc k) F l = F .same-starts
 
 -- if planning accepts a list, it accepts the first k sizes, in any lists that 13 lets pass
-pub front-part : (xs : List ℕ) (o b w : ℕ) (p : ManagedPlan) → answer xs o b w ≡ Accepted p
+pub front-part : (xs : List ℕ) (o b w : ℕ) (p : ManagedPlan) → plannedFor xs o b w ≡ Accepted p
     → (k o′ b′ : ℕ) → length (take k xs) ≤ o′ → max 1 (length (take k xs)) ≤ b′ → FrontPart xs w k o′ b′
 front-part xs o b w p e k o′ b′ lo lb =
     let A = accepted xs o b w p e in
     let F : Fronted fixed w (initial fixed w) xs k 0 = front fixed w xs k (initial fixed w) 0 (A .1 .state) (unfold run in A .1 .ran) in
     record {
-      plan = totals fixed w (closed fixed w (F .state));
+      plan = totals fixed w (endState fixed w (F .state));
       accepted = answers (take k xs) o′ b′ w (Done (F .state))
           (passed (take k xs) o′ b′ w (record { width = A .0 .width; offsets = lo; blocks = lb; sizes = sizes-front _ 0 xs k (A .0 .sizes) }))
           (unfold run in F .is);
@@ -102,7 +102,7 @@ front-part xs o b w p e k o′ b′ lo lb =
     }
 
 -- such as those of the whole list
-pub front-part-there : (xs : List ℕ) (o b w : ℕ) (p : ManagedPlan) → answer xs o b w ≡ Accepted p → (k : ℕ) → FrontPart xs w k o b
+pub front-part-there : (xs : List ℕ) (o b w : ℕ) (p : ManagedPlan) → plannedFor xs o b w ≡ Accepted p → (k : ℕ) → FrontPart xs w k o b
 front-part-there xs o b w p e k =
     let A = accepted xs o b w p e .0 in
     let l = length-take k xs in

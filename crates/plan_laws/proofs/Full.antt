@@ -23,7 +23,7 @@ use Rattle.plan_steps.specs.declared.Run.the-variants.{Done, Short}
 use Rattle.plan.specs.declared.Planned.the-variants.{Refused}
 use Rattle.plan_steps.specs.Steps.{openAt, initial, blockEnd, filled, opened, stepOf, runFrom, run}
 use Rattle.plan_checks.specs.Checks.{inputChecked}
-use Rattle.plan.specs.Answer.{answer}
+use Rattle.plan.specs.Answer.{plannedFor}
 use Rattle.plan_steps.proofs.Opening.{open-found, full-none}
 use Rattle.plan_steps.proofs.Stepping.{Ok, step-open}
 use Rattle.plan_steps.proofs.Running.{run-stops, run-goes}
@@ -120,10 +120,10 @@ ok-after : (w : ℕ) (xs : List ℕ) (s : State) → run fixed w xs ≡ Done s �
 ok-after w xs s e = still-ok (ran-ok w) (ran-laid w xs s e)
 
 -- the answer is 12 at the i-th object exactly if the tests before pass and no slot that is left fits it
-pub ends-iff-none-fits : (xs : List ℕ) (o b w i : ℕ) → (answer xs o b w ≡ Refused (HeapSpaceExhausted i)) ↔ ((inputChecked xs o b w ≡ Passed) × NoSlotFits w xs i)
+pub ends-iff-none-fits : (xs : List ℕ) (o b w i : ℕ) → (plannedFor xs o b w ≡ Refused (HeapSpaceExhausted i)) ↔ ((inputChecked xs o b w ≡ Passed) × NoSlotFits w xs i)
 ends-iff-none-fits xs o b w i = (only, always)
   where
-    only : answer xs o b w ≡ Refused (HeapSpaceExhausted i) → (inputChecked xs o b w ≡ Passed) × NoSlotFits w xs i
+    only : plannedFor xs o b w ≡ Refused (HeapSpaceExhausted i) → (inputChecked xs o b w ≡ Passed) × NoSlotFits w xs i
     only e =
         let E = ended xs o b w i e in
         let R = stopped fixed w xs (initial fixed w) 0 i (sym (run-is w xs) ∙ E .1) in
@@ -132,7 +132,7 @@ ends-iff-none-fits xs o b w i = (only, always)
         let N = step-ends fixed (omega arith) (omega arith) w (S .state) (getD xs i 0) (ok-after w (take i xs) (S .state) before) (S .ends) in
         (E .0, record { object = S .object; state = S .state; before = before; not-here = N .not-here; nowhere = λ c z D l. N .nowhere c z (fixed-slot D) l })
 
-    always : (inputChecked xs o b w ≡ Passed) × NoSlotFits w xs i → answer xs o b w ≡ Refused (HeapSpaceExhausted i)
+    always : (inputChecked xs o b w ≡ Passed) × NoSlotFits w xs i → plannedFor xs o b w ≡ Refused (HeapSpaceExhausted i)
     always (c, N) =
         let I = ok-after w (take i xs) (N .state) (N .before) in
         let S : Stopped fixed w (initial fixed w) xs 0 i = record {

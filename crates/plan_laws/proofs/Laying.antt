@@ -8,7 +8,7 @@ use native.Mathlib.Nat.{le-refl}
 use lib.ListN.{length, getD}
 use Rattle.table.specs.Table.{Table, fixed}
 use Rattle.table.specs.Sizes.{directHeader}
-use Rattle.table.specs.Capacity.{sum}
+use Rattle.numbers.specs.Sums.{sum}
 use Rattle.plan_steps.specs.declared.State.{State}
 use Rattle.plan_steps.specs.declared.Step.{Step}
 use Rattle.plan_steps.specs.declared.Step.the-variants.{Placed, Ends}

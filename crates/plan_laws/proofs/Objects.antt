@@ -13,7 +13,7 @@ use Rattle.table_laws.proofs.Format.{slot-least, slots-meet, fixed-slot, slot-f
 use Rattle.plan.specs.declared.ManagedPlan.{ManagedPlan}
 use Rattle.plan.specs.declared.Planned.the-variants.{Accepted}
 use Rattle.plan_steps.specs.Steps.{planOffsets}
-use Rattle.plan.specs.Answer.{answer}
+use Rattle.plan.specs.Answer.{plannedFor}
 use Rattle.plan_laws.specs.Plans.{InObject, InPlacedBlock}
 use Rattle.plan.proofs.Answering.{accepted}
 use Rattle.plan_laws.proofs.Laying.{Spaced, none, more, spaced, Held, held, starts-some, ran-ok, ran-laid}
@@ -30,7 +30,7 @@ spaced-apart (more l s) i zero u v = absurd (omega arith)
 spaced-apart (more l s) zero (suc j) u v = spaced-from s j (omega arith)
 spaced-apart (more l s) (suc i) (suc j) u v = spaced-apart s i j (omega arith) (omega arith)
 
-module _ (xs : List ℕ) (o b w : ℕ) (p : ManagedPlan) (e : answer xs o b w ≡ Accepted p) where
+module _ (xs : List ℕ) (o b w : ℕ) (p : ManagedPlan) (e : plannedFor xs o b w ≡ Accepted p) where
   -- a heap offset is a byte of one object at most
   pub no-shared-byte : (i j x : ℕ) → InObject (planOffsets fixed w xs) xs i x → InObject (planOffsets fixed w xs) xs j x → i ≡ j
   no-shared-byte i j x A B =

@@ -10,7 +10,7 @@ use lib.ListN.{length, getD}
 use borrow.Author.Tests.{eq-eqb, ne-eqb}
 use Rattle.little_endian.proofs.Widths.{legal-small}
 use Rattle.table.specs.Table.{fixed, rowBits, rowOffset, rowIn, rowOf}
-use Rattle.table.specs.Slots.{Direct, slotIn, slotBits, slotAt}
+use Rattle.table.specs.Slots.{Direct, slotBitsIn, slotBits, slotAt}
 use Rattle.table.specs.Sizes.{directHeader}
 use Rattle.table.specs.Capacity.{capacity}
 use Rattle.table.proofs.Sizes.{header-is}
@@ -21,8 +21,8 @@ use Rattle.plan_steps.specs.declared.Run.the-variants.{Done}
 use Rattle.plan.specs.declared.ManagedPlan.{ManagedPlan}
 use Rattle.plan.specs.declared.Planned.the-variants.{Accepted}
 use Rattle.plan_steps.specs.Steps.{initial, blockEnd, runFrom, run, planStarts}
-use Rattle.plan_end.specs.End.{oneBlock, closed, rootRows}
-use Rattle.plan.specs.Answer.{bareTotals, rowTotals, totals, answer}
+use Rattle.plan_end.specs.End.{oneBlock, endState, rootRows}
+use Rattle.plan.specs.Answer.{bareTotals, rowTotals, totals, plannedFor}
 use Rattle.plan_steps.proofs.Stepping.{start-zero}
 use Rattle.plan_end.proofs.Room.{no-rows, rows-of-end}
 use Rattle.plan_laws.specs.Plans.{FewestRows, OneBlock}
@@ -69,8 +69,8 @@ empty-state : (w : ℕ) (s : State) → run fixed w [] ≡ Done s → initial fi
 unfolding run runFrom
 empty-state w s e = cc
 
-closed-none : (w : ℕ) → closed fixed w (initial fixed w) ≡ oneBlock fixed w
-unfolding closed
+closed-none : (w : ℕ) → endState fixed w (initial fixed w) ≡ oneBlock fixed w
+unfolding endState
 closed-none w = refl
 
 pub starts-none : (w : ℕ) → planStarts fixed w [] ≡ 0 ∷ []
@@ -81,7 +81,7 @@ shape-none : (w : ℕ) (p : ManagedPlan) → w ≤ 8 → (G : Went w [] p) → B
 shape-none w p l G =
     let i = empty-state w (G .state) (G .ran) in
     let e : p ≡ bareTotals fixed w (oneBlock fixed w) =
-    G .totals-is ∙ ap (λ (y : State). totals fixed w (closed fixed w y)) (sym i) ∙ ap (totals fixed w) (closed-none w) ∙ totals-bare w (oneBlock fixed w) refl in
+    G .totals-is ∙ ap (λ (y : State). totals fixed w (endState fixed w y)) (sym i) ∙ ap (totals fixed w) (closed-none w) ∙ totals-bare w (oneBlock fixed w) refl in
     let h = header-is w in
     let u = ap (λ (y : State). y .used) i in
     record {
@@ -95,13 +95,13 @@ shape-none w p l G =
 
 -- ---- some objects
 
-module _ (w x : ℕ) (xs : List ℕ) (p : ManagedPlan) (s : State) (ran : run fixed w (x ∷ xs) ≡ Done s) (is : p ≡ totals fixed w (closed fixed w s)) where
+module _ (w x : ℕ) (xs : List ℕ) (p : ManagedPlan) (s : State) (ran : run fixed w (x ∷ xs) ≡ Done s) (is : p ≡ totals fixed w (endState fixed w s)) where
   placed : Blocks fixed w (planStarts fixed w (x ∷ xs)) s
   placed = subst (λ (bs : List ℕ). Blocks fixed w bs s) (sym (starts-some w (x ∷ xs) (omega arith))) (blocks (ran-laid w (x ∷ xs) s ran))
 
   -- some block is placed, so the totals are those of the last state
   totals-some : p ≡ totals fixed w s
-  unfolding closed
+  unfolding endState
   totals-some = is ∙ ap (totals fixed w) (let c = placed .counted in rw (ne-eqb (s .count) 0 (λ z. omega arith)))
 
   least : 1024 ≤ s .size
@@ -169,13 +169,13 @@ shape w (x ∷ xs) p l G = shape-some w x xs p (G .state) (G .ran) (G .totals-is
 -- ---- the root of an accepted plan
 
 slot-zero : slotAt fixed 0 .size ≡ 1024
-unfolding slotAt slotBits slotIn rowOf rowIn rowOffset rowBits
+unfolding slotAt slotBits slotBitsIn rowOf rowIn rowOffset rowBits
 slot-zero = refl
 
 first-slot : Direct fixed 29 0 1024
 first-slot = slot-fixed (record { starts = start-zero fixed (omega arith); inside = omega arith; size-is = sym slot-zero })
 
-module _ (xs : List ℕ) (o b w : ℕ) (p : ManagedPlan) (e : answer xs o b w ≡ Accepted p) where
+module _ (xs : List ℕ) (o b w : ℕ) (p : ManagedPlan) (e : plannedFor xs o b w ≡ Accepted p) where
   shaped : Bare w xs p (accepted xs o b w p e .1 .state) ⊎ Rowed w xs p (accepted xs o b w p e .1 .state)
   shaped = shape w xs p (legal-small w (accepted xs o b w p e .0 .width)) (accepted xs o b w p e .1)
 

@@ -10,14 +10,14 @@ use lib.Dec.{eqb}
 use lib.ListN.{length}
 use borrow.Author.Tests.{ne-eqb}
 use Rattle.table.specs.Table.{fixed, rowBits, rowOffset, rowIn, rowOf}
-use Rattle.table.specs.Slots.{slotIn, slotBits, slotAt}
+use Rattle.table.specs.Slots.{slotBitsIn, slotBits, slotAt}
 use Rattle.plan_steps.specs.declared.State.{State}
 use Rattle.plan_steps.specs.declared.Run.the-variants.{Done}
 use Rattle.plan.specs.declared.ManagedPlan.{ManagedPlan}
 use Rattle.plan.specs.declared.Planned.the-variants.{Accepted}
 use Rattle.plan_steps.specs.Steps.{initial, blockEnd, run, runFrom, planStarts}
-use Rattle.plan_end.specs.End.{closed, rootRows}
-use Rattle.plan.specs.Answer.{bareTotals, rowTotals, totals, answer}
+use Rattle.plan_end.specs.End.{endState, rootRows}
+use Rattle.plan.specs.Answer.{bareTotals, rowTotals, totals, plannedFor}
 use Rattle.plan.proofs.Answering.{accepted}
 use Rattle.plan_laws.specs.Plans.{sizesAt, Tallied}
 use Rattle.plan_laws.proofs.Laying.{Laid, end, same, new, count-starts, blocks, starts-some, ran-laid}
@@ -39,17 +39,17 @@ pub record Counted (w : ℕ) (xs : List ℕ) (s : State) : Type 0 where
   pub count-is : s .count ≡ length (planStarts fixed w xs)
   pub sizes-are : s .allocated ≡ sizesAt fixed (planStarts fixed w xs)
 
-pub counted : (w : ℕ) (xs : List ℕ) (s : State) → run fixed w xs ≡ Done s → Counted w xs (closed fixed w s)
-unfolding closed run runFrom planStarts sizesAt slotAt slotBits slotIn rowOf rowIn rowOffset rowBits
+pub counted : (w : ℕ) (xs : List ℕ) (s : State) → run fixed w xs ≡ Done s → Counted w xs (endState fixed w s)
+unfolding endState run runFrom planStarts sizesAt slotAt slotBits slotBitsIn rowOf rowIn rowOffset rowBits
 counted w [] s e =
     let z : initial fixed w ≡ s = cc in
-    subst (λ (y : State). Counted w [] (closed fixed w y)) z (record { count-is = refl; sizes-are = refl })
+    subst (λ (y : State). Counted w [] (endState fixed w y)) z (record { count-is = refl; sizes-are = refl })
 counted w (x ∷ xs) s e =
     let L = ran-laid w (x ∷ xs) s e in
     let B = blocks L in
     let c = B .counted in
     let b = starts-some w (x ∷ xs) (omega arith) in
-    rw (ne-eqb (s .count) 0 (λ z. omega arith), closed)
+    rw (ne-eqb (s .count) 0 (λ z. omega arith), endState)
     (record { count-is = count-starts L ∙ zero-add _ ∙ ap length (sym b); sizes-are = allocated-laid L ∙ zero-add _ ∙ ap (sizesAt fixed) (sym b) })
 
 -- the totals of a root of some rows, and of none
@@ -67,16 +67,16 @@ totals-count w s = go (eqb (rootRows fixed (blockEnd s)) 0)
     go false = inr (refl, refl)
 
 one-size : sizesAt fixed (0 ∷ []) ≡ 1024
-unfolding sizesAt slotAt slotBits slotIn rowOf rowIn rowOffset rowBits
+unfolding sizesAt slotAt slotBits slotBitsIn rowOf rowIn rowOffset rowBits
 one-size = refl
 
 -- every object has an offset; the block count and the allocated space are those of the placed blocks
-pub tallied : (xs : List ℕ) (o b w : ℕ) (p : ManagedPlan) → answer xs o b w ≡ Accepted p → Tallied w xs p
+pub tallied : (xs : List ℕ) (o b w : ℕ) (p : ManagedPlan) → plannedFor xs o b w ≡ Accepted p → Tallied w xs p
 tallied xs o b w p e =
     let G = accepted xs o b w p e .1 in
     let C = counted w xs (G .state) (G .ran) in
     let q = G .totals-is in
-    let c : State = closed fixed w (G .state) in
+    let c : State = endState fixed w (G .state) in
     ⊎-elim
     (λ (z : (totals fixed w c .«root_rows» ≡ 0) × (totals fixed w c .«block_count» ≡ 1) × (totals fixed w c .«allocated_space» ≡ 1024)).
     let O = no-root-rows xs o b w p e (ap (λ (y : ManagedPlan). y .«root_rows») q ∙ z .0) .blocks in

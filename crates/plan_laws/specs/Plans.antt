@@ -13,21 +13,21 @@ use Rattle.plan_steps.specs.declared.Run.the-variants.{Done}
 use Rattle.plan.specs.declared.ManagedPlan.{ManagedPlan}
 use Rattle.plan.specs.declared.Planned.the-variants.{Accepted}
 use Rattle.plan_steps.specs.Steps.{blockEnd, run, planOffsets, planStarts}
-use Rattle.plan.specs.Answer.{answer}
+use Rattle.plan.specs.Answer.{plannedFor}
 use Rattle.table_laws.specs.Count.{count, InBody}
 
--- x is a byte of the i-th of the objects of sizes xs at the heap offsets os: one of the offsets from its own
+-- x is a byte of the i-th of the objects of sizes xs at these heap offsets: one of the offsets from its own
 -- on, as many as its size
-pub record InObject (os xs : List ℕ) (i x : ℕ) : Type 0 where
+pub record InObject (offsets xs : List ℕ) (i x : ℕ) : Type 0 where
   pub object : i < length xs
-  pub from : getD os i 0 ≤ x
-  pub to : x < getD os i 0 + getD xs i 0
+  pub from : getD offsets i 0 ≤ x
+  pub to : x < getD offsets i 0 + getD xs i 0
 
 -- the first k of the sizes xs, in lists of o and b places, are accepted, with the same offsets; where there
 -- are some, the blocks too are the first of the whole's
 pub record FrontPart (xs : List ℕ) (w k o b : ℕ) : Type 0 where
   pub plan : ManagedPlan
-  pub accepted : answer (take k xs) o b w ≡ Accepted plan
+  pub accepted : plannedFor (take k xs) o b w ≡ Accepted plan
   pub same-offsets : planOffsets fixed w (take k xs) ≡ take k (planOffsets fixed w xs)
   pub later : List ℕ
   pub same-blocks : 0 < k → planStarts fixed w xs ≡ planStarts fixed w (take k xs) ++ later
@@ -42,9 +42,9 @@ pub record InPlacedBlock (w : ℕ) (xs : List ℕ) (i : ℕ) : Type 0 where
   pub to : getD (planOffsets fixed w xs) i 0 + getD xs i 0 ≤ getD (planStarts fixed w xs) n 0 + size
 
 -- x lies in the body of a direct slot of the managed space of a heap with n root rows, and in no object
-pub record FreeByte (t : Table) (h n : ℕ) (os xs : List ℕ) (x : ℕ) : Type 0 where
+pub record FreeByte (t : Table) (h n : ℕ) (offsets xs : List ℕ) (x : ℕ) : Type 0 where
   pub body : InBody t h n x
-  pub free : (i : ℕ) → InObject os xs i x → ⊥
+  pub free : (i : ℕ) → InObject offsets xs i x → ⊥
 
 -- x is a free byte of the plan p of the sizes xs
 abbrev pub Free : ℕ → List ℕ → ManagedPlan → ℕ → Type 0

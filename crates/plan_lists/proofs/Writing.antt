@@ -9,7 +9,8 @@ use lib.ListN.{length, take, drop, getD, set, length-set, length-append, length-
 use lib.Seq.{take-suc-set, drop-set-lt, drop-drop, length-take-le, set-split, take-at, drop-append-seam}
 use Rattle.table.specs.Table.{fixed}
 use Rattle.plan_steps.specs.Steps.{initial, filled, stepOf, offsetsFrom, startsFrom, planOffsets, planStarts}
-use Rattle.plan_lists.specs.Lists.{fronted, overwritten}
+use Rattle.little_endian.specs.LittleEndian.{put}
+use Rattle.little_endian.proofs.LittleEndian.{put-front, length-put, put-through, put-after}
 use Rattle.plan_steps.specs.Filling.{fillState, fillOffsets, filledFrom}
 use Rattle.plan_steps.specs.Requires.{Bounded, Runs}
 use Rattle.plan_steps.specs.declared.Filled.{Filled}
@@ -40,11 +41,10 @@ pub record Fronted (new old l : List ℕ) (n : ℕ) : Type 0 where
   pub front : take n l ≡ new
   pub tail : drop n l ≡ drop n old
 
-fronted-is : {new old l : List ℕ} {n : ℕ} → Fronted new old l n → l ≡ fronted new old
-unfolding fronted
+fronted-is : {new old l : List ℕ} {n : ℕ} → Fronted new old l n → l ≡ put old 0 new
 fronted-is {new} {old} {l} {n} F =
     let e : length new ≡ n = ap length (sym (F .front)) ∙ length-take-le n l (F .inside) in
-    sym (take-append-drop n l) ∙ ap (λ (y : List ℕ). y ++ drop n l) (F .front) ∙ ap (λ (y : List ℕ). new ++ y) (F .tail ∙ ap (λ (j : ℕ). drop j old) (sym e))
+    sym (take-append-drop n l) ∙ ap (λ (y : List ℕ). y ++ drop n l) (F .front) ∙ ap (λ (y : List ℕ). new ++ y) (F .tail ∙ ap (λ (j : ℕ). drop j old) (sym e)) ∙ sym (put-front old new)
 
 -- ---- the offsets of the objects that fit into the current block
 
@@ -71,39 +71,19 @@ module _ (xs o₀ : List ℕ) (from : ℕ) (s₀ : State) (os : List ℕ) (s : S
         tail = drop-set-more os o₀ next (s .start + s .fill) (I .tail);
       }
 
-  storing-ends : fillState s (drop next xs) ≡ s → fillOffsets s (drop next xs) ≡ [] → os ≡ overwritten from (fillOffsets s₀ (drop from xs)) o₀
-  unfolding overwritten filledFrom
+  storing-ends : fillState s (drop next xs) ≡ s → fillOffsets s (drop next xs) ≡ [] → os ≡ put o₀ from (fillOffsets s₀ (drop from xs))
+  unfolding put filledFrom
   storing-ends st of =
       let F = fillOffsets s₀ (drop from xs) in
       let n : from + length F ≡ next = ap (λ (y : Filled). y .next) (sym (filling-ends xs from s₀ s next (I .filling) st of)) in
       let fr : take next os ≡ take from o₀ ++ F = sym (append-nil (take next os)) ∙ ap (λ (y : List ℕ). take next os ++ y) (sym of) ∙ I .front in
-      sym (take-append-drop next os) ∙ ap₂ _++_ fr (I .tail ∙ ap (λ (j : ℕ). drop j o₀) (sym n)) ∙ append-assoc (take from o₀) F (drop (from + length F) o₀)
+      sym (take-append-drop next os) ∙ ap₂ _++_ fr (I .tail ∙ ap (λ (j : ℕ). drop j o₀) (sym n))
 
-  pub storing-full : next < length xs → s .size < s .fill + getD xs next 0 → os ≡ overwritten from (fillOffsets s₀ (drop from xs)) o₀
+  pub storing-full : next < length xs → s .size < s .fill + getD xs next 0 → os ≡ put o₀ from (fillOffsets s₀ (drop from xs))
   storing-full l f = storing-ends (state-stop xs s next l f) (offsets-stop xs s next l f)
 
-  pub storing-done : length xs ≤ next → os ≡ overwritten from (fillOffsets s₀ (drop from xs)) o₀
+  pub storing-done : length xs ≤ next → os ≡ put o₀ from (fillOffsets s₀ (drop from xs))
   storing-done l = storing-ends (state-end xs s next l) (offsets-end xs s next l)
-
--- a list after numbers went into it from its i-th place on
-module _ (i : ℕ) (new old : List ℕ) (l : i + length new ≤ length old) where
-  front-length : length (take i old ++ new) ≡ i + length new
-  front-length = length-append (take i old) new ∙ ap (λ (n : ℕ). n + length new) (length-take-le i old (omega arith))
-
-  over-is : overwritten i new old ≡ (take i old ++ new) ++ drop (i + length new) old
-  unfolding overwritten
-  over-is = sym (append-assoc (take i old) new (drop (i + length new) old))
-
-  over-length : length (overwritten i new old) ≡ length old
-  over-length =
-      ap length over-is ∙ length-append (take i old ++ new) (drop (i + length new) old)
-      ∙ (let a = front-length in let b = length-drop (i + length new) old in omega arith)
-
-  over-front : take (i + length new) (overwritten i new old) ≡ take i old ++ new
-  over-front = ap (take (i + length new)) over-is ∙ take-at (take i old ++ new) (drop (i + length new) old) (i + length new) front-length
-
-  over-tail : drop (i + length new) (overwritten i new old) ≡ drop (i + length new) old
-  over-tail = ap (drop (i + length new)) over-is ∙ ap (λ (n : ℕ). drop n ((take i old ++ new) ++ drop (i + length new) old)) (sym front-length) ∙ drop-append-seam (take i old ++ new) (drop (i + length new) old)
 
 -- ---- the loop over the blocks
 
@@ -122,7 +102,7 @@ wrote-start w xs o₀ b₀ = record { going = going-start w xs; few = zero-le; o
 
 module _ (w : ℕ) (xs o₀ b₀ os bs : List ℕ) (s : State) (i : ℕ) (I : Wrote w xs o₀ b₀ os bs s i) (lo : length xs ≤ length o₀) where
   -- the objects that fit into the current block
-  pub wrote-fill : w ≤ 255 → (f : Filled) → f ≡ filledFrom xs i s → (os′ : List ℕ) → os′ ≡ overwritten i (fillOffsets s (drop i xs)) os
+  pub wrote-fill : w ≤ 255 → (f : Filled) → f ≡ filledFrom xs i s → (os′ : List ℕ) → os′ ≡ put os i (fillOffsets s (drop i xs))
       → Wrote w xs o₀ b₀ os′ bs (f .state) (f .next)
   wrote-fill u f e os′ q =
       let F = fillOffsets s (drop i xs) in
@@ -133,15 +113,15 @@ module _ (w : ℕ) (xs o₀ b₀ os bs : List ℕ) (s : State) (i : ℕ) (I : Wr
       record {
         going = g;
         few = omega arith;
-        olen = ap length q ∙ over-length i F os r ∙ ol;
+        olen = ap length q ∙ length-put os i F r ∙ ol;
         blen = I .blen;
         offs = ap₂ (λ (j : ℕ) (y : List ℕ). take j y ++ offsetsFrom fixed w (f .state) (drop (f .next) xs)) n q
-            ∙ ap (λ (y : List ℕ). y ++ offsetsFrom fixed w (f .state) (drop (f .next) xs)) (over-front i F os r)
+            ∙ ap (λ (y : List ℕ). y ++ offsetsFrom fixed w (f .state) (drop (f .next) xs)) (put-through os i F r)
             ∙ append-assoc (take i os) F (offsetsFrom fixed w (f .state) (drop (f .next) xs))
             ∙ ap (λ (y : List ℕ). take i os ++ y) (sym (offsets-from-next w xs s i f e)) ∙ I .offs;
         strs = ap (λ (j : ℕ). take j bs ++ startsFrom fixed w (f .state) (drop (f .next) xs)) ck
             ∙ ap (λ (y : List ℕ). take (s .count) bs ++ y) (sym (starts-from-next w xs s i f e)) ∙ I .strs;
-        otail = ap₂ (λ (j : ℕ) (y : List ℕ). drop j y) n q ∙ over-tail i F os r
+        otail = ap₂ (λ (j : ℕ) (y : List ℕ). drop j y) n q ∙ put-after os i F r
             ∙ sym (drop-drop (length F) i os) ∙ ap (drop (length F)) (I .otail) ∙ drop-drop (length F) i o₀ ∙ ap (λ (j : ℕ). drop j o₀) (sym n);
         btail = ap (λ (j : ℕ). drop j bs) ck ∙ I .btail ∙ ap (λ (j : ℕ). drop j b₀) (sym ck);
       }
@@ -184,7 +164,7 @@ module _ (w : ℕ) (xs o₀ b₀ os bs : List ℕ) (s : State) (i : ℕ) (I : Wr
       let v : _≡_ {A = ℕ} 0 1 = cc in
       omega arith
 
-  pub wrote-offsets : length xs ≤ i → os ≡ fronted (offsetsFrom fixed w (initial fixed w) xs) o₀
+  pub wrote-offsets : length xs ≤ i → os ≡ put o₀ 0 (offsetsFrom fixed w (initial fixed w) xs)
   wrote-offsets l =
       let a = I .olen in let b = I .going .inside in
       fronted-is {n = i} (record {
@@ -193,7 +173,7 @@ module _ (w : ℕ) (xs o₀ b₀ os bs : List ℕ) (s : State) (i : ℕ) (I : Wr
         tail = I .otail;
       })
 
-  pub wrote-blocks : length xs ≤ length b₀ → length xs ≤ i → bs ≡ fronted (startsFrom fixed w (initial fixed w) xs) b₀
+  pub wrote-blocks : length xs ≤ length b₀ → length xs ≤ i → bs ≡ put b₀ 0 (startsFrom fixed w (initial fixed w) xs)
   wrote-blocks lb l =
       let a = I .blen in let b = I .going .inside in let f = I .few in
       fronted-is {n = s .count} (record {
@@ -204,13 +184,13 @@ module _ (w : ℕ) (xs o₀ b₀ os bs : List ℕ) (s : State) (i : ℕ) (I : Wr
 
 -- ---- no sizes, or some
 
-pub offsets-none : (w : ℕ) (xs old : List ℕ) → length xs ≡ 0 → old ≡ fronted (planOffsets fixed w xs) old
-unfolding fronted planOffsets offsetsFrom
+pub offsets-none : (w : ℕ) (xs old : List ℕ) → length xs ≡ 0 → old ≡ put old 0 (planOffsets fixed w xs)
+unfolding put planOffsets offsetsFrom
 offsets-none w [] old e = refl
 offsets-none w (x ∷ xs) old e = absurd (omega arith)
 
-pub blocks-none : (w : ℕ) (xs old : List ℕ) → length xs ≡ 0 → 1 ≤ length old → set old 0 0 ≡ fronted (planStarts fixed w xs) old
-unfolding fronted planStarts
+pub blocks-none : (w : ℕ) (xs old : List ℕ) → length xs ≡ 0 → 1 ≤ length old → set old 0 0 ≡ put old 0 (planStarts fixed w xs)
+unfolding put planStarts
 blocks-none w [] old e l = set-split old 0 0 l
 blocks-none w (x ∷ xs) old e l = absurd (omega arith)
 

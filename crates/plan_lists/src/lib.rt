@@ -8,7 +8,7 @@ ghost use Rattle.table.specs.Sizes.{maxManaged};
 ghost use Rattle.plan_steps.specs.Steps.{initial, offsetsFrom, startsFrom, planOffsets, planStarts};
 ghost use Rattle.plan_steps.specs.Filling.{fillOffsets, filledFrom};
 ghost use Rattle.plan_steps.specs.Requires.{Bounded, Small, Runs};
-ghost use Rattle.plan_lists.specs.Lists.{fronted, overwritten};
+ghost use Rattle.little_endian.specs.LittleEndian.{put};
 use plan_search::open_block;
 use plan_steps::Filled;
 use plan_steps::State;
@@ -23,7 +23,7 @@ fn fill_offsets(sizes: &[u64], offsets: &mut [u64], from: usize, s: State) -> Fi
     requires { ⌜ Small 65536 (now sizes) × (from ≤ length (now sizes)) ⌝ }
     requires { ⌜ length (now sizes) ≤ length (now offsets) ⌝ }
     ensures { λ r. ⌜ r ≡ filledFrom (now (sizes .entry)) from s ⌝ }
-    ensures { λ _. ⌜ now (offsets .exit) ≡ overwritten from (fillOffsets s (drop from (now (sizes .entry)))) (now (offsets .entry)) ⌝ }
+    ensures { λ _. ⌜ now (offsets .exit) ≡ put (now (offsets .entry)) from (fillOffsets s (drop from (now (sizes .entry)))) ⌝ }
 {
     let mut state = s;
     let mut next = from;
@@ -44,8 +44,8 @@ fn write_plan(sizes: &[u64], offsets: &mut [u64], blocks: &mut [u64], offset_siz
     requires { ⌜ Small (maxManaged fixed «offset_size») (now sizes) ⌝ }
     requires { ⌜ (length (now sizes) ≤ length (now offsets)) × (length (now sizes) ≤ length (now blocks)) ⌝ }
     requires { ⌜ Runs «offset_size» (now sizes) ⌝ }
-    ensures { λ _. ⌜ now (offsets .exit) ≡ fronted (offsetsFrom fixed «offset_size» (initial fixed «offset_size») (now (sizes .entry))) (now (offsets .entry)) ⌝ }
-    ensures { λ _. ⌜ now (blocks .exit) ≡ fronted (startsFrom fixed «offset_size» (initial fixed «offset_size») (now (sizes .entry))) (now (blocks .entry)) ⌝ }
+    ensures { λ _. ⌜ now (offsets .exit) ≡ put (now (offsets .entry)) 0 (offsetsFrom fixed «offset_size» (initial fixed «offset_size») (now (sizes .entry))) ⌝ }
+    ensures { λ _. ⌜ now (blocks .exit) ≡ put (now (blocks .entry)) 0 (startsFrom fixed «offset_size» (initial fixed «offset_size») (now (sizes .entry))) ⌝ }
 {
     let mut s = initial(offset_size);
     let mut i: usize = 0;
@@ -76,8 +76,8 @@ pub fn write_lists(sizes: &[u64], offsets: &mut [u64], blocks: &mut [u64], offse
     requires { ⌜ Small (maxManaged fixed «offset_size») (now sizes) ⌝ }
     requires { ⌜ (length (now sizes) ≤ length (now offsets)) × (max 1 (length (now sizes)) ≤ length (now blocks)) ⌝ }
     requires { ⌜ Runs «offset_size» (now sizes) ⌝ }
-    ensures { λ _. ⌜ now (offsets .exit) ≡ fronted (planOffsets fixed «offset_size» (now (sizes .entry))) (now (offsets .entry)) ⌝ }
-    ensures { λ _. ⌜ now (blocks .exit) ≡ fronted (planStarts fixed «offset_size» (now (sizes .entry))) (now (blocks .entry)) ⌝ }
+    ensures { λ _. ⌜ now (offsets .exit) ≡ put (now (offsets .entry)) 0 (planOffsets fixed «offset_size» (now (sizes .entry))) ⌝ }
+    ensures { λ _. ⌜ now (blocks .exit) ≡ put (now (blocks .entry)) 0 (planStarts fixed «offset_size» (now (sizes .entry))) ⌝ }
 {
     if sizes.len() == 0 {
         blocks[0] = 0;

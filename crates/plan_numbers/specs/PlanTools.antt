@@ -5,12 +5,12 @@ use mathlib.Core.List.{List}
 use lib.ListN.{length}
 use lib.Dec.{ltb}
 use Rattle.plan.specs.Answer.{plannedNumber, plannedValues}
-use Rattle.plan_lists.specs.Lists.{fronted}
+use Rattle.little_endian.specs.LittleEndian.{put}
 use Rattle.plan.specs.declared.Planned.{Planned}
 
 -- the list of totals at the end: the plan's numbers in front, or the refusal's pair
 abbrev pub plannedTotals : List ℕ → Planned → List ℕ
-plannedTotals l p = fronted (plannedValues p) l
+plannedTotals l p = put l 0 (plannedValues p)
 
 -- a list of totals shorter than 8 places gives 13 before all else
 unfoldable pub planNumber : List ℕ → Planned → ℕ

@@ -3,7 +3,7 @@ ghost use mathlib.Core.Path.{_≡_};
 ghost use mathlib.Core.List.{_∷_, []};
 ghost use Prim.Native.Nat.{_≤_};
 ghost use lib.ListN.{length};
-ghost use Rattle.plan_lists.specs.Lists.{fronted};
+ghost use Rattle.little_endian.specs.LittleEndian.{put};
 ghost use Rattle.plan.specs.Answer.{numbers, plannedNumber};
 ghost use Rattle.plan_numbers.specs.PlanTools.{plannedTotals};
 use plan::ManagedPlan;
@@ -14,7 +14,7 @@ use refusals::refused;
 // The numbers of a plan, in the order of its fields.
 fn put_numbers(totals: &mut [u64], p: ManagedPlan)
     requires { ⌜ 8 ≤ length (now totals) ⌝ }
-    ensures { λ _. ⌜ now (totals .exit) ≡ fronted (numbers p) (now (totals .entry)) ⌝ }
+    ensures { λ _. ⌜ now (totals .exit) ≡ put (now (totals .entry)) 0 (numbers p) ⌝ }
 {
     totals[0] = p.block_count;
     totals[1] = p.region_size;
@@ -29,7 +29,7 @@ fn put_numbers(totals: &mut [u64], p: ManagedPlan)
 // The pair of a refusal.
 fn put_pair(totals: &mut [u64], a: Answer)
     requires { ⌜ 8 ≤ length (now totals) ⌝ }
-    ensures { λ _. ⌜ now (totals .exit) ≡ fronted (a .first ∷ a .second ∷ []) (now (totals .entry)) ⌝ }
+    ensures { λ _. ⌜ now (totals .exit) ≡ put (now (totals .entry)) 0 (a .first ∷ a .second ∷ []) ⌝ }
 {
     totals[0] = a.first;
     totals[1] = a.second;

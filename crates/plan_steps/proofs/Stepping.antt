@@ -9,7 +9,7 @@ use lib.Dec.{leb}
 use lib.Pow.{pow-pos}
 use borrow.Author.Tests.{le-leb, lt-leb, leb-true}
 use Rattle.table.specs.Table.{Table, fixed}
-use Rattle.table.specs.Slots.{slotAt, slotEnd, entered}
+use Rattle.table.specs.Slots.{slotAt, slotEnd, enteredBytes}
 use Rattle.table.specs.Sizes.{offsetBytes, directHeader, maxManaged}
 use Rattle.table.specs.declared.Slot.{Slot}
 use Rattle.table.proofs.Slots.{Start, top-start, end-le, start-next}
@@ -50,7 +50,7 @@ pub record New (t : Table) (w : ℕ) (s s′ : State) (o : ℕ) : Type 0 where
   pub size-is : s′ .size ≡ slotAt t (s′ .start) .size
   pub starts : Start t (s′ .start)
   pub allocated-is : s′ .allocated ≡ s .allocated + s′ .size
-  pub indirect-is : s′ .indirect ≡ s .indirect + entered t w (blockEnd s) (s′ .start)
+  pub indirect-is : s′ .indirect ≡ s .indirect + enteredBytes t w (blockEnd s) (s′ .start)
 
 -- an object of x bytes was placed at o
 pub record Placing (t : Table) (w : ℕ) (s : State) (x : ℕ) (s′ : State) (o : ℕ) : Type 0 where

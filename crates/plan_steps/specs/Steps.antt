@@ -6,7 +6,7 @@ use mathlib.Core.Bool.{true, false, cond}
 use mathlib.Core.List.{List, [], _∷_}
 use lib.Dec.{leb, ltb}
 use Rattle.table.specs.Table.{Table}
-use Rattle.table.specs.Slots.{slotAt, slotEnd, entered}
+use Rattle.table.specs.Slots.{slotAt, slotEnd, enteredBytes}
 use Rattle.table.specs.Sizes.{directHeader}
 use Rattle.table.specs.declared.Slot.{Slot}
 use Rattle.plan_steps.specs.declared.Open.{Open}
@@ -59,7 +59,7 @@ inNew t w s x b = record {
   count = s .count + 1;
   allocated = s .allocated + b .size;
   used = s .used + x;
-  indirect = s .indirect + entered t w (blockEnd s) (b .start);
+  indirect = s .indirect + enteredBytes t w (blockEnd s) (b .start);
 }
 
 abbrev pub opened : Table → ℕ → State → ℕ → Open → Step

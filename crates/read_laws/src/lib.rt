@@ -1,1 +1,1 @@
-// Theorems about reading what was written: the reader's walk over the writer's blocks. Nothing runs here.
+// Theorems about reading; nothing runs here.

@@ -9,7 +9,8 @@ use Rattle.little_endian.proofs.LittleEndian.{length-le}
 use Rattle.checksum.specs.Lookup3.{hashlittle}
 use Rattle.table.specs.Table.{Table}
 use Rattle.table.specs.Sizes.{offsetBytes, directHeader}
-use Rattle.region_blocks.specs.Blocks.{indirectSignature, directSignature, blockHead, indirectBlock, directBody, directBlock}
+use Rattle.fields.specs.Signatures.{indirectSignature, directSignature}
+use Rattle.region_blocks.specs.Blocks.{blockHead, indirectBlock, directBody, directBlock}
 
 head-length : (t : Table) (w : ℕ) (signature : List ℕ) (h o : ℕ) → length (blockHead t w signature h o) ≡ length signature + 1 + w + offsetBytes t
 unfolding blockHead

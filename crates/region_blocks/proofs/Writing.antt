@@ -10,7 +10,8 @@ use Rattle.little_endian.specs.LittleEndian.{le}
 use Rattle.little_endian.proofs.LittleEndian.{length-le}
 use Rattle.table.specs.Table.{fixed}
 use Rattle.table.specs.Sizes.{offsetBytes}
-use Rattle.region_blocks.specs.Blocks.{indirectSignature, directSignature, blockHead}
+use Rattle.fields.specs.Signatures.{indirectSignature, directSignature}
+use Rattle.region_blocks.specs.Blocks.{blockHead}
 use Rattle.region_blocks.specs.Storing.{stored}
 use Rattle.region_blocks.proofs.Storing.{stored-cons, stored-then}
 

@@ -5,16 +5,10 @@ use Prim.Native.Nat.{ℕ, _+_, _-_}
 use mathlib.Core.List.{List, [], _∷_, _++_}
 use lib.ListN.{length, replicate}
 use Rattle.little_endian.specs.LittleEndian.{le}
+use Rattle.fields.specs.Signatures.{directSignature, indirectSignature}
 use Rattle.checksum.specs.Lookup3.{hashlittle}
 use Rattle.table.specs.Table.{Table}
 use Rattle.table.specs.Sizes.{offsetBytes, directHeader}
-
--- Signature: FHIB and FHDB
-abbrev pub indirectSignature : List ℕ
-indirectSignature = 0x46 ∷ 0x48 ∷ 0x49 ∷ 0x42 ∷ []
-
-abbrev pub directSignature : List ℕ
-directSignature = 0x46 ∷ 0x48 ∷ 0x44 ∷ 0x42 ∷ []
 
 -- how both kinds begin: Signature, Version 0, Heap Header Address, Block Offset
 unfoldable pub blockHead : Table → ℕ → List ℕ → ℕ → ℕ → List ℕ

@@ -1,2 +1,3 @@
+pub mod Site
 pub mod Blocks
 pub mod Storing

@@ -12,7 +12,7 @@ use lib.Seq.{take-add, drop-drop}
 use borrow.Author.Tests.{le-leb, le-ltb, leb-true, leb-false, ltb-false}
 use Rattle.table.specs.Table.{Table}
 use Rattle.table.specs.Sizes.{directHeader}
-use Rattle.table.specs.Capacity.{sum}
+use Rattle.numbers.specs.Sums.{sum}
 use Rattle.plan_steps.specs.Steps.{initial, blockEnd, filled, stepOf, offsetsFrom, planOffsets}
 use Rattle.plan_steps.specs.Filling.{fillState, fillOffsets}
 use Rattle.plan_steps.specs.declared.State.{State}

@@ -9,9 +9,9 @@ use lib.Dec.{eqb}
 use lib.ListN.{length, take, drop, length-append, length-take}
 use borrow.Author.Tests.{ne-eqb}
 use Rattle.table.specs.Table.{Table, fixed, rowBits, rowOffset, rowIn, rowOf}
-use Rattle.table.specs.Slots.{slotIn, slotBits, slotAt}
+use Rattle.table.specs.Slots.{slotBitsIn, slotBits, slotAt}
 use Rattle.table.specs.Sizes.{offsetBytes, directHeader}
-use Rattle.table.specs.Capacity.{sum}
+use Rattle.numbers.specs.Sums.{sum}
 use Rattle.plan_steps.specs.Steps.{initial, stepOf, runFrom, offsetsFrom, startsFrom, run, planOffsets, planStarts}
 use Rattle.plan_steps.specs.Filling.{fillState}
 use Rattle.plan_steps.specs.declared.State.{State}
@@ -111,7 +111,7 @@ some-count w x xs s e = go (stepOf fixed w (initial fixed w) x) refl
 
 -- without objects, one block of no bytes
 none-is : (w h : ℕ) (js xs : List ℕ) → length xs ≡ 0 → directs fixed w h (planOffsets fixed w xs) xs js (planStarts fixed w xs) ≡ directBlock fixed w h 0 1024 []
-unfolding directs planOffsets planStarts offsetsFrom objectsIn slotAt slotBits slotIn rowOf rowIn rowOffset rowBits
+unfolding directs planOffsets planStarts offsetsFrom objectsIn slotAt slotBits slotBitsIn rowOf rowIn rowOffset rowBits
 none-is w h js [] e = append-nil (directBlock fixed w h 0 1024 [])
 none-is w h js (x ∷ xs) e = absurd (omega arith)
 

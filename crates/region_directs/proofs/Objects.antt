@@ -13,7 +13,7 @@ use Rattle.checksum.specs.Lookup3.{hashlittle}
 use Rattle.table.specs.Table.{Table}
 use Rattle.table.specs.Slots.{slotAt}
 use Rattle.table.specs.Sizes.{directHeader}
-use Rattle.table.specs.Capacity.{sum}
+use Rattle.numbers.specs.Sums.{sum}
 use Rattle.table_laws.proofs.Format.{SlotOf, slots-meet}
 use Rattle.plan_steps.specs.Steps.{initial, stepOf, runFrom, offsetsFrom, run, planOffsets}
 use Rattle.plan_steps.specs.declared.State.{State}
@@ -22,7 +22,8 @@ use Rattle.plan_steps.specs.declared.Step.the-variants.{Placed, Ends}
 use Rattle.plan_steps.specs.declared.Run.the-variants.{Done}
 use Rattle.plan_steps.proofs.Stepping.{Same, New, Placing}
 use Rattle.plan_steps.proofs.Running.{run-stops, run-goes, offsets-go}
-use Rattle.region_blocks.specs.Blocks.{directSignature, blockHead, directBody, directBlock}
+use Rattle.fields.specs.Signatures.{directSignature}
+use Rattle.region_blocks.specs.Blocks.{blockHead, directBody, directBlock}
 use Rattle.region_blocks.proofs.Lengths.{direct-head-length}
 use Rattle.region_directs.specs.Directs.{objectsIn}
 use Rattle.region_directs.proofs.Holding.{in-here, Left, left-start, left-step, placed, new-here, next-drop}

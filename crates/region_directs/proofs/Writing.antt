@@ -10,7 +10,7 @@ use lib.ListN.{length, take, drop, getD, length-append}
 use lib.Seq.{drop-cons, drop-drop}
 use Rattle.table.specs.Table.{fixed}
 use Rattle.table.specs.Sizes.{directHeader}
-use Rattle.table.specs.Capacity.{sum}
+use Rattle.numbers.specs.Sums.{sum}
 use Rattle.plan_steps.specs.Steps.{openAt, blockEnd, initial, opened, stepOf, startsFrom, planOffsets}
 use Rattle.plan_steps.specs.Filling.{fillState, fillOffsets, filledFrom}
 use Rattle.plan_steps.specs.Requires.{Bounded, Runs}

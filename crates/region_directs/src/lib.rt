@@ -6,17 +6,17 @@ ghost use Prim.Native.Nat.{_+_, _≤_};
 ghost use lib.ListN.{length};
 ghost use Rattle.table.specs.Table.{fixed};
 ghost use Rattle.table.specs.Sizes.{maxManaged};
-ghost use Rattle.table.specs.Capacity.{sum};
+ghost use Rattle.numbers.specs.Sums.{sum};
 ghost use Rattle.plan_steps.specs.Steps.{initial, planOffsets, planStarts, startsFrom};
 ghost use Rattle.plan_steps.specs.Requires.{Small, Runs};
 ghost use Rattle.region_blocks.specs.Storing.{stored};
 ghost use Rattle.region_directs.specs.Directs.{directs};
-use direct_block::write_direct_block;
 use plan_runs::fill_block;
 use plan_search::open_block;
 use plan_steps::Step;
 use plan_steps::initial;
 use region_blocks::Site;
+use region_blocks::direct::write_direct_block;
 
 // The blocks of a list with objects: each object that finds no room opens a block, and those after it that fit
 // go there too. What the state has allocated and used says where a block and its objects stand.

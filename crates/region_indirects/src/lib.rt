@@ -1,18 +1,20 @@
 // The indirect blocks of a region: a block walks its slots, and an indirect slot opens a block, which is written
 // before the walk goes on. The entries of a block are written on the way back, when its place is known. The
 // functions have a `requires` and serve our own crates; they are no part of the interface.
+pub mod cursor;
+
 ghost use Prim.Native.Nat.{_+_, _-_, _*_, _^_, _<_, _≤_};
 ghost use lib.ListN.{length};
-ghost use Rattle.region_walk.specs.Requires.{blockOf, slotsOf, slotOf, Fits, Wrote, WroteSlots};
-use indirect_block::seal_indirect;
+ghost use Rattle.region_indirects.specs.Requires.{blockOf, slotsOf, slotOf, Fits, Wrote, WroteSlots};
+use crate::cursor::Child;
+use crate::cursor::Cursor;
+use crate::cursor::begins_before;
+use crate::cursor::next_left;
+use crate::cursor::next_row;
 use region_blocks::Site;
+use region_blocks::indirect::seal_indirect;
 use region_blocks::put_number;
 use region_blocks::put_run;
-use region_walk::Child;
-use region_walk::Cursor;
-use region_walk::begins_before;
-use region_walk::next_left;
-use region_walk::next_row;
 use table::is_direct;
 use table::row_block_size;
 

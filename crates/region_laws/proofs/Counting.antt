@@ -11,12 +11,12 @@ use lib.ListN.{length, length-append}
 use lib.Pow.{pow-pos, high}
 use borrow.Author.Tests.{le-leb, lt-leb}
 use Rattle.table.specs.Table.{Table, rowBits, rowOffset, rowOf}
-use Rattle.table.specs.Slots.{slotAt, slotStart, enteredIn, entered}
+use Rattle.table.specs.Slots.{slotAt, slotStart, enteredBytesIn, enteredBytes}
 use Rattle.table.specs.Sizes.{indirectSize}
 use Rattle.table.proofs.Rows.{row, row-of-is, heap-rows}
 use Rattle.table.proofs.Slots.{slot-some}
 use Rattle.plan_laws.specs.Plans.{sizesAt}
-use Rattle.region_walk.specs.Walk.{Walked, unplaced, direct, nothing, both, slot, slots, smaller, allSlots, block}
+use Rattle.region_indirects.specs.Walk.{Walked, unplaced, direct, nothing, both, slot, slots, smaller, allSlots, block}
 use Rattle.region_laws.proofs.Geometry.{cell-end, SlotAt, Ahead, done, slot-of, slot-end, all-ahead, BlockAt, inner-span, root-block, inner-block}
 use Rattle.region_laws.proofs.Starts.{Placed, none, more, before, from, lastEnd, before-yes, before-no, before-none, before-later, end-append, before-whole, from-none}
 use Rattle.region_laws.proofs.Lengths.{block-length}
@@ -26,7 +26,7 @@ use Rattle.region_laws.proofs.Walking.{by-smaller, Way, empty, placed, 
 -- one before them ended at e
 unfoldable pub counted : Table → ℕ → ℕ → ℕ → ℕ → List ℕ → ℕ
 counted t w f at e [] = 0
-counted t w f at e (s ∷ ss) = enteredIn t w f e at (s - at) + counted t w f at (s + slotAt t s .size) ss
+counted t w f at e (s ∷ ss) = enteredBytesIn t w f e at (s - at) + counted t w f at (s + slotAt t s .size) ss
 
 counted-append : (t : Table) (w f at e : ℕ) (cs ds : List ℕ) → counted t w f at e (cs ++ ds) ≡ counted t w f at e cs + counted t w f at (lastEnd t e cs) ds
 unfolding counted lastEnd
@@ -53,27 +53,27 @@ module _ (t : Table) (w s : ℕ) {n base r at : ℕ} (C : SlotAt t n base r at) 
       let f : (s - base) / 2 ^ b * 2 ^ b ≡ m * 2 ^ b = ap (λ (y : ℕ). y * 2 ^ b) d in
       ap (λ (y : ℕ). base + (s - base) / 2 ^ rowBits t y * 2 ^ rowBits t y) row-is ∙ (let z : base + (s - base) / 2 ^ b * 2 ^ b ≡ at = omega arith in z)
 
-  entered-direct : (f e : ℕ) → rowBits t r ≤ t .directBits → enteredIn t w f e base (s - base) ≡ 0
-  unfolding enteredIn
+  entered-direct : (f e : ℕ) → rowBits t r ≤ t .directBits → enteredBytesIn t w f e base (s - base) ≡ 0
+  unfolding enteredBytesIn
   entered-direct zero e d = refl
-  entered-direct (suc f) e d = rw (le-leb (rowBits t (rowOf t (s - base))) (t .directBits) (subst (λ (y : ℕ). rowBits t y ≤ t .directBits) (sym row-is) d), enteredIn)
+  entered-direct (suc f) e d = rw (le-leb (rowBits t (rowOf t (s - base))) (t .directBits) (subst (λ (y : ℕ). rowBits t y ≤ t .directBits) (sym row-is) d), enteredBytesIn)
 
-  entered-inner : (f e : ℕ) → t .directBits < rowBits t r → enteredIn t w (suc f) e base (s - base) ≡ cond (leb e at) (indirectSize t w (r - t .widthBits)) 0 + enteredIn t w f e at (s - at)
-  unfolding enteredIn
+  entered-inner : (f e : ℕ) → t .directBits < rowBits t r → enteredBytesIn t w (suc f) e base (s - base) ≡ cond (leb e at) (indirectSize t w (r - t .widthBits)) 0 + enteredBytesIn t w f e at (s - at)
+  unfolding enteredBytesIn
   entered-inner f e d =
       let x : s - base - slotStart t (s - base) ≡ s - at = (let z = start-is in omega arith) in
       let a = start-is in
       let b = row-is in
-      rw (lt-leb (rowBits t (rowOf t (s - base))) (t .directBits) (subst (λ (y : ℕ). t .directBits < rowBits t y) (sym row-is) d), enteredIn)
-      (λ i. cond (leb e (a i)) (indirectSize t w (b i - t .widthBits)) 0 + enteredIn t w f e (a i) (x i))
+      rw (lt-leb (rowBits t (rowOf t (s - base))) (t .directBits) (subst (λ (y : ℕ). t .directBits < rowBits t y) (sym row-is) d), enteredBytesIn)
+      (λ i. cond (leb e (a i)) (indirectSize t w (b i - t .widthBits)) 0 + enteredBytesIn t w f e (a i) (x i))
 
   -- the first direct block in an indirect slot brings the block there
-  entered-new : (f e : ℕ) → t .directBits < rowBits t r → e ≤ at → enteredIn t w (suc f) e base (s - base) ≡ indirectSize t w (r - t .widthBits) + enteredIn t w f e at (s - at)
+  entered-new : (f e : ℕ) → t .directBits < rowBits t r → e ≤ at → enteredBytesIn t w (suc f) e base (s - base) ≡ indirectSize t w (r - t .widthBits) + enteredBytesIn t w f e at (s - at)
   entered-new f e d l = entered-inner f e d ∙ rw (le-leb e at l)
 
   -- the later ones do not
-  entered-old : (f e : ℕ) → t .directBits < rowBits t r → at < e → enteredIn t w (suc f) e base (s - base) ≡ enteredIn t w f e at (s - at)
-  entered-old f e d l = entered-inner f e d ∙ rw (lt-leb e at l) (zero-add (enteredIn t w f e at (s - at)))
+  entered-old : (f e : ℕ) → t .directBits < rowBits t r → at < e → enteredBytesIn t w (suc f) e base (s - base) ≡ enteredBytesIn t w f e at (s - at)
+  entered-old f e d l = entered-inner f e d ∙ rw (lt-leb e at l) (zero-add (enteredBytesIn t w f e at (s - at)))
 
 -- ---- what is counted is what the walk yields
 
@@ -183,13 +183,13 @@ module _ (t : Table) (g : t .startBits ≤ t .directBits) (wd : t .widthBits + t
 -- the bytes of the indirect blocks that direct blocks at ss open, where the one before them ended at e
 unfoldable pub openedBy : Table → ℕ → ℕ → List ℕ → ℕ
 openedBy t w e [] = 0
-openedBy t w e (s ∷ ss) = entered t w e s + openedBy t w (s + slotAt t s .size) ss
+openedBy t w e (s ∷ ss) = enteredBytes t w e s + openedBy t w (s + slotAt t s .size) ss
 
 counted-root : (t : Table) (w e : ℕ) (ss : List ℕ) → counted t w (t .heapBits) 0 e ss ≡ openedBy t w e ss
-unfolding counted openedBy entered
+unfolding counted openedBy enteredBytes
 counted-root t w e [] = refl
 counted-root t w e (s ∷ ss) =
-    let a = ap (enteredIn t w (t .heapBits) e 0) (sub-zero s) in
+    let a = ap (enteredBytesIn t w (t .heapBits) e 0) (sub-zero s) in
     let b = counted-root t w (s + slotAt t s .size) ss in
     omega arith
 

@@ -11,7 +11,7 @@ use Rattle.table.specs.Slots.{Direct, own, inner, slotAt}
 use Rattle.table.proofs.Rows.{row, row-mono, row-one, slot-rows}
 use Rattle.table.proofs.Slots.{slot-bits-is, start-here}
 use Rattle.table_laws.proofs.Format.{SlotOf, direct-local, slotted-direct}
-use Rattle.region_walk.specs.Walk.{slotRows}
+use Rattle.region_indirects.specs.Walk.{slotRows}
 
 -- where the slot of row r and column c begins in its block
 abbrev pub cell : Table → ℕ → ℕ → ℕ

@@ -14,8 +14,8 @@ use Rattle.plan_steps.specs.declared.Run.the-variants.{Done}
 use Rattle.plan.specs.declared.ManagedPlan.{ManagedPlan}
 use Rattle.plan.specs.declared.Planned.the-variants.{Accepted}
 use Rattle.plan_steps.specs.Steps.{initial, blockEnd, run, planOffsets, planStarts}
-use Rattle.plan_end.specs.End.{closed, rootRows}
-use Rattle.plan.specs.Answer.{bareTotals, rowTotals, totals, answer}
+use Rattle.plan_end.specs.End.{endState, rootRows}
+use Rattle.plan.specs.Answer.{bareTotals, rowTotals, totals, plannedFor}
 use Rattle.plan.proofs.Answering.{accepted}
 use Rattle.plan_end.proofs.Room.{Reach, reach, no-rows}
 use Rattle.plan_laws.proofs.Laying.{Laid, end, same, new, blocks, still-ok, starts-some, ran-ok, ran-laid}
@@ -92,13 +92,13 @@ pub record Rooted (w : ℕ) (xs : List ℕ) (p : ManagedPlan) : Type 0 where
   pub reaches : lastEnd fixed 0 (planStarts fixed w xs) ≤ rowOffset fixed (p .«root_rows»)
   pub opened : state .indirect ≡ openedBy fixed w 0 (planStarts fixed w xs)
 
-module _ (w x : ℕ) (xs : List ℕ) (p : ManagedPlan) (s : State) (ran : run fixed w (x ∷ xs) ≡ Done s) (is : p ≡ totals fixed w (closed fixed w s)) (some : 0 < p .«root_rows») where
+module _ (w x : ℕ) (xs : List ℕ) (p : ManagedPlan) (s : State) (ran : run fixed w (x ∷ xs) ≡ Done s) (is : p ≡ totals fixed w (endState fixed w s)) (some : 0 < p .«root_rows») where
   laid-all : Laid fixed w (initial fixed w) (x ∷ xs) (planOffsets fixed w (x ∷ xs)) (planStarts fixed w (x ∷ xs)) s
   laid-all = subst (λ (bs : List ℕ). Laid fixed w (initial fixed w) (x ∷ xs) (planOffsets fixed w (x ∷ xs)) bs s) (sym (starts-some w (x ∷ xs) (omega arith))) (ran-laid w (x ∷ xs) s ran)
 
-  is-closed : closed fixed w s ≡ s
-  unfolding closed
-  is-closed = let c = blocks laid-all .counted in rw (ne-eqb (s .count) 0 (λ z. omega arith), closed)
+  is-closed : endState fixed w s ≡ s
+  unfolding endState
+  is-closed = let c = blocks laid-all .counted in rw (ne-eqb (s .count) 0 (λ z. omega arith), endState)
 
   rows-reach : rootRows fixed (blockEnd s) ≡ p .«root_rows» → Reach (blockEnd s)
   rows-reach n =
@@ -130,13 +130,13 @@ module _ (w x : ℕ) (xs : List ℕ) (p : ManagedPlan) (s : State) (ran : run fi
             opened = laid-opened laid-all ∙ zero-add _;
           }
 
-pub rooted : (xs : List ℕ) (o b w : ℕ) (p : ManagedPlan) → answer xs o b w ≡ Accepted p → 0 < p .«root_rows» → Rooted w xs p
+pub rooted : (xs : List ℕ) (o b w : ℕ) (p : ManagedPlan) → plannedFor xs o b w ≡ Accepted p → 0 < p .«root_rows» → Rooted w xs p
 rooted [] o b w p e l = absurd (let z = one-block [] o b w p e (starts-none w) in omega arith)
 rooted (x ∷ xs) o b w p e l = let G = accepted (x ∷ xs) o b w p e .1 in rooted-some w x xs p (G .state) (G .ran) (G .totals-is) l
 
 -- ---- the theorems
 
-module _ (xs : List ℕ) (o b w : ℕ) (p : ManagedPlan) (e : answer xs o b w ≡ Accepted p) where
+module _ (xs : List ℕ) (o b w : ℕ) (p : ManagedPlan) (e : plannedFor xs o b w ≡ Accepted p) where
   -- the root's place is the length of the indirect blocks before it
   pub indirect-planned : 0 < p .«root_rows» → (header first directs : ℕ) → IndirectPlanned w xs p header first directs
   indirect-planned l header first directs =
@@ -164,7 +164,7 @@ module _ (xs : List ℕ) (o b w : ℕ) (p : ManagedPlan) (e : answer xs o b w �
   pub bare-planned : p .«root_rows» ≡ 0 → BareRegion w xs p
   bare-planned z =
       let G = accepted xs o b w p e .1 in
-      let q = bare-totals w p (closed fixed w (G .state)) (G .totals-is) z in
+      let q = bare-totals w p (endState fixed w (G .state)) (G .totals-is) z in
       record {
         blocks = no-root-rows xs o b w p e z .blocks;
         region = ap (λ (y : ManagedPlan). y .«region_size») q;

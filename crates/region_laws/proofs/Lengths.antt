@@ -8,8 +8,8 @@ use Rattle.table.specs.Table.{Table}
 use Rattle.table.specs.Sizes.{indirectSize}
 use Rattle.region_blocks.specs.Blocks.{indirectBlock}
 use Rattle.region_blocks.proofs.Lengths.{indirect-length}
-use Rattle.region_walk.specs.Walk.{finished, allSlots, block}
-use Rattle.region_walk.proofs.Walking.{block-entries}
+use Rattle.region_indirects.specs.Walk.{finished, allSlots, block}
+use Rattle.region_indirects.proofs.Walking.{block-entries}
 
 -- a block stands after those in its slots
 pub block-length : (t : Table) (w header n at : ℕ) (ss : List ℕ) (pos next : ℕ) → length (block t w header n at ss pos next .bytes) ≡ length (allSlots t w header n at ss pos next .bytes) + indirectSize t w n

@@ -12,26 +12,27 @@ use Rattle.plan_steps.specs.Steps.{planOffsets, planStarts}
 use Rattle.plan_steps.specs.declared.State.{State}
 use Rattle.plan.specs.declared.ManagedPlan.{ManagedPlan}
 use Rattle.plan.specs.declared.Planned.the-variants.{Accepted}
-use Rattle.plan_end.specs.End.{oneBlock, closed}
-use Rattle.plan.specs.Answer.{answer}
+use Rattle.plan_end.specs.End.{oneBlock, endState}
+use Rattle.plan.specs.Answer.{plannedFor}
 use Rattle.plan.proofs.Answering.{accepted}
 use Rattle.plan_laws.proofs.Tally.{counted, tallied}
-use Rattle.region_walk.specs.Walk.{allSlots}
+use Rattle.region_blocks.specs.Site.{siteOf}
+use Rattle.region_indirects.specs.Walk.{allSlots}
 use Rattle.region_directs.specs.Directs.{directs}
 use Rattle.region_directs.proofs.Lengths.{directs-length}
 use Rattle.region_write.specs.Region.{indirects, indirectBytes, region, rootBytes}
 use Rattle.region_write.proofs.Root.{indirects-none, indirects-some, root-bare, root-rows}
 use Rattle.region_laws.proofs.Indirect.{indirect-planned, region-planned, bare-planned}
 
-closed-space : (w : ℕ) (s : State) → closed fixed w s .allocated ≡ cond (eqb (s .count) 0) 1024 (s .allocated)
-unfolding closed
+closed-space : (w : ℕ) (s : State) → endState fixed w s .allocated ≡ cond (eqb (s .count) 0) 1024 (s .allocated)
+unfolding endState
 closed-space w s = go (eqb (s .count) 0)
   where
     go : (b : Bool) → cond b (oneBlock fixed w) s .allocated ≡ cond b 1024 (s .allocated)
     go true = refl
     go false = refl
 
-module _ (xs : List ℕ) (o b w : ℕ) (p : ManagedPlan) (e : answer xs o b w ≡ Accepted p) where
+module _ (xs : List ℕ) (o b w : ℕ) (p : ManagedPlan) (e : plannedFor xs o b w ≡ Accepted p) where
   abbrev n : ℕ
   n = p .«root_rows»
 
@@ -68,7 +69,7 @@ module _ (xs : List ℕ) (o b w : ℕ) (p : ManagedPlan) (e : answer xs o b w �
 
   module _ (header address : ℕ) (js : List ℕ) where
     -- the region is as long as planned, for objects of any bytes
-    pub region-length : length (region w header address n xs js) ≡ p .«region_size»
+    pub region-length : length (region (siteOf w header address) n xs js) ≡ p .«region_size»
     unfolding region
     region-length =
         let d : ℕ = address + indirectBytes w header n ss in
@@ -76,10 +77,10 @@ module _ (xs : List ℕ) (o b w : ℕ) (p : ManagedPlan) (e : answer xs o b w �
         ∙ (let a = indirects-planned header address d in let c = directs-planned header js in omega arith)
 
     -- and the root's bytes begin at the planned place
-    pub root-place : take (length (rootBytes w header address n xs js)) (drop (p .«root_place») (region w header address n xs js)) ≡ rootBytes w header address n xs js
+    pub root-place : take (length (rootBytes (siteOf w header address) n xs js)) (drop (p .«root_place») (region (siteOf w header address) n xs js)) ≡ rootBytes (siteOf w header address) n xs js
     root-place = go n refl
       where
-        go : (m : ℕ) → n ≡ m → take (length (rootBytes w header address n xs js)) (drop (p .«root_place») (region w header address n xs js)) ≡ rootBytes w header address n xs js
+        go : (m : ℕ) → n ≡ m → take (length (rootBytes (siteOf w header address) n xs js)) (drop (p .«root_place») (region (siteOf w header address) n xs js)) ≡ rootBytes (siteOf w header address) n xs js
         go zero z = rw (z, bare-planned xs o b w p e z .place) (root-bare w header address xs js)
         go (suc m) z =
             let l : 0 < n = omega arith in

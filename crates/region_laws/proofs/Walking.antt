@@ -11,8 +11,8 @@ use borrow.Author.Tests.{lt-ltb, le-ltb, le-leb, lt-leb}
 use Rattle.table.specs.Table.{Table, rowBits, rowOffset}
 use Rattle.table.specs.Slots.{slotAt}
 use Rattle.plan_laws.specs.Plans.{sizesAt}
-use Rattle.region_walk.specs.Walk.{Walked, Walk, beginsBefore, unplaced, direct, nothing, both, slot, slots, finished, smaller, allSlots, block}
-use Rattle.region_walk.proofs.Walking.{slot-unplaced, slot-direct, slot-inner, smaller-block}
+use Rattle.region_indirects.specs.Walk.{Walked, Walk, beginsBefore, unplaced, direct, nothing, both, slot, slots, finished, smaller, allSlots, block}
+use Rattle.region_indirects.proofs.Walking.{slot-unplaced, slot-direct, slot-inner, smaller-block}
 use Rattle.region_laws.proofs.Geometry.{SlotAt, Ahead, done, slot-of, slot-end, all-ahead, BlockAt, inner-span, own-slot, inner-block}
 use Rattle.region_laws.proofs.Starts.{Placed, none, more, before, from, before-yes, before-none, from-yes, from-all, from-placed, before-later, from-later, sizes-append}
 

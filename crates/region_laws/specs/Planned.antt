@@ -7,7 +7,7 @@ use Rattle.table.specs.Table.{fixed}
 use Rattle.table.specs.Sizes.{indirectSize}
 use Rattle.plan.specs.declared.ManagedPlan.{ManagedPlan}
 use Rattle.plan_steps.specs.Steps.{planStarts}
-use Rattle.region_walk.specs.Walk.{allSlots, block}
+use Rattle.region_indirects.specs.Walk.{allSlots, block}
 
 -- the indirect blocks of the plan p of the sizes xs, the first at the address `first`, where the direct blocks
 -- begin at the address `directs`: how long those before the root are, and all of them, the address behind the

@@ -7,8 +7,9 @@ use lib.ListN.{length, take, drop}
 use lib.Seq.{drop-at, take-at, take-all}
 use Rattle.table.specs.Table.{fixed}
 use Rattle.plan_steps.specs.Steps.{planOffsets, planStarts}
+use Rattle.region_blocks.specs.Site.{siteOf}
 use Rattle.region_blocks.specs.Blocks.{indirectBlock}
-use Rattle.region_walk.specs.Walk.{Walked, allSlots, finished, block}
+use Rattle.region_indirects.specs.Walk.{Walked, allSlots, finished, block}
 use Rattle.region_directs.specs.Directs.{directs}
 use Rattle.region_write.specs.Region.{indirects, indirectBytes, region, rootBytes}
 
@@ -24,14 +25,14 @@ indirects-some w header (suc n) ss address direct l = refl
 
 -- ---- the root in the region
 
-pub root-bare : (w header address : ℕ) (xs js : List ℕ) → take (length (rootBytes w header address 0 xs js)) (drop 0 (region w header address 0 xs js)) ≡ rootBytes w header address 0 xs js
+pub root-bare : (w header address : ℕ) (xs js : List ℕ) → take (length (rootBytes (siteOf w header address) 0 xs js)) (drop 0 (region (siteOf w header address) 0 xs js)) ≡ rootBytes (siteOf w header address) 0 xs js
 unfolding region rootBytes indirects
 root-bare w header address xs js = let D : List ℕ = directs fixed w header (planOffsets fixed w xs) xs js (planStarts fixed w xs) in take-all (length D) D (omega arith)
 
 -- after the blocks in its slots
 pub root-rows : (w header address m : ℕ) (xs js : List ℕ) (place : ℕ)
     → length (allSlots fixed w header (suc m) 0 (planStarts fixed w xs) address (address + indirectBytes w header (suc m) (planStarts fixed w xs)) .bytes) ≡ place
-    → take (length (rootBytes w header address (suc m) xs js)) (drop place (region w header address (suc m) xs js)) ≡ rootBytes w header address (suc m) xs js
+    → take (length (rootBytes (siteOf w header address) (suc m) xs js)) (drop place (region (siteOf w header address) (suc m) xs js)) ≡ rootBytes (siteOf w header address) (suc m) xs js
 unfolding region rootBytes indirects block finished
 root-rows w header address m xs js place e =
     let S : Walked = allSlots fixed w header (suc m) 0 (planStarts fixed w xs) address (address + indirectBytes w header (suc m) (planStarts fixed w xs)) in

@@ -9,8 +9,8 @@ use Rattle.table.specs.Table.{fixed}
 use Rattle.region_blocks.specs.Storing.{stored}
 use Rattle.region_blocks.specs.declared.Site.{Site}
 use Rattle.region_blocks.proofs.Storing.{stored-nil, stored-then, stored-is}
-use Rattle.region_walk.specs.Walk.{block}
-use Rattle.region_walk.specs.Requires.{Fits}
+use Rattle.region_indirects.specs.Walk.{block}
+use Rattle.region_indirects.specs.Requires.{Fits}
 use Rattle.plan_steps.specs.Steps.{planOffsets, planStarts}
 use Rattle.region_directs.specs.Directs.{directs}
 use Rattle.region_write.specs.Region.{indirects, indirectBytes, region}
@@ -63,7 +63,7 @@ module _ {site : Site} {xs ss js l : List ℕ} {rows size : ℕ} (W : Writable s
   abbrev D : List ℕ
   D = directs fixed w h (planOffsets fixed w xs) xs js (planStarts fixed w xs)
 
-  is-region : indirects w h rows ss a (a + size) ++ D ≡ region w h a rows xs js
+  is-region : indirects w h rows ss a (a + size) ++ D ≡ region site rows xs js
   unfolding region
   is-region =
       ap (λ (n : ℕ). indirects w h rows ss a (a + n) ++ D) (W .size-is)
@@ -76,7 +76,7 @@ module _ {site : Site} {xs ss js l : List ℕ} {rows size : ℕ} (W : Writable s
   pub directs-fit : (n : ℕ) → n ≡ length l → size + length D ≤ n
   directs-fit n e = let f = fills-up in omega arith
 
-  pub region-done : (l₁ l₂ : List ℕ) → l₁ ≡ stored l 0 (indirects w h rows ss a (a + size)) → l₂ ≡ stored l₁ size D → l₂ ≡ region w h a rows xs js
+  pub region-done : (l₁ l₂ : List ℕ) → l₁ ≡ stored l 0 (indirects w h rows ss a (a + size)) → l₂ ≡ stored l₁ size D → l₂ ≡ region site rows xs js
   region-done l₁ l₂ e f =
       let I : List ℕ = indirects w h rows ss a (a + size) in
       let n : length I ≡ size = W .ahead in

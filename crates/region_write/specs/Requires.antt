@@ -5,11 +5,11 @@ use mathlib.Core.List.{List}
 use lib.ListN.{length}
 use Rattle.table.specs.Table.{fixed}
 use Rattle.table.specs.Sizes.{maxManaged}
-use Rattle.table.specs.Capacity.{sum}
+use Rattle.numbers.specs.Sums.{sum}
 use Rattle.plan_steps.specs.Steps.{planStarts}
 use Rattle.plan_steps.specs.Requires.{Small, Runs}
 use Rattle.region_blocks.specs.declared.Site.{Site}
-use Rattle.region_walk.specs.Walk.{block}
+use Rattle.region_indirects.specs.Walk.{block}
 use Rattle.region_write.specs.Region.{indirects, indirectBytes, region}
 
 -- the indirect blocks of a root of so many rows, `size` bytes of them, fit into l
@@ -30,4 +30,4 @@ pub record Writable (site : Site) (xs starts js l : List ℕ) (rows size : ℕ) 
   pub small : Small (maxManaged fixed (site .«offset_size»)) xs
   pub runs : Runs (site .«offset_size») xs
   pub joined : length js ≡ sum xs
-  pub fills : length l ≡ length (region (site .«offset_size») (site .«heap_header_address») (site .«region_address») rows xs js)
+  pub fills : length l ≡ length (region site rows xs js)

@@ -8,7 +8,7 @@ ghost use Rattle.region_write.specs.Requires.{Rooted, Writable};
 use region_blocks::Site;
 use region_directs::write_directs;
 use region_indirects::block_walk;
-use region_walk::Cursor;
+use region_indirects::cursor::Cursor;
 
 // The indirect blocks of a root of `rows` rows, `size` bytes of them; a root of no rows has none.
 fn write_indirects(region: &mut [u8], starts: &[u64], site: Site, rows: u64, size: u64)
@@ -37,7 +37,7 @@ pub fn write_region(
     indirect: u64,
 )
     requires { ⌜ Writable site (now sizes) (now starts) (now objects) (now region) rows indirect ⌝ }
-    ensures { λ _. ⌜ now (region .exit) ≡ regionOf (site .«offset_size») (site .«heap_header_address») (site .«region_address») rows (now (sizes .entry)) (now (objects .entry)) ⌝ }
+    ensures { λ _. ⌜ now (region .exit) ≡ regionOf site rows (now (sizes .entry)) (now (objects .entry)) ⌝ }
 {
     write_indirects(region, starts, site, rows, indirect);
     write_directs(sizes, objects, region, indirect as usize, site);

@@ -1,19 +1,16 @@
 // The whole way of a run: its region is written into a part of a file, every nonempty object gets its ID and is read
 // by it, and its bytes are compared. The contract says that all of them come back.
 ghost use mathlib.Core.Path.{_≡_};
-ghost use lib.ListN.{length};
-ghost use Rattle.table.specs.Table.{fixed};
-ghost use Rattle.plan_steps.specs.Steps.{planOffsets, planStarts};
-ghost use Rattle.plan.specs.Answer.{written};
-ghost use Rattle.region_in_file.specs.InFile.{serializedAt, fileWritten};
-ghost use Rattle.round_trip.specs.RoundTrip.{nonempty, cameBack, roundTripAnswer};
-use object_reads::fixed_header;
-use objects_back::read_back;
+ghost use Rattle.region_blocks.specs.Site.{siteOf};
+ghost use Rattle.fractal_heap_write.specs.Serialize.{memory, callOf};
+ghost use Rattle.round_trip.specs.RoundTrip.{roundTripAnswer, RoundTripped};
 use plan::Planned;
 use refusals::Answer;
 use refusals::FormatError;
 use refusals::refused;
-use region_in_file::serialize_at;
+use round_trip_objects::read_back;
+use round_trip_read::fixed_header;
+use round_trip_region::serialize_at;
 
 // How many nonempty objects came back, or the writer's refusal.
 pub enum RoundTrip {
@@ -48,10 +45,11 @@ pub fn round_trip(
     heap_header_address: u64,
     offset_size: u8,
 ) -> RoundTrip
-    ensures { λ r. ⌜ r ≡ cameBack (serializedAt (now (sizes .entry)) (length (now (offsets .entry))) (length (now (blocks .entry))) (now (objects .entry)) (now (file .entry)) «region_address» «heap_header_address» «offset_size») (nonempty (now (sizes .entry))) ⌝ }
-    ensures { λ _. ⌜ now (offsets .exit) ≡ written (serializedAt (now (sizes .entry)) (length (now (offsets .entry))) (length (now (blocks .entry))) (now (objects .entry)) (now (file .entry)) «region_address» «heap_header_address» «offset_size») (planOffsets fixed «offset_size» (now (sizes .entry))) (now (offsets .entry)) ⌝ }
-    ensures { λ _. ⌜ now (blocks .exit) ≡ written (serializedAt (now (sizes .entry)) (length (now (offsets .entry))) (length (now (blocks .entry))) (now (objects .entry)) (now (file .entry)) «region_address» «heap_header_address» «offset_size») (planStarts fixed «offset_size» (now (sizes .entry))) (now (blocks .entry)) ⌝ }
-    ensures { λ _. ⌜ now (file .exit) ≡ fileWritten (serializedAt (now (sizes .entry)) (length (now (offsets .entry))) (length (now (blocks .entry))) (now (objects .entry)) (now (file .entry)) «region_address» «heap_header_address» «offset_size») «offset_size» «heap_header_address» «region_address» (now (sizes .entry)) (now (objects .entry)) (now (file .entry)) ⌝ }
+    ensures { λ r. ⌜ RoundTripped
+        (callOf (now (sizes .entry)) (now (objects .entry)) (siteOf «offset_size» «heap_header_address» «region_address»)
+        (memory (now (offsets .entry)) (now (blocks .entry)) (now (file .entry))))
+        r
+        (memory (now (offsets .exit)) (now (blocks .exit)) (now (file .exit))) ⌝ }
 {
     match serialize_at(
         sizes,

@@ -10,30 +10,15 @@ use native.Mathlib.Numerals.{add-one}
 use native.Mathlib.Decide.{decLe}
 use lib.Dec.{leb}
 use lib.ListN.{length, take, drop, getD, set, replicate, length-append, length-set}
-use lib.Seq.{take-append-le, take-all, take-add, take-suc, take-suc-set, take-take, take-set-le, getD-set-other}
+use lib.Seq.{take-append-le, take-all, take-suc-set, take-take, take-set-le, getD-set-other}
 use lib.Pow.{pow-mono}
 use borrow.Author.Tests.{le-leb, lt-leb}
 use Rattle.table.specs.Table.{Table, fixed, rowBits, rowOffset}
 use Rattle.table.specs.Sizes.{offsetBytes, directHeader}
-use Rattle.table.specs.Capacity.{sum, blockCapacity, capacities, capacity}
+use Rattle.numbers.specs.Sums.{sum}
+use Rattle.numbers.proofs.Sums.{sum-append, sum-take-suc, sum-take-le}
+use Rattle.table.specs.Capacity.{blockCapacity, capacities, capacity}
 use Rattle.table.proofs.Rows.{row, row-mono, slot-rows}
-
-sum-append : (xs ys : List ℕ) → sum (xs ++ ys) ≡ sum xs + sum ys
-unfolding sum
-sum-append [] ys = sym (native.Mathlib.Nat.zero-add (sum ys))
-sum-append (x ∷ xs) ys = let z = sum-append xs ys in omega arith
-
-pub sum-take-suc : (l : List ℕ) (i : ℕ) → i < length l → sum (take (i + 1) l) ≡ sum (take i l) + getD l i 0
-unfolding sum
-sum-take-suc l i h =
-    ap (λ (j : ℕ). sum (take j l)) (add-one i) ∙ ap sum (take-suc l i 0 h) ∙ sum-append (take i l) (getD l i 0 ∷ [])
-    ∙ (let e : sum (take i l) + (getD l i 0 + 0) ≡ sum (take i l) + getD l i 0 = omega arith in e)
-
-pub sum-take-le : (l : List ℕ) (i n : ℕ) → i ≤ n → sum (take i l) ≤ sum (take n l)
-sum-take-le l i n h =
-    let e : i + (n - i) ≡ n = omega arith in
-    let z = ap (λ (j : ℕ). sum (take j l)) (sym e) ∙ ap sum (take-add i (n - i) l) ∙ sum-append (take i l) (take (n - i) (drop i l)) in
-    omega arith
 
 module _ (t : Table) (h : ℕ) where
   length-capacities : (n : ℕ) → length (capacities t h n) ≡ n

@@ -8,7 +8,7 @@ use lib.Dec.{leb}
 use lib.Pow.{pow-pos, pow-mono, pow-lt, split}
 use borrow.Author.Tests.{le-leb, lt-leb, leb-true, leb-false}
 use Rattle.table.specs.Table.{Table, fixed, rowBits, rowOffset, rowOf, placeOf}
-use Rattle.table.specs.Slots.{slotBits, slotAt, slotStart, tableSlot, enteredIn, entered}
+use Rattle.table.specs.Slots.{slotBits, slotAt, slotStart, tableSlot, enteredBytesIn, enteredBytes}
 use Rattle.table.specs.Sizes.{indirectSize, offsetBytes}
 use Rattle.table.specs.declared.RowCol.{RowCol}
 use Rattle.table.specs.declared.Slot.{Slot}
@@ -175,24 +175,24 @@ indirect-small w n l u =
     let a : n * 4 * w ≤ n * 4 * 255 = mul-le-mul-left (n * 4) l in
     omega arith
 
-entered-in-small : (w f e a x : ℕ) → w ≤ 255 → enteredIn fixed w f e a x ≤ f * 2 ^ 18
-unfolding enteredIn
+entered-in-small : (w f e a x : ℕ) → w ≤ 255 → enteredBytesIn fixed w f e a x ≤ f * 2 ^ 18
+unfolding enteredBytesIn
 entered-in-small w zero e a x l = zero-le
 entered-in-small w (suc f) e a x l =
     go (leb (rowBits fixed (rowOf fixed x)) 16) (leb e (a + slotStart fixed x)) (entered-in-small w f e (a + slotStart fixed x) (x - slotStart fixed x) l)
   where
-    go : (u v : Bool) → enteredIn fixed w f e (a + slotStart fixed x) (x - slotStart fixed x) ≤ f * 2 ^ 18
+    go : (u v : Bool) → enteredBytesIn fixed w f e (a + slotStart fixed x) (x - slotStart fixed x) ≤ f * 2 ^ 18
         → elim u [
           | true ↦ 0
-          | false ↦ cond v (indirectSize fixed w (rowOf fixed x - 2)) 0 + enteredIn fixed w f e (a + slotStart fixed x) (x - slotStart fixed x)
+          | false ↦ cond v (indirectSize fixed w (rowOf fixed x - 2)) 0 + enteredBytesIn fixed w f e (a + slotStart fixed x) (x - slotStart fixed x)
         ]
         ≤ suc f * 2 ^ 18
     go true v i = zero-le
     go false true i = let r = row-le fixed x in let s = indirect-small w (rowOf fixed x - 2) l (omega arith) in omega arith
     go false false i = omega arith
 
-pub entered-small : (w e s : ℕ) → w ≤ 255 → entered fixed w e s ≤ 2 ^ 24
-unfolding entered
+pub entered-small : (w e s : ℕ) → w ≤ 255 → enteredBytes fixed w e s ≤ 2 ^ 24
+unfolding enteredBytes
 entered-small w e s l = let z = entered-in-small w 40 e 0 s l in omega arith
 
 -- what is counted so far, and what the block at base has still to add
@@ -201,19 +201,19 @@ pub record Entering (w e s total base x : ℕ) : Type 0 where
   pub enough : x < 2 ^ fuel
   pub heap : s < 2 ^ 40
   pub sum : base + x ≡ s
-  pub rest : entered fixed w e s ≡ total + enteredIn fixed w fuel e base x
+  pub rest : enteredBytes fixed w e s ≡ total + enteredBytesIn fixed w fuel e base x
 
 pub entering-start : (w e s : ℕ) → s < 2 ^ 40 → Entering w e s 0 0 s
-unfolding entered
-entering-start w e s h = record { fuel = 40; enough = h; heap = h; sum = omega arith; rest = sym (zero-add (enteredIn fixed w 40 e 0 s)) }
+unfolding enteredBytes
+entering-start w e s h = record { fuel = 40; enough = h; heap = h; sum = omega arith; rest = sym (zero-add (enteredBytesIn fixed w 40 e 0 s)) }
 
 module _ (w e s total base x row size within : ℕ) (I : Entering w e s total base x) (h : x < 2 ^ 40) (v : Level x row size within) where
-  none-entered : leb (rowBits fixed row) 16 ≡ true → (f : ℕ) → enteredIn fixed w f e base x ≡ 0
-  unfolding enteredIn
+  none-entered : leb (rowBits fixed row) 16 ≡ true → (f : ℕ) → enteredBytesIn fixed w f e base x ≡ 0
+  unfolding enteredBytesIn
   none-entered l zero = refl
-  none-entered l (suc f) = rw (le-leb (rowBits fixed (rowOf fixed x)) 16 (bits-direct x row size within v l), enteredIn)
+  none-entered l (suc f) = rw (le-leb (rowBits fixed (rowOf fixed x)) 16 (bits-direct x row size within v l), enteredBytesIn)
 
-  pub entering-done : leb (rowBits fixed row) 16 ≡ true → total ≡ entered fixed w e s
+  pub entering-done : leb (rowBits fixed row) 16 ≡ true → total ≡ enteredBytes fixed w e s
   entering-done l =
       let z = none-entered l (I .fuel) in
       let r = I .rest in
@@ -226,16 +226,16 @@ module _ (w e s total base x row size within : ℕ) (I : Entering w e s total ba
     here-is : here ≡ cond (leb e (base + slotStart fixed x)) (indirectSize fixed w (rowOf fixed x - 2)) 0
     here-is = p ∙ ap₂ (λ (a n : ℕ). cond (leb e (base + a)) (indirectSize fixed w n) 0) (v .within-is) rows-is
 
-    one-entered : (f : ℕ) → enteredIn fixed w (suc f) e base x ≡ here + enteredIn fixed w f e (base + within) (x - within)
-    unfolding enteredIn
+    one-entered : (f : ℕ) → enteredBytesIn fixed w (suc f) e base x ≡ here + enteredBytesIn fixed w f e (base + within) (x - within)
+    unfolding enteredBytesIn
     one-entered f =
-        rw (lt-leb (rowBits fixed (rowOf fixed x)) 16 (bits-deep x row size within v l), enteredIn)
-        (ap₂ (λ (a b : ℕ). a + b) (sym here-is) (ap (λ (a : ℕ). enteredIn fixed w f e (base + a) (x - a)) (sym (v .within-is))))
+        rw (lt-leb (rowBits fixed (rowOf fixed x)) 16 (bits-deep x row size within v l), enteredBytesIn)
+        (ap₂ (λ (a b : ℕ). a + b) (sym here-is) (ap (λ (a : ℕ). enteredBytesIn fixed w f e (base + a) (x - a)) (sym (v .within-is))))
 
     pub entering-more : Entering w e s (total + here) (base + within) (x - within)
     entering-more = go (I .fuel) (I .enough) (I .rest)
       where
-        go : (f : ℕ) → x < 2 ^ f → entered fixed w e s ≡ total + enteredIn fixed w f e base x → Entering w e s (total + here) (base + within) (x - within)
+        go : (f : ℕ) → x < 2 ^ f → enteredBytes fixed w e s ≡ total + enteredBytesIn fixed w f e base x → Entering w e s (total + here) (base + within) (x - within)
         go zero b r = absurd (let z = rest-small x row size within v l h .1 in let k = v .below in omega arith)
         go (suc f) b r =
             let sm = rest-small x row size within v l h in

@@ -10,7 +10,7 @@ use lib.Dec.{leb}
 use lib.Pow.{pow-pos, pow-mono, pow-lt, pow-add, split}
 use borrow.Author.Tests.{leb-true, leb-false}
 use Rattle.table.specs.Table.{Table, rowBits, rowOf}
-use Rattle.table.specs.Slots.{slotIn, slotBits, slotAt, slotEnd}
+use Rattle.table.specs.Slots.{slotBitsIn, slotBits, slotAt, slotEnd}
 use Rattle.table.proofs.Powers.{pow-lt-cancel, le-of-not-lt, digits-unique, pow-split, join, part}
 use Rattle.table.proofs.Rows.{Top, heap-rows, top-row}
 
@@ -48,8 +48,8 @@ module _ (t : Table) where
       let e″ : q * 2 ^ b + r ≡ q′ * 2 ^ b + r′ = sym e ∙ p ∙ e′ ∙ ap (λ (k : ℕ). q′ * 2 ^ k + r′) (sym z) in
       slotted-unique s r′ d (digits-unique q q′ b r r′ h h″ e″ .1) s′
 
-  slot-in-is : (f x : ℕ) → t .startBits ≤ t .directBits → x < 2 ^ f → x < 2 ^ t .heapBits → Slotted t x (slotIn t f x)
-  unfolding slotIn
+  slot-in-is : (f x : ℕ) → t .startBits ≤ t .directBits → x < 2 ^ f → x < 2 ^ t .heapBits → Slotted t x (slotBitsIn t f x)
+  unfolding slotBitsIn
   slot-in-is zero x g h k =
       let e : x ≡ 0 * 2 ^ t .startBits + x = omega arith in
       top 0 (t .startBits) x (record { lo = omega arith; up = pow-pos (suc (t .widthBits)); hi = λ l. absurd (omega arith) }) g (lt-of-lt-of-le h (pow-mono zero-le)) e
@@ -62,8 +62,8 @@ module _ (t : Table) where
       T = top-row t x (heap-rows t x k)
 
       go : (v : Bool) → leb (rowBits t (rowOf t x)) (t .directBits) ≡ v
-          → (x % 2 ^ rowBits t (rowOf t x) < 2 ^ f → x % 2 ^ rowBits t (rowOf t x) < 2 ^ t .heapBits → Slotted t (x % 2 ^ rowBits t (rowOf t x)) (slotIn t f (x % 2 ^ rowBits t (rowOf t x))))
-          → Slotted t x (elim v [ true ↦ rowBits t (rowOf t x) | false ↦ slotIn t f (x % 2 ^ rowBits t (rowOf t x)) ])
+          → (x % 2 ^ rowBits t (rowOf t x) < 2 ^ f → x % 2 ^ rowBits t (rowOf t x) < 2 ^ t .heapBits → Slotted t (x % 2 ^ rowBits t (rowOf t x)) (slotBitsIn t f (x % 2 ^ rowBits t (rowOf t x))))
+          → Slotted t x (elim v [ true ↦ rowBits t (rowOf t x) | false ↦ slotBitsIn t f (x % 2 ^ rowBits t (rowOf t x)) ])
       go true e ih = top (x / 2 ^ b) b (x % 2 ^ b) T (leb-true _ _ e) (mod-lt x (pow-pos b)) (sym (split x b))
       go false e ih =
           let l : t .directBits < b = leb-false _ _ e in

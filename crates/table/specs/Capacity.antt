@@ -5,11 +5,8 @@ use mathlib.Core.Bool.{cond}
 use mathlib.Core.List.{List, [], _∷_, _++_}
 use lib.ListN.{take}
 use lib.Dec.{leb}
+use Rattle.numbers.specs.Sums.{sum}
 use Rattle.table.specs.Table.{Table, rowBits}
-
-unfoldable pub sum : List ℕ → ℕ
-sum [] = 0
-sum (x ∷ xs) = x + sum xs
 
 -- a block of row r: a direct one holds what its header of h bytes leaves, an indirect one what its own rows
 -- hold, whose capacities stand in front in l

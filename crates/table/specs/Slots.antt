@@ -27,14 +27,14 @@ unfoldable pub tableSlot : Table → ℕ → TableSlot
 tableSlot t x = record { row = rowOf t x; start = slotStart t x; size = 2 ^ rowBits t (rowOf t x) }
 
 -- the direct slot that holds x has 2 ^ slotBits x bytes; an indirect slot is searched in turn, f deep
-unfoldable pub slotIn : Table → ℕ → ℕ → ℕ
-slotIn t zero x = t .startBits
-slotIn t (suc f) x =
+unfoldable pub slotBitsIn : Table → ℕ → ℕ → ℕ
+slotBitsIn t zero x = t .startBits
+slotBitsIn t (suc f) x =
     elim (leb (rowBits t (rowOf t x)) (t .directBits))
-    [ true ↦ rowBits t (rowOf t x) | false ↦ slotIn t f (x % 2 ^ rowBits t (rowOf t x)) ]
+    [ true ↦ rowBits t (rowOf t x) | false ↦ slotBitsIn t f (x % 2 ^ rowBits t (rowOf t x)) ]
 
 unfoldable pub slotBits : Table → ℕ → ℕ
-slotBits t x = slotIn t (t .heapBits) x
+slotBits t x = slotBitsIn t (t .heapBits) x
 
 -- the direct slot that holds x; a slot begins at a multiple of its size
 unfoldable pub slotAt : Table → ℕ → Slot
@@ -45,15 +45,15 @@ slotEnd s = s .start + s .size
 
 -- the bytes of the indirect blocks that a direct block at a + x opens in the indirect block at a, f deep, where
 -- the direct block before it ended at e: those of the indirect slots that hold it and begin at or after e
-unfoldable pub enteredIn : Table → ℕ → ℕ → ℕ → ℕ → ℕ → ℕ
-enteredIn t w zero e a x = 0
-enteredIn t w (suc f) e a x =
+unfoldable pub enteredBytesIn : Table → ℕ → ℕ → ℕ → ℕ → ℕ → ℕ
+enteredBytesIn t w zero e a x = 0
+enteredBytesIn t w (suc f) e a x =
     elim (leb (rowBits t (rowOf t x)) (t .directBits)) [
       | true ↦ 0
       | false ↦
           cond (leb e (a + slotStart t x)) (indirectSize t w (rowOf t x - t .widthBits)) 0
-          + enteredIn t w f e (a + slotStart t x) (x - slotStart t x)
+          + enteredBytesIn t w f e (a + slotStart t x) (x - slotStart t x)
     ]
 
-unfoldable pub entered : Table → ℕ → ℕ → ℕ → ℕ
-entered t w e s = enteredIn t w (t .heapBits) e 0 s
+unfoldable pub enteredBytes : Table → ℕ → ℕ → ℕ → ℕ
+enteredBytes t w e s = enteredBytesIn t w (t .heapBits) e 0 s

@@ -8,7 +8,8 @@ use lib.Dec.{leb}
 use lib.Pow.{pow-pos, pow-mono, low}
 use Rattle.table.specs.Table.{Table, rowBits, rowOffset}
 use Rattle.table.specs.Slots.{slotBits}
-use Rattle.table.specs.Capacity.{sum, capacities, capacity}
+use Rattle.numbers.specs.Sums.{sum}
+use Rattle.table.specs.Capacity.{capacities, capacity}
 use Rattle.table.proofs.Powers.{mod-low}
 use Rattle.table.proofs.Rows.{Top, Row, row, row-mono, slot-rows}
 use Rattle.table.proofs.Slots.{top, sub, slotted-unique, slotted-hi, slot-bits-is}

@@ -2,13 +2,10 @@
 -- A body is a block's Object Data: HDF5 File Format Specification 3.0, III.G, 'Fractal Heap Direct Block'.
 use Prim.Native.Nat.{ℕ, zero, suc, _+_, _^_, _≤_, _<_}
 use mathlib.Core.Path.{_≡_}
-use mathlib.Core.Bool.{Bool, true, false}
+use mathlib.Core.Bool.{Bool}
+use Rattle.numbers.specs.Sums.{bit}
 use Rattle.table.specs.Table.{Table}
 use Rattle.table.specs.Slots.{Direct}
-
-abbrev pub bit : Bool → ℕ
-bit true = 1
-bit false = 0
 
 -- how many numbers below n pass p
 unfoldable pub count : (ℕ → Bool) → ℕ → ℕ

@@ -6,7 +6,7 @@ ghost use mathlib.Core.Bool.{cond};
 ghost use lib.Dec.{leb};
 ghost use Rattle.table.specs.Table.{fixed, rowOf};
 ghost use Rattle.table.specs.Sizes.{indirectSize};
-ghost use Rattle.table.specs.Slots.{tableSlot, slotAt, entered};
+ghost use Rattle.table.specs.Slots.{tableSlot, slotAt, enteredBytes};
 use table::Slot;
 use table::TableSlot;
 use table::is_direct;
@@ -67,7 +67,7 @@ fn entered_here(end: u64, start: u64, size: u64, offset_size: u8) -> u64
 // `end`.
 pub fn entered_blocks(end: u64, start: u64, offset_size: u8) -> u64
     requires { ⌜ start < 2 ^ 40 ⌝ }
-    ensures { λ r. ⌜ r ≡ entered fixed «offset_size» end start ⌝ }
+    ensures { λ r. ⌜ r ≡ enteredBytes fixed «offset_size» end start ⌝ }
 {
     let mut total = 0;
     let mut base = 0;

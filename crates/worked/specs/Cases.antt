@@ -14,20 +14,22 @@ use Rattle.table.specs.declared.Covering.the-variants.{Rows}
 use Rattle.plan.specs.declared.ManagedPlan.{ManagedPlan}
 use Rattle.plan.specs.declared.Planned.the-variants.{Accepted, Refused}
 use Rattle.plan_steps.specs.Steps.{planOffsets, planStarts}
-use Rattle.plan.specs.Answer.{answer}
+use Rattle.plan.specs.Answer.{plannedFor}
+use Rattle.region_blocks.specs.Site.{siteOf}
 use Rattle.region_write.specs.Region.{region, rootBytes}
-use Rattle.id_checks.specs.Checks.{idChecked}
-use Rattle.managed_ids.specs.Ids.{managedId, idWritten}
-use Rattle.heap_rows.specs.declared.DoublingTable.{DoublingTable}
-use Rattle.heap_rows.specs.Rows.{blockSize, directRows, sizeToRows, slotSize}
-use Rattle.heap_blocks.specs.declared.Found.{Found}
-use Rattle.heap_blocks.specs.declared.Found.the-variants.{At, Refused as NotFound}
-use Rattle.heap_ids.specs.declared.ManagedId.the-variants.{Decoded}
-use Rattle.heap_ids.specs.Id.{decodedId}
-use Rattle.tiny_objects.specs.Tiny.{tinyAt}
+use Rattle.id_write.specs.Checks.{idChecked}
+use Rattle.id_write.specs.Ids.{managedId, idWritten}
+use Rattle.read_rows.specs.declared.DoublingTable.{DoublingTable}
+use Rattle.read_rows.specs.Rows.{blockSize, directRows, sizeToRows, slotSize}
+use Rattle.read_blocks.specs.declared.Found.{Found}
+use Rattle.read_blocks.specs.declared.Found.the-variants.{At, Refused as NotFound}
+use Rattle.id_decode.specs.declared.ManagedId.the-variants.{Decoded}
+use Rattle.id_decode.specs.Id.{decodedId}
+use Rattle.id_tiny.specs.Tiny.{tinyAt}
 use Rattle.fractal_heap.specs.declared.header.FractalHeapHeader.{FractalHeapHeader}
 use Rattle.fractal_heap.specs.Read.{managedAt}
-use Rattle.read_back.specs.ReadBack.{Call, Written, HoldsRegion, HeaderOf, offsetOf}
+use Rattle.fractal_heap_write.specs.Serialize.{Memory, Call, callOf, Written}
+use Rattle.heap_kept.specs.HeapKept.{HoldsRegion, HeaderOf, offsetOf}
 
 -- the fixed geometry as a header has it
 abbrev pub fixedTable : DoublingTable
@@ -52,39 +54,30 @@ pub data Case : Type 0 where
 
 -- the region of a plan, whatever the addresses and the bytes of the objects: its size, and the root at its place
 pub record Region (w : ℕ) (xs : List ℕ) (p : ManagedPlan) : Type 0 where
-  pub size : (header address : ℕ) (js : List ℕ) → length (region w header address (p .«root_rows») xs js) ≡ p .«region_size»
+  pub size : (header address : ℕ) (js : List ℕ) → length (region (siteOf w header address) (p .«root_rows») xs js) ≡ p .«region_size»
   pub root : (header address : ℕ) (js : List ℕ)
-      → take (length (rootBytes w header address (p .«root_rows») xs js)) (drop (p .«root_place») (region w header address (p .«root_rows») xs js))
-      ≡ rootBytes w header address (p .«root_rows») xs js
+      → take (length (rootBytes (siteOf w header address) (p .«root_rows») xs js)) (drop (p .«root_place») (region (siteOf w header address) (p .«root_rows») xs js))
+      ≡ rootBytes (siteOf w header address) (p .«root_rows») xs js
 
 -- a call of the writer for the sizes xs
-abbrev pub callFor : ℕ → List ℕ → ℕ → ℕ → List ℕ → List ℕ → ℕ → ℕ → Call
-callFor w xs o b js lent address header = record {
-  sizes = xs;
-  offset-places = o;
-  block-places = b;
-  objects = js;
-  lent = lent;
-  region-address = address;
-  header-address = header;
-  width = w;
-}
+abbrev pub callFor : ℕ → List ℕ → List ℕ → ℕ → ℕ → Memory → Call
+callFor w xs js header address lent = callOf xs js (siteOf w header address) lent
 
 -- the i-th object is empty, and whatever else is handed to the writer and stands in the file, by its ID the reader
 -- answers 1, with its offset and the file's length
 pub record Unfound (w : ℕ) (xs : List ℕ) (i : ℕ) : Type 0 where
   pub there : i < length xs
   pub empty : getD xs i 0 ≡ 0
-  pub read : (o b : ℕ) (js lent : List ℕ) (address header : ℕ) (p : ManagedPlan) → Written (callFor w xs o b js lent address header) p
-      → (file : List ℕ) → HoldsRegion file (callFor w xs o b js lent address header) p
-      → (h : FractalHeapHeader) → HeaderOf h (callFor w xs o b js lent address header) p
+  pub read : (js : List ℕ) (header address : ℕ) (lent : Memory) (p : ManagedPlan) → Written (callFor w xs js header address lent) p
+      → (file : List ℕ) → HoldsRegion file (callFor w xs js header address lent) p
+      → (h : FractalHeapHeader) → HeaderOf h (callFor w xs js header address lent) p
       → (id : List ℕ) → 8 ≤ length id
       → managedAt h file (take 8 (idWritten fixed (offsetOf w xs i) 0 id)) w ≡ NotFound (UnexpectedEof (offsetOf w xs i) (length file))
 
 abbrev pub Holds : Case → Type 0
-Holds (plans w xs os bs p) =
-    (answer xs (length xs) (max 1 (length xs)) w ≡ Accepted p) × (planOffsets fixed w xs ≡ os) × (planStarts fixed w xs ≡ bs) × Region w xs p
-Holds (refuses w xs e) = answer xs (length xs) (max 1 (length xs)) w ≡ Refused e
+Holds (plans w xs offsets bs p) =
+    (plannedFor xs (length xs) (max 1 (length xs)) w ≡ Accepted p) × (planOffsets fixed w xs ≡ offsets) × (planStarts fixed w xs ≡ bs) × Region w xs p
+Holds (refuses w xs e) = plannedFor xs (length xs) (max 1 (length xs)) w ≡ Refused e
 Holds (unfound w xs i) = Unfound w xs i
 Holds (covers span n) = covering fixed span ≡ Rows n
 Holds (direct r) =

@@ -1,6 +1,6 @@
 -- `add_last` meets its contract. Assumes nothing.
 use native.Mathlib.Omega.{arith}
-use Rattle.lookup3_mix.specs.Words.{add32}
+use Rattle.checksum_mix.specs.Words.{add32}
 use Rattle.checksum.proofs.Tails.{last-word-is}
 use Rattle.checksum.proofs.add_last.Statement.{statement}
 use Rattle.checksum.proofs.add_last.Tie as tie

@@ -2,7 +2,7 @@
 use native.Mathlib.Omega.{arith}
 use mathlib.Core.Path.{_∙_}
 use Rattle.checksum.proofs.Switch.{tail-group}
-use Rattle.lookup3_mix.specs.Words.{add32}
+use Rattle.checksum_mix.specs.Words.{add32}
 use Rattle.checksum.specs.Lookup3.{grouped}
 use Rattle.checksum.proofs.Tails.{short-group}
 use Rattle.checksum.proofs.add_tail.Statement.{statement}

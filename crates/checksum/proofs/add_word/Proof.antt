@@ -1,6 +1,6 @@
 -- `add_word` meets its contract. Assumes nothing.
 use native.Mathlib.Omega.{arith}
-use Rattle.lookup3_mix.specs.Words.{add32}
+use Rattle.checksum_mix.specs.Words.{add32}
 use Rattle.checksum.proofs.add_word.Statement.{statement}
 use Rattle.checksum.proofs.add_word.Tie as tie
 

@@ -4,7 +4,7 @@ use Prim.Native.Nat.{_-_}
 use mathlib.Core.Path.{sym, _∙_}
 use native.Mathlib.Omega.{arith}
 use lib.ListN.{length}
-use Rattle.lookup3_mix.specs.Words.{add32}
+use Rattle.checksum_mix.specs.Words.{add32}
 use Rattle.checksum.specs.Lookup3.{begun}
 use Rattle.checksum.proofs.Walk.{Walk, walk-start, walk-more, walk-empty, walk-ended, walk-tail, is-short, short-ended}
 use Rattle.checksum.proofs.jenkins_lookup3.Statement.{statement}

@@ -1,8 +1,8 @@
 -- `short_checksum` meets its contract: its words are those of a group. Assumes nothing.
 use mathlib.Core.Path.{ap}
 use native.Mathlib.Omega.{arith}
-use Rattle.lookup3_mix.specs.declared.State.{State}
-use Rattle.lookup3_mix.specs.Mix.{finalMixed}
+use Rattle.checksum_mix.specs.declared.State.{State}
+use Rattle.checksum_mix.specs.Mix.{finalMixed}
 use Rattle.checksum.proofs.Tails.{shortWords, short-words}
 use Rattle.checksum.proofs.short_checksum.Statement.{statement}
 use Rattle.checksum.proofs.short_checksum.Tie as tie

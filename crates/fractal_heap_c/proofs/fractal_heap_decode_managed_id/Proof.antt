@@ -3,11 +3,11 @@ use borrow.Author.Needs.{needs}
 use Rattle.fractal_heap_c.proofs.fractal_heap_decode_managed_id.Statement.{statement}
 use Rattle.fractal_heap_c.proofs.fractal_heap_decode_managed_id.Tie as tie
 use mathlib.Core.Path.{ap, _∙_}
-use Rattle.slot.specs.Slot.{slotNumber, slotBytes}
+use Rattle.c_slot.specs.Slot.{slotNumber, slotBytes}
 use Prim.Native.Nat.{ℕ}
 use Rattle.fractal_heap.specs.declared.header.Parsed.{Parsed}
 use Rattle.fractal_heap.specs.Header.{headerAt}
-use Rattle.heap_ids.specs.Id.{decodedAnswer}
+use Rattle.id_decode.specs.Id.{decodedAnswer}
 use Rattle.fractal_heap.specs.Read.{idBy}
 
 to-usize-requires : tie.Need-to-usize-requires

@@ -1,44 +1,31 @@
 -- `read_front` meets its contract. Assumes nothing.
-use Rattle.header_fields.specs.Groups.{frontFields}
+use mathlib.Core.Path.{refl}
+use native.Mathlib.Omega.{arith}
 use borrow.Author.Needs.{needs}
+use Rattle.header_layout.specs.FieldList.{headerList, spanOf, widthIn, fieldPlace}
+use Rattle.header_layout.proofs.Places.{number}
+use Rattle.header_fields.specs.Groups.{frontFields}
 use Rattle.header_fields.proofs.read_front.Statement.{statement}
 use Rattle.header_fields.proofs.read_front.Tie as tie
 
-add-read-u16-le : tie.Need-add-read-u16-le
-add-read-u16-le c = search needs
-
-read-u16-le-requires : tie.Need-read-u16-le-requires
-read-u16-le-requires c κs = search needs
-
-add-read-u16-le-2 : tie.Need-add-read-u16-le-2
-add-read-u16-le-2 c = search needs
-
-read-u16-le-requires-2 : tie.Need-read-u16-le-requires-2
-read-u16-le-requires-2 c κs = search needs
-
-add-read-u32-le : tie.Need-add-read-u32-le
-add-read-u32-le c = search needs
-
-read-u32-le-requires : tie.Need-read-u32-le-requires
-read-u32-le-requires c κs = search needs
-
 returns : tie.Need-returns
-unfolding frontFields
+unfolding headerList spanOf widthIn fieldPlace frontFields
 returns c =
-    λ i. record {
-      «heap_id_length» = c .before .before .read-u16-le .ensures i;
-      «io_filter_encoded_length» = c .before .read-u16-le2 .ensures i;
-      «max_managed_object_size» = c .read-u32-le .ensures i;
-    }
+    λ os ls.
+    let r2 = c .before in
+    let r1 = r2 .before in
+    let a = r1 .before .before .args in
+    let is = number (a .file .now) (a .at) os ls in
+    rw (is 0 _ _ _ (r1 .read-u16-le .ensures) (omega arith) refl, is 1 _ _ _ (r2 .read-u16-le2 .ensures) (omega arith) refl, is 3 _ _ _ (c .read-u32-le .ensures) (omega arith) refl)
 
 pub read-front-spec : {M : Type 1} → statement M
 read-front-spec =
     tie.close
     (tie.spec
-    add-read-u16-le
-    read-u16-le-requires
-    add-read-u16-le-2
-    read-u16-le-requires-2
-    add-read-u32-le
-    read-u32-le-requires
+    (λ c. search needs)
+    (λ c κs. search needs)
+    (λ c. search needs)
+    (λ c κs. search needs)
+    (λ c. search needs)
+    (λ c κs. search needs)
     returns)

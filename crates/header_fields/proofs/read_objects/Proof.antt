@@ -1,55 +1,33 @@
 -- `read_objects` meets its contract. Assumes nothing.
-use Rattle.header_fields.specs.Groups.{objectFields}
+use mathlib.Core.Path.{refl}
+use native.Mathlib.Omega.{arith}
 use borrow.Author.Needs.{needs}
+use Rattle.header_layout.specs.FieldList.{headerList, spanOf, widthIn, fieldPlace}
+use Rattle.header_layout.proofs.Places.{number}
+use Rattle.header_fields.specs.Groups.{objectFields}
 use Rattle.header_fields.proofs.read_objects.Statement.{statement}
 use Rattle.header_fields.proofs.read_objects.Tie as tie
 
-add-read-le : tie.Need-add-read-le
-add-read-le c = search needs
-
-add-read-le-2 : tie.Need-add-read-le-2
-add-read-le-2 c = search needs
-
-read-le-requires : tie.Need-read-le-requires
-read-le-requires c κs = search needs
-
-mul-read-le : tie.Need-mul-read-le
-mul-read-le c = search needs
-
-add-read-le-3 : tie.Need-add-read-le-3
-add-read-le-3 c = search needs
-
-mul-read-le-2 : tie.Need-mul-read-le-2
-mul-read-le-2 c = search needs
-
-add-read-le-4 : tie.Need-add-read-le-4
-add-read-le-4 c = search needs
-
-add-read-le-5 : tie.Need-add-read-le-5
-add-read-le-5 c = search needs
-
-read-le-requires-2 : tie.Need-read-le-requires-2
-read-le-requires-2 c κs = search needs
-
 returns : tie.Need-returns
-unfolding objectFields
+unfolding headerList spanOf widthIn fieldPlace objectFields
 returns c =
-    λ i. record {
-      «btree_huge_objects_address» = c .before .read-le .ensures i;
-      «managed_objects_count» = c .read-le2 .ensures i;
-    }
+    let r1 = c .before in
+    let a = r1 .before .before .args in
+    let is = number (a .file .now) (a .at) (a .offset-size) (a .length-size) in
+    rw (is 5 _ _ _ (r1 .read-le .ensures) (omega arith) refl, is 11 _ _ _ (c .read-le2 .ensures) (omega arith) refl)
 
 pub read-objects-spec : {M : Type 1} → statement M
+unfolding headerList spanOf fieldPlace
 read-objects-spec =
     tie.close
     (tie.spec
-    add-read-le
-    add-read-le-2
-    read-le-requires
-    mul-read-le
-    add-read-le-3
-    mul-read-le-2
-    add-read-le-4
-    add-read-le-5
-    read-le-requires-2
+    (λ c. search needs)
+    (λ c. search needs)
+    (λ c κs. search needs)
+    (λ c. search needs)
+    (λ c. search needs)
+    (λ c. search needs)
+    (λ c. search needs)
+    (λ c. search needs)
+    (λ c κs. search needs)
     returns)

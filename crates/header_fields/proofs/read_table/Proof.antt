@@ -1,81 +1,41 @@
 -- `read_table` meets its contract. Assumes nothing.
-use Rattle.header_fields.specs.Groups.{tableFields}
+use mathlib.Core.Path.{refl}
+use native.Mathlib.Omega.{arith}
 use borrow.Author.Needs.{needs}
+use Rattle.header_layout.specs.FieldList.{headerList, spanOf, widthIn, fieldPlace}
+use Rattle.header_layout.proofs.Places.{number}
+use Rattle.header_fields.specs.Groups.{tableFields}
 use Rattle.header_fields.proofs.read_table.Statement.{statement}
 use Rattle.header_fields.proofs.read_table.Tie as tie
 
-mul-table : tie.Need-mul-table
-mul-table c = search needs
-
-add-table : tie.Need-add-table
-add-table c = search needs
-
-mul-table-2 : tie.Need-mul-table-2
-mul-table-2 c = search needs
-
-add-table-2 : tie.Need-add-table-2
-add-table-2 c = search needs
-
-add-table-3 : tie.Need-add-table-3
-add-table-3 c = search needs
-
-read-u16-le-requires : tie.Need-read-u16-le-requires
-read-u16-le-requires c κs = search needs
-
-add-read-le : tie.Need-add-read-le
-add-read-le c = search needs
-
-read-le-requires : tie.Need-read-le-requires
-read-le-requires c κs = search needs
-
-add-read-le-2 : tie.Need-add-read-le-2
-add-read-le-2 c = search needs
-
-add-read-le-3 : tie.Need-add-read-le-3
-add-read-le-3 c = search needs
-
-read-le-requires-2 : tie.Need-read-le-requires-2
-read-le-requires-2 c κs = search needs
-
-mul-read-u16-le : tie.Need-mul-read-u16-le
-mul-read-u16-le c = search needs
-
-add-read-u16-le : tie.Need-add-read-u16-le
-add-read-u16-le c = search needs
-
-add-read-u16-le-2 : tie.Need-add-read-u16-le-2
-add-read-u16-le-2 c = search needs
-
-read-u16-le-requires-2 : tie.Need-read-u16-le-requires-2
-read-u16-le-requires-2 c κs = search needs
-
 returns : tie.Need-returns
-unfolding tableFields
+unfolding headerList spanOf widthIn fieldPlace tableFields
 returns c =
-    λ i. record {
-      «table_width» = c .before .before .before .read-u16-le .ensures i;
-      «starting_block_size» = c .before .before .read-le .ensures i;
-      «max_direct_block_size» = c .before .read-le2 .ensures i;
-      «max_heap_size» = c .read-u16-le2 .ensures i;
-    }
+    let r3 = c .before in
+    let r2 = r3 .before in
+    let r1 = r2 .before in
+    let a = r1 .before .before .args in
+    let is = number (a .file .now) (a .at) (a .offset-size) (a .length-size) in
+    rw (is 16 _ _ _ (r1 .read-u16-le .ensures) (omega arith) refl, is 17 _ _ _ (r2 .read-le .ensures) (omega arith) refl, is 18 _ _ _ (r3 .read-le2 .ensures) (omega arith) refl, is 19 _ _ _ (c .read-u16-le2 .ensures) (omega arith) refl)
 
 pub read-table-spec : {M : Type 1} → statement M
+unfolding headerList spanOf fieldPlace
 read-table-spec =
     tie.close
     (tie.spec
-    mul-table
-    add-table
-    mul-table-2
-    add-table-2
-    add-table-3
-    read-u16-le-requires
-    add-read-le
-    read-le-requires
-    add-read-le-2
-    add-read-le-3
-    read-le-requires-2
-    mul-read-u16-le
-    add-read-u16-le
-    add-read-u16-le-2
-    read-u16-le-requires-2
+    (λ c. search needs)
+    (λ c. search needs)
+    (λ c. search needs)
+    (λ c. search needs)
+    (λ c. search needs)
+    (λ c κs. search needs)
+    (λ c. search needs)
+    (λ c κs. search needs)
+    (λ c. search needs)
+    (λ c. search needs)
+    (λ c κs. search needs)
+    (λ c. search needs)
+    (λ c. search needs)
+    (λ c. search needs)
+    (λ c κs. search needs)
     returns)

@@ -4,7 +4,7 @@ use mathlib.Core.Path.{_≡_, sym, _∙_}
 use mathlib.Core.Bool.{true}
 use native.Mathlib.Omega.{arith}
 use lib.Dec.{eqb}
-use Rattle.little_endian.specs.LittleEndian.{leAt}
+use Rattle.little_endian.specs.LittleEndian.{value, leAt}
 use borrow.Author.Tests.{eq-eqb, ne-eqb}
 use Rattle.fields.proofs.Fields.{len-within}
 use Rattle.header_frame.specs.Frame.{startChecked}
@@ -30,7 +30,7 @@ signed c =
     eq-eqb (leAt (a .file .now) (a .at) 4) 0x50485246 (sym (c .before .before .read-u32-le .ensures) ∙ c .before .if1 .left)
 
 returns : tie.Need-returns
-unfolding startChecked
+unfolding startChecked value
 returns c = rw (sym (c .before .before .before .before .ensure-len .ensures) ∙ c .before .before .enum-told .given .1, ne-eqb (leAt (c .before .before .before .before .before .before .args .file .now) (c .before .before .before .before .before .before .args .at) 4) 0x50485246 (λ e. c .if1 .taken (c .before .read-u32-le .ensures ∙ e)))
 
 add-version : tie.Need-add-version
@@ -40,15 +40,15 @@ shared-slice-read-version : tie.Need-shared-slice-read-version
 shared-slice-read-version c = omega (arith, len-within _ _ _ (sym (c .before .before .before .before .before .ensure-len .ensures) ∙ c .before .before .before .enum-told .given .1))
 
 returns-2 : tie.Need-returns-2
-unfolding startChecked
+unfolding startChecked value
 returns-2 c = rw (sym (c .before .before .before .before .before .before .ensure-len .ensures) ∙ c .before .before .before .before .enum-told .given .1, signed (c .before), ne-eqb _ 0 (c .if2 .taken))
 
 returns-3 : tie.Need-returns-3
-unfolding startChecked
+unfolding startChecked value
 returns-3 c = rw (sym (c .before .before .before .ensure-len .ensures) ∙ c .before .e .given .1)
 
 returns-4 : tie.Need-returns-4
-unfolding startChecked
+unfolding startChecked value
 returns-4 c = rw (sym (c .before .before .before .before .before .before .ensure-len .ensures) ∙ c .before .before .before .before .enum-told .given .1, signed (c .before), eq-eqb _ 0 (c .if2 .left))
 
 pub check-start-spec : {M : Type 1} → statement M

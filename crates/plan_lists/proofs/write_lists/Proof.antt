@@ -4,7 +4,7 @@ use Prim.Native.Nat.{ℕ}
 use mathlib.Core.Path.{ap, _∙_}
 use mathlib.Core.List.{List}
 use native.Mathlib.Omega.{arith}
-use Rattle.plan_lists.specs.Lists.{fronted}
+use Rattle.little_endian.specs.LittleEndian.{put}
 use Rattle.plan_lists.proofs.Writing.{offsets-none, blocks-none, offsets-some, blocks-some}
 use Rattle.plan_lists.proofs.write_lists.Statement.{statement}
 use Rattle.plan_lists.proofs.write_lists.Tie as tie
@@ -36,7 +36,7 @@ returns-2 c =
     let a = c .before .before .before .before .before .before .before .before .before .before .before .args in
     let if1 = c .before .before .before .before .before .before .before .if1 in
     let write-plan = c .before .before .before .before .write-plan in
-    (write-plan .ensures .0 ∙ ap (λ (y : List ℕ). fronted y (a .offsets .now)) (offsets-some (a .offset-size) (a .sizes .now)), write-plan .ensures .1 ∙ ap (λ (y : List ℕ). fronted y (a .blocks .now)) (blocks-some (a .offset-size) (a .sizes .now) (if1 .left)))
+    (write-plan .ensures .0 ∙ ap (λ (y : List ℕ). put (a .offsets .now) 0 y) (offsets-some (a .offset-size) (a .sizes .now)), write-plan .ensures .1 ∙ ap (λ (y : List ℕ). put (a .blocks .now) 0 y) (blocks-some (a .offset-size) (a .sizes .now) (if1 .left)))
 
 pub write-lists-spec : {M : Type 1} → statement M
 write-lists-spec =

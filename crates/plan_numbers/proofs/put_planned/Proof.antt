@@ -2,7 +2,7 @@
 use mathlib.Core.Path.{refl, ap, _∙_}
 use mathlib.Core.List.{[], _∷_}
 use Rattle.refusals.specs.declared.Answer.{Answer as Pair}
-use Rattle.plan_lists.specs.Lists.{fronted}
+use Rattle.little_endian.specs.LittleEndian.{put}
 use borrow.Author.Needs.{needs}
 use Rattle.plan_numbers.proofs.put_planned.Statement.{statement}
 use Rattle.plan_numbers.proofs.put_planned.Tie as tie
@@ -35,7 +35,7 @@ returns-2 : tie.Need-returns-2
 returns-2 c =
     let args = c .before .before .before .before .before .before .before .before .before .args in
     let refused = c .before .before .before .before .refused in
-    rw (c .before .before .before .before .before .before .answer2 .given .1) (ap (λ (a : Pair). a .number) (refused .ensures), c .before .before .put-pair .ensures ∙ ap (λ (a : Pair). fronted (a .first ∷ a .second ∷ []) (args .totals .now)) (refused .ensures))
+    rw (c .before .before .before .before .before .before .answer2 .given .1) (ap (λ (a : Pair). a .number) (refused .ensures), c .before .before .put-pair .ensures ∙ ap (λ (a : Pair). put (args .totals .now) 0 (a .first ∷ a .second ∷ [])) (refused .ensures))
 
 pub put-planned-spec : {M : Type 1} → statement M
 put-planned-spec =

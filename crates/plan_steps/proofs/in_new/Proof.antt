@@ -4,7 +4,7 @@ use Prim.Native.Nat.{ℕ, _+_, _^_, _≤_}
 use mathlib.Core.Path.{_≡_}
 use native.Mathlib.Omega.{arith}
 use Rattle.table.specs.Table.{fixed}
-use Rattle.table.specs.Slots.{entered}
+use Rattle.table.specs.Slots.{enteredBytes}
 use Rattle.table.proofs.Capacity.{header-small}
 use Rattle.table.proofs.Locating.{entered-small}
 use Rattle.plan_steps.proofs.in_new.Statement.{statement}
@@ -31,7 +31,7 @@ add-t10 c = omega (arith, (c .before .before .before .before .before .before) .p
 entered-blocks-requires : tie.Need-entered-blocks-requires
 entered-blocks-requires c κs = omega (arith, (c .before .before .before .before .before .before) .pre .1 .1 .some, (c .before .before .before .before .before .before) .pre .1 .1 .ends)
 
-little : (w e s r : ℕ) → w ≤ 255 → r ≡ entered fixed w e s → r ≤ 2 ^ 24
+little : (w e s r : ℕ) → w ≤ 255 → r ≡ enteredBytes fixed w e s → r ≤ 2 ^ 24
 little w e s r l q = let z = entered-small w e s l in omega arith
 
 add-t12 : tie.Need-add-t12

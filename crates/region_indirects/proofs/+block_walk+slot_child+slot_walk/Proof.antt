@@ -4,8 +4,8 @@ use mathlib.Core.Path.{sym, _∙_}
 use native.Mathlib.Omega.{arith}
 use borrow.Author.Needs.{needs}
 use borrow.Author.Tests.{not-true, not-false}
-use Rattle.region_walk.proofs.Walking.{next-slot, size-small, row-small, entries-small, row-high}
-use Rattle.region_walk.proofs.Steps.{begins-in, wrote-none, direct-fits, wrote-direct, is-block, block-fits, wrote-stop, rows-fit, run-fits, wrote-passed, slot-fits, slots-fit, entry-fits, wrote-slots, all-fit, own-fits, end-fits, wrote-block}
+use Rattle.region_indirects.proofs.Walking.{next-slot, size-small, row-small, entries-small, row-high}
+use Rattle.region_indirects.proofs.Steps.{begins-in, wrote-none, direct-fits, wrote-direct, is-block, block-fits, wrote-stop, rows-fit, run-fits, wrote-passed, slot-fits, slots-fit, entry-fits, wrote-slots, all-fit, own-fits, end-fits, wrote-block}
 use Prim.Native.Nat.{ℕ, _<_, _+_, _*_, _-_}
 use borrow.Fn.Kinds.{In}
 use borrow.Fn.PlainCycle.{Measures, is, falls, and}
@@ -20,10 +20,10 @@ use Rattle.region_indirects.proofs.slot_walk.Kinds as slot-walk-kinds
 use Rattle.region_indirects.proofs.+block_walk+slot_child+slot_walk.Lts-slot_walk as slot-walk-lts
 use Rattle.region_blocks.proofs.put_number.Reads as put-number-reads
 use Rattle.region_blocks.proofs.put_run.Reads as put-run-reads
-use Rattle.indirect_block.proofs.seal_indirect.Reads as seal-indirect-reads
-use Rattle.region_walk.proofs.begins_before.Reads as begins-before-reads
-use Rattle.region_walk.proofs.next_left.Reads as next-left-reads
-use Rattle.region_walk.proofs.next_row.Reads as next-row-reads
+use Rattle.region_blocks.proofs.indirect.seal_indirect.Reads as seal-indirect-reads
+use Rattle.region_indirects.proofs.cursor.begins_before.Reads as begins-before-reads
+use Rattle.region_indirects.proofs.cursor.next_left.Reads as next-left-reads
+use Rattle.region_indirects.proofs.cursor.next_row.Reads as next-row-reads
 use Rattle.table.proofs.is_direct.Reads as is-direct-reads
 use Rattle.table.proofs.row_block_size.Reads as row-block-size-reads
 use Rattle.region_indirects.proofs.+block_walk+slot_child+slot_walk.{statement}

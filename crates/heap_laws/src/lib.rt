@@ -1,1 +1,0 @@
-// Theorems about reading; nothing runs here.

@@ -1,5 +1,0 @@
-pub mod Ids
-pub mod Directs
-pub mod Finding
-pub mod Theorem
-pub mod Empty

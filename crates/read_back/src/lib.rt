@@ -1,1 +1,0 @@
-// The theorem that every object comes back from the file by its ID. Nothing runs here.
