@@ -1,4 +1,6 @@
 // How an answer is handed to C: the number is returned, the two values go into a lent slot.
+#![tactic(auto)]
+
 ghost use Rattle.std.specs.Prelude.{◌≡◌};
 ghost use Rattle.c_slot.specs.Slot.{slotNumber, slotBytes};
 

@@ -1,4 +1,6 @@
 // HDF5's metadata checksum: hashlittle of Bob Jenkins' lookup3.c with initial value 0.
+#![tactic(auto)]
+
 ghost use Rattle.std.specs.Prelude.{◌≡◌, ◌+◌, ◌-◌, ◌*◌, ◌/◌, ◌^◌, ◌<◌, ◌≤◌, ◌&&◌, leb, length, drop, if◌then◌else◌, nat_le};
 ghost use Rattle.little_endian.specs.LittleEndian.{leAt};
 ghost use Rattle.checksum_mix.specs.Words.{add32};

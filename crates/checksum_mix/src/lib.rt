@@ -1,5 +1,7 @@
 // The mixing of Bob Jenkins' lookup3.c. One line of its macros mix and final is one function here; a state is
 // its three words.
+#![tactic(auto)]
+
 ghost use Rattle.std.specs.Prelude.{◌≡◌};
 ghost use Rattle.checksum_mix.specs.Words.{rot, subXor, xorSub};
 ghost use Rattle.checksum_mix.specs.Requires.{Rotation};

@@ -1,4 +1,6 @@
 // Fields of an HDF5 file: bounds-checked reads of addresses and lengths in a lent slice.
+#![tactic(auto)]
+
 pub mod convert;
 
 ghost use Rattle.std.specs.Prelude.{◌≡◌, ◌+◌, leb};

@@ -1,6 +1,8 @@
 // What the loader calls: the checksum, the decoding of a managed ID, and reading. The last two parse the
 // header at `at` first. Each returns the refusal's number, 0 where there is none, and puts the answer's
 // two values into the first 16 bytes of the slot; a shorter slot gives 13 before all else.
+#![tactic(auto)]
+
 ghost use Rattle.std.specs.Prelude.{◌≡◌};
 ghost use Rattle.checksum.specs.Lookup3.{hashlittle};
 ghost use Rattle.c_slot.specs.Slot.{slotNumber, slotBytes};

@@ -1,4 +1,6 @@
 // Writing the managed blocks of a fractal heap: `serialize` plans anew and writes the region of the plan.
+#![tactic(auto)]
+
 ghost use Rattle.region_blocks.specs.Site.{siteOf};
 ghost use Rattle.fractal_heap_write.specs.Serialize.{memory, call_of, Serialized};
 

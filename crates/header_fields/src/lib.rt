@@ -1,5 +1,7 @@
 // The fields of a heap's header, read in groups where they stand: its front, the numbers of objects, the doubling
 // table, the root block. Public for `fractal_heap` alone, which has tested that they are there.
+#![tactic(auto)]
+
 ghost use Rattle.std.specs.Prelude.{◌≡◌, true, ℕ, ◌+◌, ◌≤◌, length};
 ghost use Rattle.little_endian.specs.Widths.{legal};
 ghost use Rattle.header_layout.specs.FieldList.{headerEnd};

@@ -1,5 +1,7 @@
 // What frames a heap's header: its signature and version, and its checksum. Public for `header_layout` alone, which
 // knows where the checksum stands.
+#![tactic(auto)]
+
 ghost use Rattle.std.specs.Prelude.{◌≡◌, ◌≤◌, length};
 ghost use Rattle.header_frame.specs.Frame.{startChecked, sumChecked};
 

@@ -1,5 +1,7 @@
 // The tests of a heap's header in the original's order: each field is tested where the original reads it,
 // and a width where it first reads with it. The definitions say where the fields stand.
+#![tactic(auto)]
+
 mod ends;
 
 ghost use Rattle.std.specs.Prelude.{◌≡◌, ◌+◌, ◌≤◌, length};

@@ -1,4 +1,6 @@
 // Decoding heap IDs: the type of an ID (`types`), and the heap offset and the length in a managed one.
+#![tactic(auto)]
+
 pub mod types;
 
 ghost use Rattle.std.specs.Prelude.{◌≡◌, ◌^◌, ◌%◌, ◌/◌, ◌<◌, length};

@@ -1,4 +1,6 @@
 // Tiny objects: each lies in its heap ID.
+#![tactic(auto)]
+
 ghost use Rattle.std.specs.Prelude.{◌≡◌, ◌+◌, ◌^◌, ◌<◌};
 ghost use Rattle.id_tiny.specs.Tiny.{tinyIn, tinyAt};
 

@@ -1,5 +1,7 @@
 // The writer of managed heap IDs at the fixed geometry: eight bytes, of which the first, Version and Type, is 0, five
 // hold the object's heap offset and two its length.
+#![tactic(auto)]
+
 mod checks;
 
 ghost use Rattle.std.specs.Prelude.{◌≡◌, ◌≤◌, length};

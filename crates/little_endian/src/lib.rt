@@ -1,5 +1,7 @@
 // Bytes as little-endian numbers: what two, four and eight bytes of a lent slice are. Public for the crates
 // above alone: the caller has tested the length.
+#![tactic(auto)]
+
 ghost use Rattle.std.specs.Prelude.{◌≡◌, true, ◌+◌, ◌≤◌, length};
 ghost use Rattle.little_endian.specs.LittleEndian.{leAt};
 ghost use Rattle.little_endian.specs.Widths.{legal};

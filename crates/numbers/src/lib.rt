@@ -1,9 +1,12 @@
 // Arithmetic on 64-bit numbers that stops at their ends, 0 and 2^64 - 1, and the smaller of two numbers.
 // Public for the crates above alone.
+#![tactic(auto)]
+
 ghost use Rattle.std.specs.Prelude.{◌≡◌, ◌+◌, ◌-◌, ◌*◌, ◌^◌, ◌<◌, min};
 ghost use Rattle.numbers.specs.Numbers.{saturated, log2};
 
 // The sum, or 2^64 - 1 where it is above.
+#[tactic(auto, unfolding(crate::specs::Numbers::saturated))]
 pub fn saturating_add(a: u64, b: u64) -> u64
     ensures { result ≡ saturated (a + b) }
 {

@@ -1,6 +1,8 @@
 // Planning the managed blocks of a fractal heap: where each object goes, which blocks are placed, and
 // what the heap header says of them. Functions with a `requires` serve our own crates and are no part of
 // the interface.
+#![tactic(auto)]
+
 ghost use Rattle.std.specs.Prelude.{◌≡◌, length};
 ghost use Rattle.table.specs.Table.{fixed};
 ghost use Rattle.plan_steps.specs.Steps.{planOffsets, planStarts};

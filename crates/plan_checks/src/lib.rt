@@ -1,4 +1,6 @@
 // The tests before any planning: the width of addresses, the places of both lists, the sizes.
+#![tactic(auto)]
+
 ghost use Rattle.std.specs.Prelude.{◌≡◌, max};
 ghost use Rattle.plan_checks.specs.Checks.{sizesChecked, placesChecked, widthChecked, inputChecked};
 

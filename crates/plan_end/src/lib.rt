@@ -1,4 +1,6 @@
 // The end of a plan: the state after the last object, and the root's rows.
+#![tactic(auto)]
+
 ghost use Rattle.std.specs.Prelude.{◌≡◌};
 ghost use Rattle.table.specs.Table.{fixed};
 ghost use Rattle.plan_end.specs.End.{endState, rootRows};

@@ -1,5 +1,7 @@
 // Both lists of a plan: each object's heap offset and each placed block's start. Functions with a
 // `requires` serve our own crates and are no part of the interface.
+#![tactic(auto)]
+
 ghost use Rattle.std.specs.Prelude.{◌≡◌, ◌≤◌, max, length, drop};
 ghost use Rattle.table.specs.Table.{fixed};
 ghost use Rattle.table.specs.Sizes.{maxManaged};

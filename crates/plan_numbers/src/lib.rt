@@ -1,4 +1,6 @@
 // A plan's answer as numbers in a lent list, for the C functions over planning and writing.
+#![tactic(auto)]
+
 ghost use Rattle.std.specs.Prelude.{◌≡◌, ◌∷◌, [], ◌≤◌, length};
 ghost use Rattle.little_endian.specs.LittleEndian.{put};
 ghost use Rattle.plan.specs.Answer.{numbers, plannedNumber};

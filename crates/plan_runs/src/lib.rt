@@ -1,5 +1,7 @@
 // The run over all sizes: a block is opened, filled with the objects that fit, and so on. No list is written here.
 // Functions with a `requires` serve our own crates and are no part of the interface.
+#![tactic(auto)]
+
 ghost use Rattle.std.specs.Prelude.{◌≡◌, ◌≤◌, length};
 ghost use Rattle.table.specs.Table.{fixed};
 ghost use Rattle.table.specs.Sizes.{maxManaged};

@@ -1,5 +1,7 @@
 // The place of one object: in the current block, or in the next slot that is large enough, which is searched for
 // here. Functions with a `requires` serve our own crates and are no part of the interface.
+#![tactic(auto)]
+
 ghost use Rattle.std.specs.Prelude.{◌≡◌, ◌+◌, ◌^◌, ◌≤◌};
 ghost use Rattle.table.specs.Table.{fixed};
 ghost use Rattle.table.specs.Sizes.{directHeader, maxManaged};

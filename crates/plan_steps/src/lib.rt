@@ -1,5 +1,7 @@
 // Planning object by object: where planning stands, and the state after an object in the current block or in a new
 // one. Functions with a `requires` serve our own crates and are no part of the interface.
+#![tactic(auto)]
+
 ghost use Rattle.std.specs.Prelude.{◌≡◌, ◌+◌, ◌≤◌, ltb};
 ghost use Rattle.table.specs.Table.{fixed};
 ghost use Rattle.plan_steps.specs.Steps.{filled, inNew, initial};

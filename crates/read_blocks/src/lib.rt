@@ -1,5 +1,7 @@
 // The blocks of a heap as its reader meets them: the slot of a row that holds a heap offset, the child in it, and where
 // an object is found. The functions but `answer` are public for the crates above alone.
+#![tactic(auto)]
+
 ghost use Rattle.std.specs.Prelude.{◌≡◌};
 ghost use Rattle.read_blocks.specs.Blocks.{holdsOffset, childOf, foundAnswer};
 

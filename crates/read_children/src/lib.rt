@@ -1,4 +1,6 @@
 // The child of an indirect block that holds a heap offset, sought row by row.
+#![tactic(auto)]
+
 mod rows;
 
 ghost use Rattle.std.specs.Prelude.{◌≡◌};

@@ -1,6 +1,8 @@
 // The doubling table as the header of a heap gives it, whatever its numbers are: the sizes of its rows,
 // where the direct rows end, and what a nested block has and spans. A size that would pass 2^64 - 1
 // counts as that number.
+#![tactic(auto)]
+
 ghost use Rattle.std.specs.Prelude.{◌≡◌, ◌≤◌, ◌<◌};
 ghost use Rattle.read_rows.specs.Rows.{blockSize, directRows, sizeToRows, heapSize, slotSize};
 

@@ -1,4 +1,6 @@
 // From the root block of a heap down to an object's bytes. Block checksums are not tested.
+#![tactic(auto)]
+
 mod direct;
 
 ghost use Rattle.std.specs.Prelude.{◌≡◌};

@@ -1,4 +1,6 @@
 // Why a call is refused: the causes, and the number and two values that each is reported by.
+#![tactic(auto)]
+
 ghost use Rattle.std.specs.Prelude.{◌≡◌};
 ghost use Rattle.refusals.specs.Refusals.{answer, refusal};
 

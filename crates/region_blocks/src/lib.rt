@@ -1,6 +1,8 @@
 // What the blocks of a fractal heap are stored with: numbers, runs, copies, and the head that both kinds begin with.
 // The functions have a `requires`, since their callers know the room that there is; they serve our own crates and
 // are no part of the interface.
+#![tactic(auto)]
+
 pub mod direct;
 pub mod indirect;
 

@@ -1,6 +1,8 @@
 // The direct blocks of a region, in heap order. The objects of a block are contiguous among the joined bytes, so
 // each block is one copy. The functions have a `requires` and serve our own crates; they are no part of the
 // interface.
+#![tactic(auto)]
+
 ghost use Rattle.std.specs.Prelude.{◌≡◌, ◌+◌, ◌≤◌, length};
 ghost use Rattle.table.specs.Table.{fixed};
 ghost use Rattle.table.specs.Sizes.{maxManaged};

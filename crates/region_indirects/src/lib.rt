@@ -1,6 +1,8 @@
 // The indirect blocks of a region: a block walks its slots, and an indirect slot opens a block, which is written
 // before the walk goes on. The entries of a block are written on the way back, when its place is known. The
 // functions have a `requires` and serve our own crates; they are no part of the interface.
+#![tactic(auto)]
+
 pub mod cursor;
 
 ghost use Rattle.std.specs.Prelude.{◌+◌, ◌-◌, ◌*◌, ◌^◌, ◌<◌, ◌≤◌, length};

@@ -1,5 +1,7 @@
 // The whole way of a run: its region is written into a part of a file, every nonempty object gets its ID and is read
 // by it, and its bytes are compared. The contract says that all of them come back.
+#![tactic(auto)]
+
 ghost use Rattle.std.specs.Prelude.{◌≡◌};
 ghost use Rattle.region_blocks.specs.Site.{siteOf};
 ghost use Rattle.fractal_heap_write.specs.Serialize.{memory, call_of};

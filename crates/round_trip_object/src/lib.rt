@@ -1,4 +1,6 @@
 // One object of a written heap, read back by its ID and compared with the bytes that it was written from.
+#![tactic(auto)]
+
 ghost use Rattle.std.specs.Prelude.{◌≡◌};
 ghost use Rattle.round_trip_object.specs.Back.{sameBytes, holdsAt, comesBack};
 

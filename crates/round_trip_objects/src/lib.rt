@@ -1,4 +1,6 @@
 // All objects of a written heap, read back by their IDs and compared: how many come back.
+#![tactic(auto)]
+
 ghost use Rattle.std.specs.Prelude.{◌≡◌, ◌+◌, min};
 ghost use Rattle.round_trip_objects.specs.Backs.{backOne, backs};
 

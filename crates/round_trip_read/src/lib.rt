@@ -1,4 +1,6 @@
 // One object of a written heap, read by the ID that the ID writer gives it.
+#![tactic(auto)]
+
 ghost use Rattle.std.specs.Prelude.{◌≡◌};
 ghost use Rattle.round_trip_read.specs.Objects.{fixedHeader, objectAt};
 

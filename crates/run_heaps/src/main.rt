@@ -1,6 +1,8 @@
 // Plans the scope's worked heaps, lists at every width, lists that are refused and pseudo-random ones,
 // and prints a line for each: its width and sizes, then the eight totals or the refusal, then what the
 // two lists hold. The file stdout beside src/ holds what the original answers.
+#![tactic(auto)]
+
 ghost use Rattle.std.specs.Prelude.{◌<◌, ◌≤◌};
 
 use plan::{ManagedPlan, Planned};

@@ -6,6 +6,8 @@
 // size (1), length size (1), offset size of the read (1), heap ID length (2), bytes of the file (4), bytes
 // of the ID (4), the header's place (8), the refusal's number (4), n (1); then n words of 8 bytes, the
 // file, the ID. An accepted parse has twelve words, the header's fields; any other answer has two values.
+#![tactic(auto)]
+
 ghost use Rattle.std.specs.Prelude.{◌≡◌, ◌+◌, ◌^◌, ◌≤◌, ◌<◌, length};
 ghost use Rattle.run_reads.specs.Case.{Whole, Within};
 

@@ -2,6 +2,8 @@
 // blocks, and makes calls that are refused. It prints for each what is given, the eight totals or the refusal,
 // what the two lists hold, and the lookup3 of the lent bytes that are not written; then of a region its lookup3,
 // its first bytes and its root. The file stdout beside src/ holds what the original answers.
+#![tactic(auto)]
+
 ghost use Rattle.std.specs.Prelude.{◌≤◌};
 
 use checksum::jenkins_lookup3;

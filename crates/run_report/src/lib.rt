@@ -1,5 +1,7 @@
 // What the programs print with: text, numbers, bytes, lists and answers; and the pseudo-random bytes that they
 // work on. It serves the programs alone: what is printed is held to a recorded file, and no contract can speak of it.
+#![tactic(auto)]
+
 ghost use Rattle.std.specs.Prelude.{◌≡◌, length};
 ghost use Rattle.run_report.specs.Sequence.{bytesAfter};
 

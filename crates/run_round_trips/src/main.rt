@@ -3,6 +3,8 @@
 // marks, or what an earlier list left there. It prints for each list what is given; the number of objects, how many
 // nonempty ones come back with all their bytes, the lookup3 of the joined IDs and of the file; and for each empty
 // object what reading answers. The file stdout beside src/ holds what the original answers.
+#![tactic(auto)]
+
 use checksum::jenkins_lookup3;
 use fractal_heap::header::FractalHeapHeader;
 use id_write::write_managed_id;

@@ -1,6 +1,8 @@
 // Runs the published vectors of lookup3.c and the recorded answers of the original Rust: checksums of
 // every length from 0 to 200 and of some long ones, fields read and stored at every kind of place and
 // width. The file stdout beside src/ holds what the original answers.
+#![tactic(auto)]
+
 ghost use Rattle.std.specs.Prelude.{◌≡◌, length};
 
 use checksum::jenkins_lookup3;

@@ -1,4 +1,6 @@
 // Little-endian stores into a lent slice: addresses, bounds-checked, and any number of bytes.
+#![tactic(auto)]
+
 ghost use Rattle.std.specs.Prelude.{◌≡◌, ◌+◌, ◌≤◌, length};
 ghost use Rattle.little_endian.specs.LittleEndian.{le, put};
 ghost use Rattle.stores.specs.Stores.{storeChecked, offsetStored, undefStored};

@@ -2,6 +2,8 @@
 // direct block 65,536, heap space 2^40. The definitions in specs/ have the table as a parameter; they also serve the
 // functions of table_rows, table_sizes, table_slots and table_capacity.
 // Functions with a `requires` serve our own crates and are no part of the interface.
+#![tactic(auto)]
+
 ghost use Rattle.std.specs.Prelude.{◌≡◌, ◌^◌, ◌<◌, ◌≤◌, leb};
 ghost use Rattle.table.specs.Table.{fixed, rowBits, rowOffset, row_of, place_of};
 

@@ -1,5 +1,7 @@
 // How many object bytes the rows of the table hold. Functions with a `requires` serve our own crates and are
 // no part of the interface.
+#![tactic(auto)]
+
 ghost use Rattle.std.specs.Prelude.{◌≡◌, ◌-◌, ◌*◌, ◌^◌, ◌<◌, ◌≤◌, cond, leb, take};
 ghost use Rattle.table.specs.Table.{fixed, rowBits};
 ghost use Rattle.table.specs.Sizes.{directHeader};

@@ -1,5 +1,7 @@
 // How many rows an indirect block has that spans so many bytes, and how many a root needs to reach so far. Functions
 // with a `requires` serve our own crates and are no part of the interface.
+#![tactic(auto)]
+
 ghost use Rattle.std.specs.Prelude.{◌≡◌, ◌^◌, ◌≤◌};
 ghost use Rattle.table.specs.Table.{fixed, row_of, covering};
 

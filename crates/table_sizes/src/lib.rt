@@ -1,5 +1,7 @@
 // The sizes of block headers, of the largest object and of indirect blocks at the fixed geometry. The function
 // with a `requires` serves our own crates and is no part of the interface.
+#![tactic(auto)]
+
 ghost use Rattle.std.specs.Prelude.{◌≡◌, ◌^◌, ◌<◌};
 ghost use Rattle.table.specs.Table.{fixed};
 ghost use Rattle.table.specs.Sizes.{directHeader, maxManaged, indirectSize};

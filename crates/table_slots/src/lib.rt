@@ -1,5 +1,7 @@
 // The slots of the table: the one that holds an offset, and the indirect blocks that a direct block opens.
 // The functions have a `requires`; they serve our own crates and are no part of the interface.
+#![tactic(auto)]
+
 ghost use Rattle.std.specs.Prelude.{◌≡◌, ◌^◌, ◌<◌, ◌≤◌, cond, leb};
 ghost use Rattle.table.specs.Table.{fixed, row_of};
 ghost use Rattle.table.specs.Sizes.{indirectSize};

@@ -1,4 +1,6 @@
 // The checksum as a C function, for tests, comparisons and tools. The loader's functions are apart from these.
+#![tactic(auto)]
+
 ghost use Rattle.std.specs.Prelude.{◌≡◌};
 ghost use Rattle.checksum.specs.Lookup3.{hashlittle};
 

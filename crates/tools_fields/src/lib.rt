@@ -1,6 +1,8 @@
 // C functions over the fields of a file, for tests, comparisons and tools. Each read returns the refusal's number, 0
 // where there is none, and puts the two values into the first 16 bytes of the slot; a shorter slot gives 13 before all
 // else.
+#![tactic(auto)]
+
 ghost use Rattle.std.specs.Prelude.{◌≡◌};
 ghost use Rattle.numbers.specs.Sums.{bit};
 ghost use Rattle.fields.specs.Undefined.{isUndefinedAddr};

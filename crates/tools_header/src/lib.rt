@@ -1,5 +1,7 @@
 // C functions over headers, for tests, comparisons and tools; the loader's functions are apart from these.
 // Each returns the refusal's number, 0 where there is none.
+#![tactic(auto)]
+
 ghost use Rattle.std.specs.Prelude.{◌≡◌, ◌≤◌, length};
 ghost use Rattle.little_endian.specs.LittleEndian.{put};
 ghost use Rattle.fractal_heap.specs.Header.{header_at};

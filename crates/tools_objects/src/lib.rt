@@ -1,5 +1,7 @@
 // C functions over IDs and objects, for tests, comparisons and tools; the loader's functions are apart from
 // these. Each returns the refusal's number, 0 where there is none.
+#![tactic(auto)]
+
 mod id_lists;
 
 ghost use Rattle.std.specs.Prelude.{◌≡◌};

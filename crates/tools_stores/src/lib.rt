@@ -1,5 +1,7 @@
 // C functions over stores, for tests, comparisons and tools. Each returns the refusal's number, 0 where there is none,
 // and puts the two values into the first 16 bytes of the slot; a shorter slot gives 13 before anything is stored.
+#![tactic(auto)]
+
 ghost use Rattle.std.specs.Prelude.{◌≡◌, length};
 ghost use Rattle.stores.specs.Stores.{storeChecked, offsetStored, undefStored};
 ghost use Rattle.fields.specs.Answers.{checkedAnswer};

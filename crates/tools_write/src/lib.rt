@@ -1,5 +1,7 @@
 // Planning, writing a region and writing a managed ID as C functions, for tests, comparisons and tools; no part of
 // the loader's interface.
+#![tactic(auto)]
+
 ghost use Rattle.std.specs.Prelude.{◌≡◌, cond, length, ltb};
 ghost use Rattle.fields.specs.Answers.{checkedAnswer};
 ghost use Rattle.c_slot.specs.Slot.{slotNumber, slotBytes};

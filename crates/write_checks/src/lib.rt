@@ -1,4 +1,6 @@
 // The writer's answer: planning's, then that of the tests between planning and writing. Nothing is written here.
+#![tactic(auto)]
+
 mod output;
 
 ghost use Rattle.std.specs.Prelude.{◌≡◌};
