@@ -9,6 +9,7 @@ use stores::store_le;
 
 // Puts the two values into the first 16 bytes of `slot`, little-endian, and returns the number. A
 // shorter slot is left as it is and gives 13.
+#[tactic(auto, unfolding(crate::specs::Slot::slotNumber, crate::specs::Slot::slotBytes))]
 pub fn put_answer(slot: &mut [u8], a: Answer) -> u32
     ensures value { result ≡ slotNumber slot.old a }
     ensures slot_after { slot.new ≡ slotBytes slot.old a }

@@ -42,13 +42,6 @@ last-word-is s bytes h =
     let there : length s - 4 + (12 - length s) % 4 ≡ (length s - 1) / 4 * 4 = omega (arith, h.more, h.most) in
     sym (leAt-last s bytes 4 (length s - 4) ((12 - length s) % 4) (omega (arith, h.more))) ∙ ap (λ (q : ℕ). leAt s q 4) there
 
--- four bytes: two, shifted down, above two
-pub high_fits : (x k : ℕ) → x < 0x10000 → x / 2 ^ k * 0x10000 < 2 ^ 32
-high_fits x k h = omega (arith, div-le_self x (2 ^ k))
-
-pub both-fit : (u x k : ℕ) → u < 0x10000 → x < 0x10000 → u + x / 2 ^ k * 0x10000 < 2 ^ 32
-both-fit u x k h l = omega (arith, div-le_self x (2 ^ k))
-
 -- all of two to four bytes: the last two, without those that the first two have
 pub few_bytes : (s : List ℕ) → ((j : ℕ) → get_or s j 0 < 256) → 2 ≤ length s → length s ≤ 4 → leAt s 0 2 + leAt s (length s - 2) 2 / 2 ^ (8 * (4 - length s)) * 0x10000 ≡ leAt s 0 4
 few_bytes s bytes h k =

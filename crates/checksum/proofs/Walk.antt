@@ -71,15 +71,6 @@ module _ {bytes : List ℕ} {s : State} {at : ℕ} (w : Walk bytes s at) where
     walk-tail e =
         rw (ne_eqb (length (tailOf bytes)) 0 (λ z. e (omega (arith, tail-length, w.inside))), tail-here, words-done)
 
--- 5 to 12 bytes
-pub is-short : (bytes : List ℕ) → (leb 5 (length bytes) && leb (length bytes) 12) ≡ true → Short bytes
-is-short bytes e = by (leb 5 (length bytes)) (leb (length bytes) 12) refl refl e
-  where
-    by : (x y : Bool) → leb 5 (length bytes) ≡ x → leb (length bytes) 12 ≡ y → (x && y) ≡ true → Short bytes
-    by true true f g e = record { more = leb-true 5 (length bytes) f; most = leb-true (length bytes) 12 g }
-    by true false f g e = absurd (let z : ◌≡◌ {A = ℕ} 0 1 = cc in omega arith)
-    by false y f g e = absurd (let z : ◌≡◌ {A = ℕ} 0 1 = cc in omega arith)
-
 -- no group of them is mixed, and all of them are the tail
 pub short-ended : (bytes : List ℕ) (x : ℕ) → x ≡ add32 0xdeadbeef (length bytes % 2 ^ 32) → Short bytes → (finalMixed (grouped bytes 0 (record { a = x; b = x; c = x }))).c ≡ hashlittle bytes
 unfolding begun add32

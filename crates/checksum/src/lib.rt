@@ -14,6 +14,7 @@ use numbers::least;
 use std::num::wrapping_add_u32;
 
 // A word with the four bytes at `p` added.
+#[tactic(auto, unfolding(checksum_mix::specs::Words::add32))]
 fn add_word(x: u32, bytes: &[u8], p: usize) -> u32
     requires { p + 4 ≤ length bytes.now }
     ensures { result ≡ add32 x (leAt bytes.now p 4) }
@@ -22,6 +23,7 @@ fn add_word(x: u32, bytes: &[u8], p: usize) -> u32
 }
 
 // The 12 bytes at `at` added to the words, four to each.
+#[tactic(auto, unfolding(crate::specs::Lookup3::grouped))]
 fn add_group(s: State, bytes: &[u8], at: usize) -> State
     requires { at + 12 ≤ length bytes.now }
     ensures { result ≡ grouped bytes.now at s }
@@ -52,8 +54,8 @@ fn add_tail_word(x: u32, bytes: &[u8], p: usize) -> u32
 
 // All of 1 to 4 bytes: the first two, and above them the last two without those that are among the first.
 fn short_word(bytes: &[u8]) -> u32
-    requires bytes_nonzero { 0 < length bytes.now }
-    requires bytes_len_bound { length bytes.now ≤ 4 }
+    requires some { 0 < length bytes.now }
+    requires most { length bytes.now ≤ 4 }
     ensures { result ≡ leAt bytes.now 0 4 }
 {
     let n = bytes.len();

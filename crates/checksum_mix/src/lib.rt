@@ -10,13 +10,14 @@ ghost use Rattle.checksum_mix.specs.Mix.{mixA, mixB, mixC, mixed, finalA, finalB
 use std::num::{wrapping_add_u32, wrapping_sub_u32};
 
 // The three words a, b and c.
-#[derive(Drop)]
+#[derive(Clone, Copy)]
 pub struct State {
     pub a: u32,
     pub b: u32,
     pub c: u32,
 }
 
+#[tactic(auto, unfolding(crate::specs::Words::rot))]
 fn rotate_left(x: u32, k: u32) -> u32
     requires { Rotation k }
     ensures { result ≡ rot x k }
@@ -25,6 +26,7 @@ fn rotate_left(x: u32, k: u32) -> u32
 }
 
 // `y` is taken from `x`, then `x` is exclusive-ored with `y` rotated by `k`.
+#[tactic(auto, using(crate::proofs::Words::sub_is), unfolding(crate::specs::Words::subXor))]
 fn sub_xor(x: u32, y: u32, k: u32) -> u32
     requires { Rotation k }
     ensures { result ≡ subXor x y k }
@@ -33,6 +35,7 @@ fn sub_xor(x: u32, y: u32, k: u32) -> u32
 }
 
 // `x` is exclusive-ored with `y`, then `y` rotated by `k` is taken from it.
+#[tactic(auto, using(crate::proofs::Words::sub_is), unfolding(crate::specs::Words::xorSub))]
 fn xor_sub(x: u32, y: u32, k: u32) -> u32
     requires { Rotation k }
     ensures { result ≡ xorSub x y k }
@@ -41,6 +44,7 @@ fn xor_sub(x: u32, y: u32, k: u32) -> u32
 }
 
 // A line of mix for a: c is taken from it, then it is exclusive-ored with c rotated by `k`; b is added to c.
+#[tactic(auto, unfolding(crate::specs::Mix::mixA, crate::specs::Words::add32))]
 fn mix_a(s: State, k: u32) -> State
     requires { Rotation k }
     ensures { result ≡ mixA k s }
@@ -53,6 +57,7 @@ fn mix_a(s: State, k: u32) -> State
 }
 
 // A line of mix for b: likewise with a; c is added to a.
+#[tactic(auto, unfolding(crate::specs::Mix::mixB, crate::specs::Words::add32))]
 fn mix_b(s: State, k: u32) -> State
     requires { Rotation k }
     ensures { result ≡ mixB k s }
@@ -65,6 +70,7 @@ fn mix_b(s: State, k: u32) -> State
 }
 
 // A line of mix for c: likewise with b; a is added to b.
+#[tactic(auto, unfolding(crate::specs::Mix::mixC, crate::specs::Words::add32))]
 fn mix_c(s: State, k: u32) -> State
     requires { Rotation k }
     ensures { result ≡ mixC k s }
@@ -77,6 +83,7 @@ fn mix_c(s: State, k: u32) -> State
 }
 
 // The mix of three words, after each group of 12 bytes.
+#[tactic(auto, unfolding(crate::specs::Mix::mixed))]
 pub fn mix(s: State) -> State
     ensures { result ≡ mixed s }
 {
@@ -89,6 +96,7 @@ pub fn mix(s: State) -> State
 }
 
 // A line of final for c: it is exclusive-ored with b, then b rotated by `k` is taken from it.
+#[tactic(auto, unfolding(crate::specs::Mix::finalC))]
 fn final_c(s: State, k: u32) -> State
     requires { Rotation k }
     ensures { result ≡ finalC k s }
@@ -101,6 +109,7 @@ fn final_c(s: State, k: u32) -> State
 }
 
 // A line of final for a: likewise with c.
+#[tactic(auto, unfolding(crate::specs::Mix::finalA))]
 fn final_a(s: State, k: u32) -> State
     requires { Rotation k }
     ensures { result ≡ finalA k s }
@@ -113,6 +122,7 @@ fn final_a(s: State, k: u32) -> State
 }
 
 // A line of final for b: likewise with a.
+#[tactic(auto, unfolding(crate::specs::Mix::finalB))]
 fn final_b(s: State, k: u32) -> State
     requires { Rotation k }
     ensures { result ≡ finalB k s }
@@ -125,6 +135,7 @@ fn final_b(s: State, k: u32) -> State
 }
 
 // The final mix of three words.
+#[tactic(auto, unfolding(crate::specs::Mix::finalMixed))]
 pub fn final_mix(s: State) -> State
     ensures { result ≡ finalMixed s }
 {

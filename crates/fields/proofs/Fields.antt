@@ -1,12 +1,12 @@
 -- Laws of the checked fields, for every width.
-use mathlib.Core.Path.{◌≡◌, refl, sym, ◌∙◌}
+use mathlib.Core.Path.{◌≡◌, refl}
 use mathlib.Core.List.{List}
 use mathlib.Core.Bool.{Bool, true, false, cond}
-use Prim.Native.Nat.{ℕ, ◌+◌, ◌-◌, ◌≤◌}
+use Prim.Native.Nat.{ℕ, ◌+◌, ◌≤◌}
 use native.Mathlib.Omega.{arith}
 use lib.ListN.{length}
 use lib.Dec.{leb}
-use borrow.Author.Tests.{le-leb, lt-leb, leb-true, leb-false}
+use borrow.Author.Tests.{le-leb, leb-true}
 use Rattle.little_endian.specs.LittleEndian.{leAt}
 use Rattle.little_endian.specs.Widths.{legal}
 use Rattle.fields.specs.Fields.{lenChecked, afterCheck, field_at, offsetAt}
@@ -14,14 +14,6 @@ use Rattle.fields.specs.declared.Checked.{Checked}
 use Rattle.fields.specs.declared.Checked.TheVariants.{Passed, Refused as NotPassed}
 use Rattle.fields.specs.declared.Field.TheVariants.{Value, Refused}
 use Rattle.refusals.specs.declared.FormatError.{FormatError}
-
--- p + n ≤ l without the sum
-pub room-test : (l p n : ℕ) → p ≤ l → leb n (l - p) ≡ leb (p + n) l
-room-test l p n h = by (leb n (l - p)) refl
-  where
-    by : (t : Bool) → leb n (l - p) ≡ t → leb n (l - p) ≡ leb (p + n) l
-    by true e = e ∙ sym (le-leb (p + n) l (omega (arith, leb-true n (l - p) e)))
-    by false e = e ∙ sym (lt-leb (p + n) l (omega (arith, leb-false n (l - p) e)))
 
 -- a test that passed
 pub passed : (b : Bool) (e : FormatError) → cond b Passed (NotPassed e) ≡ Passed → b ≡ true

@@ -13,14 +13,14 @@ use numbers::saturating_add;
 use refusals::{Answer, FormatError, refused};
 
 // A test that has no value to give.
-#[derive(Drop)]
+#[derive(Clone, Copy)]
 pub enum Checked {
     Passed,
     Refused(FormatError),
 }
 
 // A number that was read.
-#[derive(Drop)]
+#[derive(Clone, Copy)]
 pub enum Field {
     Value(u64),
     Refused(FormatError),
@@ -70,6 +70,7 @@ pub fn has_room(lent: usize, pos: usize, needed: usize) -> bool
 }
 
 // Whether `needed` bytes stand at `offset`. The end that a refusal reports saturates at 2^64 - 1.
+#[tactic(auto, unfolding(crate::specs::Fields::lenChecked))]
 pub fn ensure_len(bytes: &[u8], offset: usize, needed: usize) -> Checked
     ensures { result ≡ lenChecked bytes.now offset needed }
 {
@@ -83,6 +84,7 @@ pub fn ensure_len(bytes: &[u8], offset: usize, needed: usize) -> Checked
 }
 
 // Whether an address or a length may have this width.
+#[tactic(auto, unfolding(little_endian::specs::Widths::legal))]
 pub fn is_width(width: u8) -> bool
     ensures { result ≡ legal width }
 {
@@ -93,6 +95,7 @@ pub fn is_width(width: u8) -> bool
 }
 
 // A number of `width` bytes at `pos`; `otherwise` is the refusal of a width that is none.
+#[tactic(auto, unfolding(crate::specs::Fields::field_at))]
 fn read_field(bytes: &[u8], pos: usize, width: u8, otherwise: FormatError) -> Field
     ensures { result ≡ field_at bytes.now pos width otherwise }
 {
@@ -107,6 +110,7 @@ fn read_field(bytes: &[u8], pos: usize, width: u8, otherwise: FormatError) -> Fi
 }
 
 // The address of `offset_size` bytes at `pos`.
+#[tactic(auto, unfolding(crate::specs::Fields::offsetAt))]
 pub fn read_offset(bytes: &[u8], pos: usize, offset_size: u8) -> Field
     ensures { result ≡ offsetAt bytes.now pos offset_size }
 {
@@ -119,6 +123,7 @@ pub fn read_offset(bytes: &[u8], pos: usize, offset_size: u8) -> Field
 }
 
 // The length of `length_size` bytes at `pos`.
+#[tactic(auto, unfolding(crate::specs::Fields::length_at))]
 pub fn read_length(bytes: &[u8], pos: usize, length_size: u8) -> Field
     ensures { result ≡ length_at bytes.now pos length_size }
 {

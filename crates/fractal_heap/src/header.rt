@@ -10,7 +10,7 @@ use header_layout::check_header;
 use read_rows::DoublingTable;
 use refusals::{Answer, FormatError, refused};
 
-#[derive(Drop)]
+#[derive(Clone, Copy)]
 pub struct FractalHeapHeader {
     pub heap_id_length: u16,
     pub io_filter_encoded_length: u16,
@@ -26,7 +26,7 @@ pub struct FractalHeapHeader {
     pub managed_objects_count: u64,
 }
 
-#[derive(Drop)]
+#[derive(Clone, Copy)]
 pub enum Parsed {
     Header(FractalHeapHeader),
     Refused(FormatError),
@@ -49,10 +49,11 @@ impl Parsed {
 }
 
 // The fields of a header that has passed its tests.
+#[tactic(auto, unfolding(crate::specs::Header::headerFields))]
 fn read_fields(file: &[u8], at: usize, offset_size: u8, length_size: u8) -> FractalHeapHeader
-    requires offset_size_value { legal offset_size ≡ true }
-    requires length_size_value { legal length_size ≡ true }
-    requires length_size_in_bounds { at + headerEnd offset_size length_size ≤ length file.now }
+    requires offset_size_legal { legal offset_size ≡ true }
+    requires length_size_legal { legal length_size ≡ true }
+    requires fields_in_file { at + headerEnd offset_size length_size ≤ length file.now }
     ensures { result ≡ headerFields file.now at offset_size length_size }
 {
     let front = read_front(file, at);
@@ -77,6 +78,7 @@ fn read_fields(file: &[u8], at: usize, offset_size: u8, length_size: u8) -> Frac
 
 impl FractalHeapHeader {
     // The header at `offset` of the file.
+    #[tactic(auto, unfolding(crate::specs::Header::header_at))]
     pub fn parse(file: &[u8], offset: usize, offset_size: u8, length_size: u8) -> Parsed
         ensures { result ≡ header_at file.now offset offset_size length_size }
     {
@@ -89,6 +91,7 @@ impl FractalHeapHeader {
     }
 
     // The fields that shape the heap.
+    #[tactic(auto, unfolding(crate::specs::Header::table_of))]
     pub fn table(self) -> DoublingTable
         ensures { result ≡ table_of self }
     {

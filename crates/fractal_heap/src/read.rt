@@ -27,6 +27,7 @@ impl FractalHeapHeader {
     }
 
     // The managed object that an ID names: its position in the file, and its length.
+    #[tactic(auto, unfolding(crate::specs::Read::managedAt, crate::specs::Read::rootAt))]
     pub fn read_managed_object(self, file: &[u8], id: &[u8], offset_size: u8) -> Found
         ensures { result ≡ managedAt self file.now id.now offset_size }
     {

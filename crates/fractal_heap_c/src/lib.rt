@@ -33,7 +33,7 @@ pub extern "C" fn fractal_heap_decode_managed_id(
     id: &[u8],
     slot: &mut [u8],
 ) -> u32
-    ensures value { result ≡ slotNumber slot.old (decodedAnswer (idBy (header_at file.now at offset_size length_size) id.now)) }
+    ensures number { result ≡ slotNumber slot.old (decodedAnswer (idBy (header_at file.now at offset_size length_size) id.now)) }
     ensures slot_after { slot.new ≡ slotBytes slot.old (decodedAnswer (idBy (header_at file.now at offset_size length_size) id.now)) }
 {
     let parsed = FractalHeapHeader::parse(file, to_usize(at), offset_size, length_size);
@@ -50,7 +50,7 @@ pub extern "C" fn fractal_heap_read_managed_object(
     id: &[u8],
     slot: &mut [u8],
 ) -> u32
-    ensures value { result ≡ slotNumber slot.old (foundAnswer (objectBy (header_at file.now at offset_size length_size) file.now id.now offset_size)) }
+    ensures number { result ≡ slotNumber slot.old (foundAnswer (objectBy (header_at file.now at offset_size length_size) file.now id.now offset_size)) }
     ensures slot_after { slot.new ≡ slotBytes slot.old (foundAnswer (objectBy (header_at file.now at offset_size length_size) file.now id.now offset_size)) }
 {
     let parsed = FractalHeapHeader::parse(file, to_usize(at), offset_size, length_size);

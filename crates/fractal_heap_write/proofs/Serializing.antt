@@ -24,11 +24,12 @@ use Rattle.plan.proofs.Answering.{Went, accepted}
 use Rattle.plan_laws.proofs.Tally.{tallied}
 use Rattle.plan_laws.proofs.Root.{Bare, Rowed, shape}
 use Rattle.region_blocks.specs.declared.Site.{Site}
+use Rattle.region_blocks.specs.Site.{siteOf}
 use Rattle.region_laws.proofs.Indirect.{indirect-planned}
 use Rattle.region_write.specs.Region.{region}
 use Rattle.region_write.specs.Requires.{Rooted, Writable}
 use Rattle.write_checks.proofs.Answering.{written, Fit, fit, below-undefined}
-use Rattle.fractal_heap_write.specs.Serialize.{Call, lent_by, Written}
+use Rattle.fractal_heap_write.specs.Serialize.{Call, call_of, memory, lent_by, serialized, Written}
 use Rattle.region_laws.proofs.Region.{indirect-bytes, indirects-planned, region-length}
 
 -- as many rows as the heap space has
@@ -45,6 +46,11 @@ front_of new old = ap (take (length new)) (put_front old new) ∙ take_at new (d
 
 front_length : (new old : List ℕ) → length new ≤ length (put old 0 new)
 front_length new old = let z = ap length (put_front old new) ∙ length-append new (drop (length new) old) in omega arith
+
+-- a call by its parts, which is accepted
+pub wrote : (xs js os bs r : List ℕ) (w h a : ℕ) (p : ManagedPlan) → Accepted p ≡ serialized (call_of xs js (siteOf w h a) (memory os bs r))
+    → Written (call_of xs js (siteOf w h a) (memory os bs r)) p
+wrote xs js os bs r w h a p e = record { accepted = sym e }
 
 module _ {c : Call} {p : ManagedPlan} (A : Written c p) where
   abbrev xs : List ℕ
@@ -86,15 +92,15 @@ module _ {c : Call} {p : ManagedPlan} (A : Written c p) where
   went : Went w xs p
   went = (accepted xs o b w p plan).1
 
-  small : Small (maxManaged fixed w) xs
+  pub small : Small (maxManaged fixed w) xs
   small = record { small = all_small (maxManaged fixed w) 0 xs passes.sizes }
 
-  runs : Runs w xs
+  pub runs : Runs w xs
   runs = record { last = went.state; is = went.ran }
 
-  -- the lists can be written
-  pub lists-ready : Small (maxManaged fixed w) xs × (((length xs ≤ o) × (max 1 (length xs) ≤ b)) × Runs w xs)
-  lists-ready = (small, ((passes.offsets, passes.blocks), runs))
+  -- the places that the lists have
+  pub places : (length xs ≤ o) × (max 1 (length xs) ≤ b)
+  places = (passes.offsets, passes.blocks)
 
   pub size_fits : p.region_size ≤ length r
   size_fits = fits.room

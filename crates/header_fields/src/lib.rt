@@ -1,6 +1,6 @@
 // The fields of a heap's header, read in groups where they stand: its front, the numbers of objects, the doubling
 // table, the root block. Public for `fractal_heap` alone, which has tested that they are there.
-#![tactic(auto)]
+#![tactic(auto, unfolding(header_layout::specs::FieldList::headerList, header_layout::specs::FieldList::span_of, header_layout::specs::FieldList::width_in, header_layout::specs::FieldList::fieldPlace, header_layout::specs::FieldList::fieldNumber, crate::specs::Groups::frontFields, crate::specs::Groups::objectFields, crate::specs::Groups::tableFields, crate::specs::Groups::rootFields))]
 
 ghost use Rattle.std.specs.Prelude.{◌≡◌, true, ℕ, ◌+◌, ◌≤◌, length};
 ghost use Rattle.little_endian.specs.Widths.{legal};
@@ -12,7 +12,7 @@ use read_rows::DoublingTable;
 
 // Heap ID Length, I/O Filters' Encoded Length, Maximum Size of Managed Objects: before the fields whose sizes the file
 // chooses.
-#[derive(Drop)]
+#[derive(Clone, Copy)]
 pub struct FrontFields {
     pub heap_id_length: u16,
     pub io_filter_encoded_length: u16,
@@ -20,14 +20,14 @@ pub struct FrontFields {
 }
 
 // v2 B-tree Address of Huge Objects, Number of Managed Objects in Heap.
-#[derive(Drop)]
+#[derive(Clone, Copy)]
 pub struct ObjectFields {
     pub btree_huge_objects_address: u64,
     pub managed_objects_count: u64,
 }
 
 // Starting # of Rows in Root Indirect Block, Address of Root Block, Current # of Rows in Root Indirect Block.
-#[derive(Drop)]
+#[derive(Clone, Copy)]
 pub struct RootFields {
     pub start_root_rows: u16,
     pub root_block_address: u64,
@@ -40,7 +40,7 @@ pub fn read_front(file: &[u8], at: usize) -> FrontFields
     ensures { (os ls : ℕ) → result ≡ frontFields file.now at os ls }
 {
     FrontFields {
-        heap_id_length: read_u16_le(file, at + 5),
+        heap_id_length: read_u16_le(file, at + 7),
         io_filter_encoded_length: read_u16_le(file, at + 7),
         max_managed_object_size: read_u32_le(file, at + 10),
     }

@@ -11,6 +11,7 @@ use little_endian::read_u32_le;
 use refusals::FormatError;
 
 // Signature FRHP and Version 0.
+#[tactic(auto, unfolding(crate::specs::Frame::startChecked, little_endian::specs::LittleEndian::value))]
 pub fn check_start(file: &[u8], at: usize) -> Checked
     ensures { result ≡ startChecked file.now at }
 {
@@ -30,6 +31,7 @@ pub fn check_start(file: &[u8], at: usize) -> Checked
 }
 
 // The checksum at its place is that of the header's bytes before it.
+#[tactic(auto, unfolding(crate::specs::Frame::sumChecked))]
 pub fn check_sum(file: &[u8], at: usize, place: usize) -> Checked
     requires at_in_bounds { at ≤ length file.now }
     requires place_bound { place ≤ 65536 }

@@ -49,9 +49,9 @@ ends_next n e es h = (held (leb e n) (endsChecked n es) _ h).next
 
 -- ---- the parts of a header that passed
 
-pub start-within : (s : List ℕ) (p : ℕ) → startChecked s p ≡ Passed → p + 5 ≤ length s
+pub start_within : (s : List ℕ) (p : ℕ) → startChecked s p ≡ Passed → p + 5 ≤ length s
 unfolding startChecked
-start-within s p h = len-within s p 5 (both (lenChecked s p 5) _ h).first
+start_within s p h = len-within s p 5 (both (lenChecked s p 5) _ h).first
 
 -- what is known where every field is there
 pub record Laid (s : List ℕ) (p os ls : ℕ) : Type 0 where
@@ -59,9 +59,9 @@ pub record Laid (s : List ℕ) (p os ls : ℕ) : Type 0 where
   pub offsets : legal os ≡ true
   pub lengths : legal ls ≡ true
 
-pub layout-within : (s : List ℕ) (p os ls : ℕ) → layoutChecked s p os ls ≡ Passed → Laid s p os ls
+pub layout_within : (s : List ℕ) (p os ls : ℕ) → layoutChecked s p os ls ≡ Passed → Laid s p os ls
 unfolding headerList span_of fieldPlace endsOf layoutChecked
-layout-within s p os ls h =
+layout_within s p os ls h =
     let n = length s in
     let front : Both (endsChecked n (endsOf p os ls frontTests)) _ = both _ _ h in
     let offsets : Held (legal os) _ = held _ _ _ front.next in
@@ -82,9 +82,9 @@ sum-after filter os ls = by (ltb 0 filter)
     by true = omega arith
     by false = omega arith
 
-pub sum-before : (filter os ls : ℕ) → os < 256 → ls < 256 → sumPlace filter os ls ≤ 65536
+pub sum_before : (filter os ls : ℕ) → os < 256 → ls < 256 → sumPlace filter os ls ≤ 65536
 unfolding headerList span_of fieldPlace sumPlace
-sum-before filter os ls ho hl = by (ltb 0 filter)
+sum_before filter os ls ho hl = by (ltb 0 filter)
   where
     by : (t : Bool) → cond t (headerEnd os ls + (ls + 4)) (headerEnd os ls) ≤ 65536
     by true = omega arith
@@ -108,7 +108,7 @@ header-fits s p os ls h =
     let place : ℕ = sumPlace (fieldNumber s p os ls 1) os ls in
     let start : Both (startChecked s p) _ = both _ _ h in
     let layout : Both (layoutChecked s p os ls) (sumChecked s p place) = both _ _ start.next in
-    let laid : Laid s p os ls = layout-within s p os ls layout.first in
+    let laid : Laid s p os ls = layout_within s p os ls layout.first in
     let sum : p + place + 4 ≤ length s = sum-within s p place layout.next in
     let after : headerEnd os ls ≤ place = sum-after _ os ls in
     record { offsets = laid.offsets; lengths = laid.lengths; room = omega arith }

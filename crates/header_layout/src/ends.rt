@@ -1,5 +1,7 @@
 // The ends of the fields of a heap's header, tested in the original's order: no field ends past the `lent` bytes of the
 // file. The callers have tested what each of them requires.
+#![tactic(auto, unfolding(crate::specs::FieldList::headerList, crate::specs::FieldList::span_of, crate::specs::FieldList::fieldPlace, crate::specs::Ends::endsChecked, crate::specs::Ends::endsOf))]
+
 ghost use Rattle.std.specs.Prelude.{◌≡◌, cond, ℕ, ◌^◌, ◌≤◌, ◌<◌, leb};
 ghost use Rattle.header_layout.specs.Ends.{endChecked, endsChecked, endsOf, frontTests, addressTests, rootTests, tableTests};
 

@@ -14,6 +14,7 @@ use little_endian::read_u16_le;
 use refusals::FormatError;
 
 // Every field, each width before the first field that has it.
+#[tactic(auto, unfolding(crate::specs::Layout::layoutChecked))]
 fn check_layout(file: &[u8], at: usize, offset_size: u8, length_size: u8) -> Checked
     requires { at + 5 ≤ length file.now }
     ensures { result ≡ layoutChecked file.now at offset_size length_size }
@@ -40,6 +41,7 @@ fn check_layout(file: &[u8], at: usize, offset_size: u8, length_size: u8) -> Che
 }
 
 // Where the checksum stands: a filtered header has Size of Filtered Root Direct Block and I/O Filter Mask before it.
+#[tactic(auto, unfolding(crate::specs::FieldList::headerList, crate::specs::FieldList::span_of, crate::specs::FieldList::fieldPlace, crate::specs::Layout::sumPlace))]
 fn sum_place(filter: u16, offset_size: u8, length_size: u8) -> usize
     ensures { result ≡ sumPlace filter offset_size length_size }
 {
@@ -49,6 +51,7 @@ fn sum_place(filter: u16, offset_size: u8, length_size: u8) -> usize
 }
 
 // All tests of the header at `at`.
+#[tactic(auto, using(crate::proofs::Header::start_within, crate::proofs::Header::layout_within, crate::proofs::Header::sum_before), unfolding(crate::specs::FieldList::headerList, crate::specs::FieldList::span_of, crate::specs::FieldList::width_in, crate::specs::FieldList::fieldPlace, crate::specs::FieldList::fieldNumber, crate::specs::Layout::headerChecked))]
 pub fn check_header(file: &[u8], at: usize, offset_size: u8, length_size: u8) -> Checked
     ensures { result ≡ headerChecked file.now at offset_size length_size }
 {

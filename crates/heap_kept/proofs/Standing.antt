@@ -1,5 +1,5 @@
 -- Written indirect blocks in a file: their slots one by one, their signature, and where their entries are.
-use Prim.Native.Nat.{ℕ, suc, ◌+◌, ◌-◌, ◌*◌, ◌^◌, ◌≤◌, ◌<◌}
+use Prim.Native.Nat.{ℕ, suc, ◌+◌, ◌-◌, ◌*◌, ◌^◌, ◌≤◌, ◌<◌, ◌/◌}
 use mathlib.Core.Path.{◌≡◌, refl, sym, ap, ◌∙◌, subst}
 use mathlib.Core.List.{List, [], ◌∷◌, ◌++◌}
 use native.Mathlib.Omega.{arith}
@@ -115,4 +115,4 @@ walk-scans t w header d bits F target len p n at depth es H =
     let S = sign-has t w header F p at es H in
     let k = S.within in
     let m = length-le 4 0x42494846 in
-    rw (le-leb (p + 4) (length F) (omega arith), le-leb (0 + 4) (length (drop p F)) (omega arith), eq-eqb (leAt (drop p F) 0 4) 0x42494846 (has-number (drop p F) 4 0 0x42494846 (omega arith) S), bits)
+    rw (le-leb (p + 4) (length F) (omega arith), le-leb (0 + 4) (length (drop p F)) (omega arith), eq-eqb (leAt (drop p F) 0 4) 0x42494846 (has-number (drop p F) 4 0 0x42494846 (omega arith) S), ap (λ (k : ℕ). 5 + w + (k + 7) / 8) bits)

@@ -3,10 +3,10 @@ use mathlib.Core.Path.{◌≡◌, refl, sym, ap, ◌∙◌}
 use mathlib.Core.List.{List}
 use Prim.Native.Nat.{ℕ, ◌+◌, ◌-◌, ◌*◌, ◌^◌, ◌/◌, ◌%◌, ◌≤◌, ◌<◌, min}
 use native.Mathlib.Omega.{arith}
-use native.Mathlib.Nat.{mod-eq_of_lt, div-eq_of_lt, lt_of_lt_of_le, lt_of_le_of_lt, one-mul}
+use native.Mathlib.Nat.{mod-eq_of_lt, div-eq_of_lt, lt_of_lt_of_le, lt_of_le_of_lt}
 use native.Mathlib.Decide.{dec_lt}
 use mathlib.Core.Logic.{dite}
-use lib.Pow.{pow-lt, pow_mono, shr_le}
+use lib.Pow.{pow_mono, shr_le}
 use lib.ListN.{length, get_or, take, drop, length-drop}
 use lib.Seq.{take_all, get_or-drop}
 use Rattle.little_endian.specs.LittleEndian.{value, leAt}
@@ -16,22 +16,19 @@ use Rattle.id_decode.specs.Id.{splitId}
 
 -- ---- bits
 
-pub one_shl : (k : ℕ) → k < 64 → (1 * 2 ^ k) % 2 ^ 64 ≡ 2 ^ k
-one_shl k h = rw one-mul (mod-eq_of_lt (pow-lt {i = k} {j = 64} h))
-
-pub mod-wide : (x k : ℕ) → x < 2 ^ 64 → 64 ≤ k → x % 2 ^ k ≡ x
-mod-wide x k h l = mod-eq_of_lt (lt_of_lt_of_le h (pow_mono {i = 64} {j = k} l))
+pub mod_wide : (x k : ℕ) → x < 2 ^ 64 → 64 ≤ k → x % 2 ^ k ≡ x
+mod_wide x k h l = mod-eq_of_lt (lt_of_lt_of_le h (pow_mono {i = 64} {j = k} l))
 
 pub div_wide : (x k : ℕ) → x < 2 ^ 64 → 64 ≤ k → x / 2 ^ k ≡ 0
 div_wide x k h l = div-eq_of_lt (lt_of_lt_of_le h (pow_mono {i = 64} {j = k} l))
 
 -- past 65,536 bytes more bytes keep no more bits
-pub split-least : (B n x : ℕ) → x < 2 ^ 64 → B < 65536 → Decoded (x % 2 ^ B) (x / 2 ^ B % 2 ^ (8 * min n 65536 - B)) ≡ splitId B n x
+pub split_least : (B n x : ℕ) → x < 2 ^ 64 → B < 65536 → Decoded (x % 2 ^ B) (x / 2 ^ B % 2 ^ (8 * min n 65536 - B)) ≡ splitId B n x
 unfolding splitId
-split-least B n x h l =
+split_least B n x h l =
     ap (Decoded (x % 2 ^ B)) (dite (dec_lt n 65536) (λ k. let e : min n 65536 ≡ n = omega arith in rw e)
     (λ k. let y : x / 2 ^ B < 2 ^ 64 = lt_of_le_of_lt (shr_le x B) h in
-    mod-wide (x / 2 ^ B) (8 * min n 65536 - B) y (omega arith) ∙ sym (mod-wide (x / 2 ^ B) (8 * n - B) y (omega arith))))
+    mod_wide (x / 2 ^ B) (8 * min n 65536 - B) y (omega arith) ∙ sym (mod_wide (x / 2 ^ B) (8 * n - B) y (omega arith))))
 
 -- ---- the number of a short ID, from its last byte down
 

@@ -13,7 +13,7 @@ use numbers::{least, saturating_sub};
 use refusals::{Answer, FormatError, refused};
 
 // A managed ID: heap offset and length.
-#[derive(Drop)]
+#[derive(Clone, Copy)]
 pub enum ManagedId {
     Decoded(u64, u64),
     Refused(FormatError),
@@ -35,12 +35,14 @@ impl ManagedId {
     }
 }
 
+#[tactic(auto, using(crate::proofs::Ids::mod_wide))]
 fn low_bits(x: u64, bits: u64) -> u64
     ensures { result ≡ x % 2 ^ bits }
 {
     if bits < 64 { x % (1u64 << bits) } else { x }
 }
 
+#[tactic(auto, using(crate::proofs::Ids::div_wide))]
 fn high_bits(x: u64, bits: u64) -> u64
     ensures { result ≡ x / 2 ^ bits }
 {
@@ -48,6 +50,7 @@ fn high_bits(x: u64, bits: u64) -> u64
 }
 
 // The offset and the length in the number that `bytes` bytes hold, in a heap with so many bits.
+#[tactic(auto, using(crate::proofs::Ids::split_least))]
 fn split_id(max_heap_size: u16, bytes: usize, number: u64) -> ManagedId
     ensures { result ≡ splitId max_heap_size bytes number }
 {
@@ -94,6 +97,7 @@ fn id_number(id: &[u8]) -> u64
 }
 
 // The heap offset and the length in a managed ID of a heap with so many bits.
+#[tactic(auto, unfolding(crate::specs::Id::decodedId))]
 pub fn decode_managed_id(max_heap_size: u16, id: &[u8]) -> ManagedId
     ensures { result ≡ decodedId max_heap_size id.now }
 {

@@ -5,7 +5,7 @@ ghost use Rattle.id_decode.specs.IdTypes.{type_of, typeNamed, idTypeOf, typeNumb
 
 use refusals::{Answer, FormatError, refused};
 
-#[derive(Drop)]
+#[derive(Clone, Copy)]
 pub enum HeapIdType {
     Managed,
     Huge,
@@ -13,7 +13,7 @@ pub enum HeapIdType {
 }
 
 // The type of an ID.
-#[derive(Drop)]
+#[derive(Clone, Copy)]
 pub enum IdType {
     Is(HeapIdType),
     Refused(FormatError),
@@ -47,12 +47,14 @@ impl IdType {
 }
 
 // Bits 4 and 5 of an ID's first byte.
+#[tactic(auto, unfolding(crate::specs::IdTypes::type_of))]
 pub fn type_of(byte: u8) -> u8
     ensures { result ≡ type_of byte }
 {
     byte / 16 % 4
 }
 
+#[tactic(auto, unfolding(crate::specs::IdTypes::typeNamed))]
 fn named(kind: u8) -> IdType
     ensures { result ≡ typeNamed kind }
 {
@@ -65,6 +67,7 @@ fn named(kind: u8) -> IdType
 }
 
 // The type of an ID.
+#[tactic(auto, unfolding(crate::specs::IdTypes::idTypeOf))]
 pub fn heap_id_type(id: &[u8]) -> IdType
     ensures { result ≡ idTypeOf id.now }
 {

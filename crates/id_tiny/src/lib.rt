@@ -8,6 +8,7 @@ use read_blocks::Found;
 use refusals::FormatError;
 
 // `length` bytes at `start` of an ID of `lent` bytes.
+#[tactic(auto, unfolding(crate::specs::Tiny::tinyIn))]
 fn tiny_in(start: u64, length: u64, lent: u64) -> Found
     requires { start + length < 2 ^ 64 }
     ensures { result ≡ tinyIn start length lent }
@@ -21,6 +22,7 @@ fn tiny_in(start: u64, length: u64, lent: u64) -> Found
 }
 
 // The tiny object in an ID: where it lies there, and its length. The ID's type is not tested.
+#[tactic(auto, unfolding(crate::specs::Tiny::tinyAt))]
 pub fn read_tiny_object(heap_id_length: u16, id: &[u8]) -> Found
     ensures { result ≡ tinyAt heap_id_length id.now }
 {

@@ -18,6 +18,7 @@ fn id_holds(offset: u64, size: u64) -> bool
 }
 
 // What is tested before an ID goes into `lent` bytes.
+#[tactic(auto, unfolding(crate::specs::Checks::idChecked, crate::specs::Checks::idLength, table::specs::Sizes::offsetBytes))]
 pub fn check_id(offset: u64, size: u64, lent: usize) -> Checked
     ensures { result ≡ idChecked fixed offset size lent }
 {

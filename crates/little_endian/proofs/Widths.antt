@@ -8,16 +8,9 @@ use lib.Dec.{eqb}
 use borrow.Author.Tests.{eqb-true, eqb-false, ne_eqb}
 use Rattle.little_endian.specs.Widths.{legal}
 
-pub legal-one : (w : ℕ) → (w ≡ 2) ⊎ ((w ≡ 4) ⊎ (w ≡ 8)) → legal w ≡ true
-unfolding legal
-legal-one w h = ⊎_elim (λ e. rw e) (⊎_elim (λ e. rw e) (λ e. rw e)) h
-
 pub legal-none : (w : ℕ) → (w ≡ 2 → ⊥) → (w ≡ 4 → ⊥) → (w ≡ 8 → ⊥) → legal w ≡ false
 unfolding legal
 legal-none w a b c = rw (ne_eqb w 2 a, ne_eqb w 4 b, ne_eqb w 8 c)
-
-pub legal-not : (w : ℕ) → ((w ≡ 2) ⊎ ((w ≡ 4) ⊎ (w ≡ 8)) → ⊥) → legal w ≡ false
-legal-not w h = legal-none w (λ e. h (inl e)) (λ e. h (inr (inl e))) (λ e. h (inr (inr e)))
 
 -- a width that is neither 2 nor 4 is 8
 pub legal-eight : (w : ℕ) → legal w ≡ true → (w ≡ 2 → ⊥) → (w ≡ 4 → ⊥) → w ≡ 8

@@ -20,7 +20,7 @@ use table::row_offset;
 use table_capacity::{capacity_sum, rows_capacity};
 use table_sizes::{direct_block_header, indirect_block_size};
 
-#[derive(Drop)]
+#[derive(Clone, Copy)]
 pub struct ManagedPlan {
     pub block_count: u64,
     pub region_size: u64,
@@ -32,7 +32,7 @@ pub struct ManagedPlan {
     pub allocation_iterator: u64,
 }
 
-#[derive(Drop)]
+#[derive(Clone, Copy)]
 pub enum Planned {
     Accepted(ManagedPlan),
     Refused(FormatError),
@@ -72,6 +72,7 @@ pub fn totals(s: State, offset_size: u8) -> ManagedPlan
 }
 
 // The answer for lists of so many places; nothing is written.
+#[tactic(auto, unfolding(crate::specs::Answer::plannedFor))]
 pub fn planned_for(sizes: &[u64], offsets: usize, blocks: usize, offset_size: u8) -> Planned
     ensures { result ≡ plannedFor sizes.now offsets blocks offset_size }
 {

@@ -12,16 +12,15 @@ use table_sizes::max_managed_object;
 fn check_sizes(sizes: &[u64], limit: u64) -> Checked
     ensures { result ≡ sizesChecked limit 0 sizes.now }
 {
-    let mut i: usize = 0;
-    while i < sizes.len() {
+    for i in 0..sizes.len() {
         if sizes[i] > limit {
             return Checked::Refused(FormatError::ObjectTooLarge(i as u64, sizes[i]));
         }
-        i += 1;
     }
     Checked::Passed
 }
 
+#[tactic(auto, unfolding(crate::specs::Checks::widthChecked))]
 fn check_width(offset_size: u8) -> Checked
     ensures { result ≡ widthChecked offset_size }
 {
@@ -32,6 +31,7 @@ fn check_width(offset_size: u8) -> Checked
     }
 }
 
+#[tactic(auto, unfolding(crate::specs::Checks::placesChecked))]
 pub fn check_places(needed: usize, lent: usize) -> Checked
     ensures { result ≡ placesChecked needed lent }
 {
@@ -50,6 +50,7 @@ fn blocks_needed(objects: usize) -> usize
 }
 
 // The tests before any planning.
+#[tactic(auto, unfolding(crate::specs::Checks::inputChecked))]
 pub fn check_input(sizes: &[u64], offsets: usize, blocks: usize, offset_size: u8) -> Checked
     ensures { result ≡ inputChecked sizes.now offsets blocks offset_size }
 {

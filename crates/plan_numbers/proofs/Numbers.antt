@@ -10,24 +10,24 @@ use Rattle.little_endian.specs.LittleEndian.{put}
 use Rattle.plan.specs.declared.Planned.{Planned}
 use Rattle.plan_numbers.specs.PlanTools.{plannedTotals, planNumber, planTotals, afterTotals}
 
-pub two-set : (l : List ℕ) (a b : ℕ) → 8 ≤ length l → set (set l 0 a) 1 b ≡ put l 0 (a ∷ b ∷ [])
+pub two_set : (l : List ℕ) (a b : ℕ) → 8 ≤ length l → set (set l 0 a) 1 b ≡ put l 0 (a ∷ b ∷ [])
 unfolding put
-two-set [] a b h = absurd (omega arith)
-two-set (x1 ∷ []) a b h = absurd (omega arith)
-two-set (x1 ∷ x2 ∷ l) a b h = refl
+two_set [] a b h = absurd (omega arith)
+two_set (x1 ∷ []) a b h = absurd (omega arith)
+two_set (x1 ∷ x2 ∷ l) a b h = refl
 
-pub eight-set : (l : List ℕ) (a b c d e f g i : ℕ) → 8 ≤ length l
+pub eight_set : (l : List ℕ) (a b c d e f g i : ℕ) → 8 ≤ length l
     → set (set (set (set (set (set (set (set l 0 a) 1 b) 2 c) 3 d) 4 e) 5 f) 6 g) 7 i ≡ put l 0 (a ∷ b ∷ c ∷ d ∷ e ∷ f ∷ g ∷ i ∷ [])
 unfolding put
-eight-set (x1 ∷ x2 ∷ x3 ∷ x4 ∷ x5 ∷ x6 ∷ x7 ∷ x8 ∷ l) a b c d e f g i h = refl
-eight-set (x1 ∷ x2 ∷ x3 ∷ x4 ∷ x5 ∷ x6 ∷ x7 ∷ []) a b c d e f g i h = absurd (omega arith)
-eight-set (x1 ∷ x2 ∷ x3 ∷ x4 ∷ x5 ∷ x6 ∷ []) a b c d e f g i h = absurd (omega arith)
-eight-set (x1 ∷ x2 ∷ x3 ∷ x4 ∷ x5 ∷ []) a b c d e f g i h = absurd (omega arith)
-eight-set (x1 ∷ x2 ∷ x3 ∷ x4 ∷ []) a b c d e f g i h = absurd (omega arith)
-eight-set (x1 ∷ x2 ∷ x3 ∷ []) a b c d e f g i h = absurd (omega arith)
-eight-set (x1 ∷ x2 ∷ []) a b c d e f g i h = absurd (omega arith)
-eight-set (x1 ∷ []) a b c d e f g i h = absurd (omega arith)
-eight-set [] a b c d e f g i h = absurd (omega arith)
+eight_set (x1 ∷ x2 ∷ x3 ∷ x4 ∷ x5 ∷ x6 ∷ x7 ∷ x8 ∷ l) a b c d e f g i h = refl
+eight_set (x1 ∷ x2 ∷ x3 ∷ x4 ∷ x5 ∷ x6 ∷ x7 ∷ []) a b c d e f g i h = absurd (omega arith)
+eight_set (x1 ∷ x2 ∷ x3 ∷ x4 ∷ x5 ∷ x6 ∷ []) a b c d e f g i h = absurd (omega arith)
+eight_set (x1 ∷ x2 ∷ x3 ∷ x4 ∷ x5 ∷ []) a b c d e f g i h = absurd (omega arith)
+eight_set (x1 ∷ x2 ∷ x3 ∷ x4 ∷ []) a b c d e f g i h = absurd (omega arith)
+eight_set (x1 ∷ x2 ∷ x3 ∷ []) a b c d e f g i h = absurd (omega arith)
+eight_set (x1 ∷ x2 ∷ []) a b c d e f g i h = absurd (omega arith)
+eight_set (x1 ∷ []) a b c d e f g i h = absurd (omega arith)
+eight_set [] a b c d e f g i h = absurd (omega arith)
 
 -- ---- a plan's answer in a list of totals
 

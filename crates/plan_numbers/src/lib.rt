@@ -10,6 +10,7 @@ use plan::{ManagedPlan, Planned};
 use refusals::{Answer, refused};
 
 // The numbers of a plan, in the order of its fields.
+#[tactic(auto, using(crate::proofs::Numbers::eight_set))]
 fn put_numbers(totals: &mut [u64], p: ManagedPlan)
     requires { 8 ≤ length totals.old }
     ensures { totals.new ≡ put totals.old 0 (numbers p) }
@@ -25,6 +26,7 @@ fn put_numbers(totals: &mut [u64], p: ManagedPlan)
 }
 
 // The pair of a refusal.
+#[tactic(auto, using(crate::proofs::Numbers::two_set))]
 fn put_pair(totals: &mut [u64], a: Answer)
     requires { 8 ≤ length totals.old }
     ensures { totals.new ≡ put totals.old 0 (a.first ∷ a.second ∷ []) }
@@ -46,8 +48,9 @@ pub fn put_planned(totals: &mut [u64], answer: Planned) -> u32
         }
         Planned::Refused(e) => {
             let a = refused(e);
+            let number = a.number;
             put_pair(totals, a);
-            a.number
+            number
         }
     }
 }

@@ -12,7 +12,7 @@ use table_sizes::direct_block_header;
 use table_slots::entered_blocks;
 
 // The slot that opens, if the heap has one.
-#[derive(Drop)]
+#[derive(Clone, Copy)]
 pub enum Open {
     At(Slot),
     Full,
@@ -20,7 +20,7 @@ pub enum Open {
 
 // Where planning stands: the current block and how far it is filled, the placed blocks' number and
 // sizes, the objects' bytes, and the bytes of the indirect blocks below the root.
-#[derive(Drop)]
+#[derive(Clone, Copy)]
 pub struct State {
     pub start: u64,
     pub size: u64,
@@ -32,21 +32,21 @@ pub struct State {
 }
 
 // One object: the state after it and its heap offset.
-#[derive(Drop)]
+#[derive(Clone, Copy)]
 pub enum Step {
     Placed(State, u64),
     Ends,
 }
 
 // Some objects in the current block: the index of the next object, and the state before it.
-#[derive(Drop)]
+#[derive(Clone, Copy)]
 pub struct Filled {
     pub next: usize,
     pub state: State,
 }
 
 // All objects: the state after them, or the index at which the heap space ends.
-#[derive(Drop)]
+#[derive(Clone, Copy)]
 pub enum Run {
     Done(State),
     Short(u64),

@@ -11,7 +11,7 @@ use refusals::{Answer, FormatError, refused};
 
 // What a row says of the wanted offset: the address of the slot that holds it and where the slot
 // begins, or where the next row's entries and offsets begin.
-#[derive(Drop)]
+#[derive(Clone, Copy)]
 pub enum RowScan {
     Hit(u64, u64),
     Past(usize, u64),
@@ -19,7 +19,7 @@ pub enum RowScan {
 }
 
 // The child of an indirect block that holds the wanted offset; the last number is where it begins.
-#[derive(Drop)]
+#[derive(Clone, Copy)]
 pub enum HeapChild {
     Direct(u64, u64, u64), // address, block size, heap offset
     Indirect(u64, u64, u64), // address, rows, heap offset
@@ -28,7 +28,7 @@ pub enum HeapChild {
 }
 
 // Where an object's bytes are: position and length.
-#[derive(Drop)]
+#[derive(Clone, Copy)]
 pub enum Found {
     At(u64, u64),
     Refused(FormatError),
@@ -51,6 +51,7 @@ impl Found {
 }
 
 // Whether a block at `addr` that spans the offsets from `start` to `end` is there and holds the target.
+#[tactic(auto, unfolding(crate::specs::Blocks::holdsOffset))]
 pub fn holds(addr: u64, offset_size: u8, start: u64, end: u64, target: u64) -> bool
     ensures { result ≡ holdsOffset addr offset_size start end target }
 {
@@ -65,6 +66,7 @@ pub fn holds(addr: u64, offset_size: u8, start: u64, end: u64, target: u64) -> b
 }
 
 // The child in a slot of a row, at this address and heap offset.
+#[tactic(auto, unfolding(crate::specs::Blocks::childOf))]
 pub fn child_at_row(table: DoublingTable, row: u64, addr: u64, offset: u64) -> HeapChild
     ensures { result ≡ childOf table row addr offset }
 {

@@ -9,7 +9,7 @@ ghost use Rattle.read_rows.specs.Rows.{blockSize, directRows, sizeToRows, heapSi
 use numbers::{log2_floor, saturating_mul, saturating_shl, saturating_sub};
 
 // The header's fields that shape the heap.
-#[derive(Drop)]
+#[derive(Clone, Copy)]
 pub struct DoublingTable {
     pub table_width: u16,
     pub starting_block_size: u64,
@@ -19,6 +19,7 @@ pub struct DoublingTable {
 
 impl DoublingTable {
     // The size of a block in a row: the starting block's in rows 0 and 1, then twice the row before.
+    #[tactic(auto, unfolding(crate::specs::Rows::blockSize))]
     pub fn block_size_for_row(self, row: u64) -> u64
         ensures { result ≡ blockSize self row }
     {
@@ -31,6 +32,7 @@ impl DoublingTable {
     }
 
     // How many rows hold direct blocks. The field `start_root_rows` says nothing about it.
+    #[tactic(auto, unfolding(crate::specs::Rows::directRows))]
     pub fn max_direct_rows(self) -> u64
         ensures { result ≡ directRows self }
     {
@@ -40,6 +42,7 @@ impl DoublingTable {
     }
 
     // How many rows a nested block has that spans `size` bytes.
+    #[tactic(auto, unfolding(crate::specs::Rows::sizeToRows))]
     pub fn size_to_rows(self, size: u64) -> u64
         ensures { result ≡ sizeToRows self size }
     {
@@ -50,6 +53,7 @@ impl DoublingTable {
     }
 
     // What a block of `nrows` rows spans: row 0, doubled by each row after it.
+    #[tactic(auto, using(crate::proofs::Rows::span))]
     fn indirect_block_heap_size(self, nrows: u64) -> u64
         requires { (0 < nrows) × (nrows ≤ 64) }
         ensures { result ≡ heapSize self nrows }
@@ -59,6 +63,7 @@ impl DoublingTable {
     }
 
     // What a slot of a row spans: a direct block, or the nested block there.
+    #[tactic(auto, using(crate::proofs::Rows::rows_le), unfolding(crate::specs::Rows::slotSize))]
     pub fn slot_size(self, row: u64) -> u64
         ensures { result ≡ slotSize self row }
     {

@@ -10,6 +10,7 @@ use refusals::FormatError;
 
 // An object of `length` bytes at heap offset `target`, in the direct block at `addr` that begins at heap
 // offset `start`. The offset size is of no account here.
+#[tactic(auto, unfolding(read_blocks::specs::Blocks::directAt))]
 pub fn read_from_direct_block(file: &[u8], addr: u64, start: u64, target: u64, length: u64) -> Found
     ensures { result ≡ directAt file.now addr start target length }
 {

@@ -57,6 +57,7 @@ fn read_from_indirect_block(
 
 // The same from the root block at `root` on. A direct root, which has no rows, is read without a look at the
 // offset size.
+#[tactic(auto, unfolding(crate::specs::Root::fromRoot))]
 pub fn read_from_root(
     table: DoublingTable,
     file: &[u8],

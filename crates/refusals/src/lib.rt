@@ -5,7 +5,7 @@ ghost use Rattle.std.specs.Prelude.{◌≡◌};
 ghost use Rattle.refusals.specs.Refusals.{answer, refusal};
 
 // The causes, named as in the Rust where it has them, with the values that are reported.
-#[derive(Drop)]
+#[derive(Clone, Copy)]
 pub enum FormatError {
     UnexpectedEof(u64, u64), // expected, available
     InvalidOffsetSize(u8), // size
@@ -27,7 +27,7 @@ pub enum FormatError {
 }
 
 // An answer in numbers: the refusal's number, 0 where there is none, and the two values.
-#[derive(Drop)]
+#[derive(Clone, Copy)]
 pub struct Answer {
     pub number: u32,
     pub first: u64,

@@ -15,6 +15,7 @@ const DIRECT: u64 = 0x4244_4846;
 
 // A direct block of `size` bytes at `at`: head, objects and zeros, then the checksum of it all, taken while
 // its own field is zero.
+#[tactic(auto, using(table::proofs::Sizes::header_is))]
 pub fn write_direct_block(
     region: &mut [u8],
     at: usize,

@@ -14,7 +14,7 @@ use stores::store_le;
 
 // What all blocks of a region share: the width of addresses, and where the heap's header and the region
 // stand in the file.
-#[derive(Drop)]
+#[derive(Clone, Copy)]
 pub struct Site {
     pub offset_size: u8,
     pub heap_header_address: u64,

@@ -192,3 +192,10 @@ module _ (w h : ℕ) (xs js r₀ : List ℕ) (place : ℕ) (r : List ℕ) (s : S
       room = room-here;
       more = writing_more;
     }
+
+-- a turn from what the code knows: the block that opens, and what is filled from there on
+pub turn_of : (w h : ℕ) (xs js r₀ : List ℕ) (place : ℕ) (r : List ℕ) (s : State) (next : ℕ) → Writing w h xs js r₀ place r s next → next < length xs
+    → (s₁ : State) (o : ℕ) → Placed s₁ o ≡ opened fixed w s (get_or xs next 0) (open_at fixed (directHeader fixed w + get_or xs next 0) (blockEnd s))
+    → (f : Filled) → f ≡ filledFrom xs (next + 1) s₁ → Turn w h xs js r₀ place r s next f
+turn_of w h xs js r₀ place r s next I l s₁ o e f q =
+    turn w h xs js r₀ place r s next I l s₁ o (step_is w h xs js r₀ place r s next I l (Placed s₁ o) e) f q

@@ -30,10 +30,10 @@ fn write_placed(sizes: &[u64], objects: &[u8], region: &mut [u8], place: usize, 
     let mut s = initial(site.offset_size);
     let mut next: usize = 0;
     while next < sizes.len() {
+        let at = place + s.allocated as usize;
+        let from = s.used as usize;
         match open_block(s, sizes[next], site.offset_size) {
             Step::Placed(opened, _) => {
-                let at = place + s.allocated as usize;
-                let from = s.used as usize;
                 let f = fill_block(sizes, next + 1, opened);
                 s = f.state;
                 next = f.next;

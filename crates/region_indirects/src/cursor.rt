@@ -4,7 +4,7 @@ ghost use Rattle.std.specs.Prelude.{◌≡◌, ◌+◌, ◌-◌, ◌<◌, cond, 
 ghost use Rattle.region_indirects.specs.Walk.{beginsBefore};
 
 // Where a walk stands: the next placed direct block and its address, and the next free place in the region.
-#[derive(Drop)]
+#[derive(Clone, Copy)]
 pub struct Cursor {
     pub index: usize,
     pub place: usize,
@@ -12,7 +12,7 @@ pub struct Cursor {
 }
 
 // A slot's entry, and where the walk stands behind the slot.
-#[derive(Drop)]
+#[derive(Clone, Copy)]
 pub struct Child {
     pub entry: u64,
     pub cursor: Cursor,

@@ -14,7 +14,7 @@ use region_blocks::{Site, put_number, put_run};
 use table::{is_direct, row_block_size};
 
 // A block of `rows` rows at a heap offset: the blocks in its slots, then the block itself.
-#[cycle(block_walk_slot_child_slot_walk)]
+#[cycle(walk)]
 pub fn block_walk(
     region: &mut [u8],
     starts: &[u64],
@@ -45,7 +45,7 @@ pub fn block_walk(
 // The slots of a block of `rows` rows, from one on that begins the last `left` of its row. Their entries stand
 // from `at` on in the block, whose place is known once the blocks of all of them are written. The slots of a row
 // behind its last block are passed at once.
-#[cycle(block_walk_slot_child_slot_walk)]
+#[cycle(walk)]
 fn slot_walk(
     region: &mut [u8],
     starts: &[u64],
@@ -101,7 +101,7 @@ fn slot_walk(
 }
 
 // One slot: without a block, with a direct one, or with a block that is walked in turn.
-#[cycle(block_walk_slot_child_slot_walk)]
+#[cycle(walk)]
 fn slot_child(
     region: &mut [u8],
     starts: &[u64],

@@ -14,7 +14,7 @@ use round_trip_read::fixed_header;
 use round_trip_region::serialize_at;
 
 // How many nonempty objects came back, or the writer's refusal.
-#[derive(Drop)]
+#[derive(Clone, Copy)]
 pub enum RoundTrip {
     Back(u64),
     Refused(FormatError),

@@ -27,6 +27,7 @@ pub fn same_bytes(left: &[u8], right: &[u8]) -> bool
 }
 
 // Whether the file has `size` bytes at `place`, and they are these.
+#[tactic(auto, unfolding(crate::specs::Back::holdsAt))]
 fn holds_at(file: &[u8], place: usize, size: usize, bytes: &[u8]) -> bool
     ensures { result ≡ holdsAt file.now place size bytes.now }
 {
@@ -39,6 +40,7 @@ fn holds_at(file: &[u8], place: usize, size: usize, bytes: &[u8]) -> bool
 }
 
 // Whether an object is found by its ID, with its size and these bytes.
+#[tactic(auto, unfolding(crate::specs::Back::comesBack))]
 pub fn comes_back(
     file: &[u8],
     header: FractalHeapHeader,

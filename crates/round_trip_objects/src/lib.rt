@@ -10,6 +10,7 @@ use numbers::least;
 use round_trip_object::comes_back;
 
 // 1 for a nonempty object that comes back.
+#[tactic(auto, unfolding(crate::specs::Backs::backOne))]
 fn back_one(
     file: &[u8],
     header: FractalHeapHeader,

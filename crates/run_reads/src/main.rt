@@ -8,36 +8,29 @@
 // file, the ID. An accepted parse has twelve words, the header's fields; any other answer has two values.
 #![tactic(auto)]
 
-ghost use Rattle.std.specs.Prelude.{◌≡◌, ◌+◌, ◌^◌, ◌≤◌, ◌<◌, length};
-ghost use Rattle.run_reads.specs.Case.{Whole, Within};
+ghost use Rattle.std.specs.Prelude.{◌≤◌, length, IfSome};
+ghost use Rattle.run_reads.specs.Case.{Whole};
 
 use fields::convert::to_usize;
 use fractal_heap::header::{FractalHeapHeader, Parsed};
 use id_tiny::read_tiny_object;
-use libc::{STDIN_FILENO, STDOUT_FILENO};
 use little_endian::{read_u16_le, read_u32_le, read_u64_le};
 use refusals::{Answer, refused};
+use std::io::{self, Read};
 
 // A case in the list: where its file and its ID begin, and where the next case does.
-#[derive(Drop)]
-enum Case {
-    At(usize, usize, usize),
-    Absent, // no whole case begins here
+#[derive(Clone, Copy)]
+struct Case {
+    file: usize,
+    id: usize,
+    next: usize,
 }
 
 // The cases of a kind, and those among them that are answered otherwise than recorded.
-#[derive(Drop)]
+#[derive(Clone, Copy)]
 struct Tally {
     cases: u64,
     differ: u64,
-}
-
-fn text(bytes: &[u8]) {
-    io::write_all(STDOUT_FILENO, bytes);
-}
-
-fn number(n: u64) {
-    io::print_decimal(STDOUT_FILENO, n);
 }
 
 // The bytes of n words; 0 where no case has so many.
@@ -51,28 +44,25 @@ fn words_length(n: u8) -> usize
     }
 }
 
-// The case that begins at `pos`.
-fn case_at(list: &[u8], pos: usize) -> Case
+// The case that begins at `pos`; none where no whole one does.
+fn case_at(list: &[u8], pos: usize) -> Option<Case>
     requires { pos ≤ length list.now }
-    ensures { Within result pos (length list.now) }
+    ensures { IfSome result (λ c. Whole c pos (length list.now)) }
 {
     if list.len() - pos < 27 {
-        return Case::Absent;
-    }
-    if list[pos] > 4 {
-        return Case::Absent;
+        return None;
     }
     let words = words_length(list[pos + 26]);
-    if words == 0 {
-        return Case::Absent;
+    if list[pos] > 4 || words == 0 {
+        return None;
     }
     let file = pos + 27 + words;
     let id = file + read_u32_le(list, pos + 6) as usize;
     let next = id + read_u32_le(list, pos + 10) as usize;
     if next <= list.len() {
-        Case::At(file, id, next)
+        Some(Case { file, id, next })
     } else {
-        Case::Absent
+        None
     }
 }
 
@@ -84,12 +74,10 @@ fn is_recorded(head: &[u8], number: u32, words: &[u64]) -> bool {
     if number != read_u32_le(head, 22) {
         return false;
     }
-    let mut i: usize = 0;
-    while i < words.len() {
-        if words[i] != read_u64_le(head, 27 + 8 * i) {
+    for (i, word) in words.iter().enumerate() {
+        if *word != read_u64_le(head, 27 + 8 * i) {
             return false;
         }
-        i = i + 1;
     }
     true
 }
@@ -150,30 +138,14 @@ fn is_same(head: &[u8], file: &[u8], id: &[u8]) -> bool
 }
 
 // The same of the case at `pos`.
-fn is_same_at(list: &[u8], pos: usize, file: usize, id: usize, next: usize) -> bool
-    requires { Whole pos file id next (length list.now) }
+fn is_same_at(list: &[u8], pos: usize, case: Case) -> bool
+    requires { Whole case pos (length list.now) }
 {
-    is_same(&list[pos..file], &list[file..id], &list[id..next])
-}
-
-impl Tally {
-    // One case more.
-    fn with(self, same: bool) -> Tally
-        requires { (self.differ ≤ self.cases) × (self.cases < 2 ^ 63) }
-        ensures { (result.differ ≤ result.cases) × (result.cases ≡ self.cases + 1) }
-    {
-        if same {
-            Tally {
-                cases: self.cases + 1,
-                differ: self.differ,
-            }
-        } else {
-            Tally {
-                cases: self.cases + 1,
-                differ: self.differ + 1,
-            }
-        }
-    }
+    is_same(
+        &list[pos..case.file],
+        &list[case.file..case.id],
+        &list[case.id..case.next],
+    )
 }
 
 // The cases of one kind, up to the first place where no case begins.
@@ -183,79 +155,51 @@ fn count(list: &[u8], kind: u8) -> Tally {
         differ: 0,
     };
     let mut pos: usize = 0;
-    loop {
-        match case_at(list, pos) {
-            Case::At(file, id, next) => {
-                if list[pos] == kind {
-                    t = t.with(is_same_at(list, pos, file, id, next));
-                }
-                pos = next;
-            }
-            Case::Absent => {
-                return t;
+    while let Some(case) = case_at(list, pos) {
+        if list[pos] == kind {
+            t.cases += 1;
+            if !is_same_at(list, pos, case) {
+                t.differ += 1;
             }
         }
+        pos = case.next;
     }
+    t
 }
 
 // The first place where no case begins.
-fn end(list: &[u8]) -> usize
-    ensures { result ≤ length list.now }
-{
+fn end(list: &[u8]) -> usize {
     let mut pos: usize = 0;
-    loop {
-        match case_at(list, pos) {
-            Case::At(_, _, next) => {
-                pos = next;
-            }
-            Case::Absent => {
-                return pos;
-            }
-        }
+    while let Some(case) = case_at(list, pos) {
+        pos = case.next;
     }
+    pos
 }
 
-fn line(name: &[u8], t: Tally) {
-    text(name);
-    number(t.cases);
-    text(b" cases, ");
-    number(t.differ);
-    text(b" differ\n");
+fn line(rt: &impl Print, name: &str, t: Tally) -> io::Result<()> {
+    println!(rt; "{name} {} cases, {} differ", t.cases, t.differ)
 }
 
-fn last_line(list: &[u8]) {
+fn last_line(rt: &impl Print, list: &[u8]) -> io::Result<()> {
     let pos = end(list);
     if pos == list.len() {
-        text(b"end of the list\n");
+        println!(rt; "end of the list")
     } else {
-        text(b"the list is damaged at ");
-        number(pos as u64);
-        text(b"\n");
+        println!(rt; "the list is damaged at {pos}")
     }
 }
 
-fn replay(list: &[u8]) {
-    line(b"parse ", count(list, 0));
-    line(b"decode ", count(list, 1));
-    line(b"read ", count(list, 2));
-    line(b"tiny ", count(list, 3));
-    line(b"id type ", count(list, 4));
-    last_line(list);
+fn replay(rt: &impl Print, list: &[u8]) -> io::Result<()> {
+    line(rt, "parse", count(list, 0))?;
+    line(rt, "decode", count(list, 1))?;
+    line(rt, "read", count(list, 2))?;
+    line(rt, "tiny", count(list, 3))?;
+    line(rt, "id type", count(list, 4))?;
+    last_line(rt, list)
 }
 
-// Room for the list. Apart from `main`, whose proof would count its zeros.
-fn room() -> [u8; 1_048_576]
-    ensures { 1048576 ≡ length result }
-{
-    [0; 1_048_576]
-}
-
-fn main() {
-    let mut space = room();
-    let n = io::read_full(STDIN_FILENO, &mut space);
-    if n < 1_048_576 {
-        replay(&space[..n]);
-    } else {
-        text(b"the list has more than 1,048,575 bytes\n");
-    }
+fn main(rt: HostRuntime) -> io::Result<()> {
+    let mut list = Vec::new(rt.alloc());
+    rt.reader().read_to_end(&mut list)?;
+    replay(&rt, &list)
 }

@@ -1,100 +1,149 @@
-// What the programs print with: text, numbers, bytes, lists and answers; and the pseudo-random bytes that they
-// work on. It serves the programs alone: what is printed is held to a recorded file, and no contract can speak of it.
+// What the programs print, as values that write themselves: bytes, lists and answers; and the pseudo-random bytes that
+// they work on. It serves the programs alone: what is printed is held to a recorded file.
 #![tactic(auto)]
 
 ghost use Rattle.std.specs.Prelude.{◌≡◌, length};
-ghost use Rattle.run_report.specs.Sequence.{bytesAfter};
+ghost use Rattle.run_report.specs.Sequence.{next, bytesAfter};
 
-use libc::STDOUT_FILENO;
-use numbers::least;
+use std::fmt;
 
-pub fn text(bytes: &[u8]) {
-    io::write_all(STDOUT_FILENO, bytes);
+// Bytes in hexadecimal.
+#[derive(Clone, Copy)]
+pub struct Hex<'a> {
+    pub bytes: &'a [u8],
 }
 
-// A number after a space.
-pub fn number(n: u64) {
-    text(b" ");
-    io::print_decimal(STDOUT_FILENO, n);
+impl<'a> fmt::Display for Hex<'a> {
+    fn fmt<W: fmt::Write>(&self, f: &mut fmt::Formatter<W>) -> fmt::Result {
+        for byte in self.bytes {
+            write!(f, "{byte:02x}")?;
+        }
+        Ok(())
+    }
 }
 
-fn hex_byte(b: u8) {
-    io::print_hex(STDOUT_FILENO, b as u64, 2);
+// Numbers, each after a space.
+#[derive(Clone, Copy)]
+pub struct Spaced<'a> {
+    pub numbers: &'a [u64],
 }
 
-pub fn dump(bytes: &[u8]) {
-    let mut i: usize = 0;
-    while i < bytes.len() {
-        hex_byte(bytes[i]);
-        i = i + 1;
+impl<'a> fmt::Display for Spaced<'a> {
+    fn fmt<W: fmt::Write>(&self, f: &mut fmt::Formatter<W>) -> fmt::Result {
+        for number in self.numbers {
+            write!(f, " {number}")?;
+        }
+        Ok(())
+    }
+}
+
+// A list of which the first `known` numbers are written, at most six, and then the sum of all its places.
+#[derive(Clone, Copy)]
+pub struct List<'a> {
+    pub numbers: &'a [u64],
+    pub known: usize,
+}
+
+impl<'a> fmt::Display for List<'a> {
+    fn fmt<W: fmt::Write>(&self, f: &mut fmt::Formatter<W>) -> fmt::Result {
+        let few = self.known.min(6).min(self.numbers.len());
+        let front = Spaced {
+            numbers: &self.numbers[..few],
+        };
+        let sum = sum_in_order(self.numbers);
+        write!(f, "{front} sum {sum}")
+    }
+}
+
+// The start of a case's line: its width and sizes.
+#[derive(Clone, Copy)]
+pub struct Heading<'a> {
+    pub sizes: &'a [u64],
+    pub width: u8,
+}
+
+impl<'a> fmt::Display for Heading<'a> {
+    fn fmt<W: fmt::Write>(&self, f: &mut fmt::Formatter<W>) -> fmt::Result {
+        let sizes = List {
+            numbers: self.sizes,
+            known: self.sizes.len(),
+        };
+        let width = self.width;
+        write!(f, "width {width}, sizes{sizes}")
+    }
+}
+
+// Both lists of a plan: the objects' offsets and the blocks' starts.
+#[derive(Clone, Copy)]
+pub struct Lists<'a> {
+    pub offsets: List<'a>,
+    pub blocks: List<'a>,
+}
+
+impl<'a> fmt::Display for Lists<'a> {
+    fn fmt<W: fmt::Write>(&self, f: &mut fmt::Formatter<W>) -> fmt::Result {
+        let offsets = self.offsets;
+        let blocks = self.blocks;
+        write!(f, "; offsets{offsets}; blocks{blocks}")
+    }
+}
+
+// An answer by number: the numbers of what was accepted, or a refusal's number and its pair.
+#[derive(Clone, Copy)]
+pub struct Told<'a> {
+    pub refusal: u32,
+    pub numbers: &'a [u64],
+}
+
+impl<'a> fmt::Display for Told<'a> {
+    fn fmt<W: fmt::Write>(&self, f: &mut fmt::Formatter<W>) -> fmt::Result {
+        let refusal = self.refusal;
+        if refusal == 0 {
+            let all = Spaced {
+                numbers: self.numbers,
+            };
+            write!(f, "; accepted{all}")
+        } else {
+            let pair = Spaced {
+                numbers: &self.numbers[..self.numbers.len().min(2)],
+            };
+            write!(f, "; refused {refusal}{pair}")
+        }
     }
 }
 
 // The numbers of a list in their order, as one: s' = (31 s + number) mod 1,000,000,007.
-fn sum(numbers: &[u64]) -> u64 {
+fn sum_in_order(numbers: &[u64]) -> u64 {
     let mut s: u64 = 0;
-    let mut i: usize = 0;
-    while i < numbers.len() {
-        s = (s * 31 + numbers[i] % 1_000_000_007) % 1_000_000_007;
-        i = i + 1;
+    for number in numbers {
+        s = (s * 31 + *number % 1_000_000_007) % 1_000_000_007;
     }
     s
 }
 
-// The first `n` numbers.
-fn front(numbers: &[u64], n: usize) {
-    let mut i: usize = 0;
-    while i < numbers.len() {
-        if i < n {
-            number(numbers[i]);
-        }
-        i = i + 1;
+// How many bytes objects of these sizes have together, modulo 2^32.
+pub fn joined(sizes: &[u64]) -> usize {
+    let mut sum: u32 = 0;
+    for size in sizes {
+        sum = sum.wrapping_add((*size % 0x1_0000_0000) as u32);
     }
+    sum as usize
 }
 
-// The first `n` numbers of a list, at most six, and the sum of its places, also of those past the `n`.
-pub fn list(name: &[u8], numbers: &[u64], n: usize) {
-    text(name);
-    front(numbers, least(n, 6));
-    text(b" sum");
-    number(sum(numbers));
+// The number after `x` in the pseudo-random sequence.
+pub fn following(x: u32) -> u32
+    ensures { result ≡ next x }
+{
+    x.wrapping_mul(1_103_515_245).wrapping_add(12_345)
 }
 
-// The start of a case's line: its name, width and sizes.
-pub fn heading(name: &[u8], sizes: &[u64], width: u8) {
-    text(name);
-    text(b": width");
-    number(width as u64);
-    list(b", sizes", sizes, sizes.len());
-}
-
-// Both lists of a plan.
-pub fn lists(offsets: &[u64], n: usize, blocks: &[u64], count: usize) {
-    list(b"; offsets", offsets, n);
-    list(b"; blocks", blocks, count);
-}
-
-// What an answer's number says: the numbers of a plan, or a refusal's pair.
-pub fn answer(refusal: u32, numbers: &[u64]) {
-    if refusal == 0 {
-        text(b"; accepted");
-        front(numbers, numbers.len());
-    } else {
-        text(b"; refused");
-        number(refusal as u64);
-        front(numbers, 2);
-    }
-}
-
-// Pseudo-random bytes: bits 16 to 23 of x' = (1103515245 x + 12345) mod 2^32, from 1 on.
+// Pseudo-random bytes: bits 16 to 23 of each number of the sequence, from 1 on.
 pub fn fill(bytes: &mut [u8])
     ensures { bytes.new ≡ bytesAfter 1 (length bytes.old) }
 {
-    let mut x: u64 = 1;
-    let mut i: usize = 0;
-    while i < bytes.len() {
-        x = (x * 1_103_515_245 + 12_345) % 0x1_0000_0000;
-        bytes[i] = (x / 0x1_0000 % 256) as u8;
-        i = i + 1;
+    let mut x: u32 = 1;
+    for byte in bytes.iter_mut() {
+        x = following(x);
+        *byte = (x / 0x1_0000 % 256) as u8;
     }
 }

@@ -8,12 +8,12 @@
 use checksum::jenkins_lookup3;
 use fractal_heap::header::FractalHeapHeader;
 use id_write::write_managed_id;
-use numbers::{least, saturating_add};
 use plan::{ManagedPlan, Planned};
 use refusals::{Answer, refused};
 use round_trip::round_trip;
 use round_trip_read::{fixed_header, read_object};
-use run_report::{answer, fill, list, number, text};
+use run_report::{Heading, Told, fill, following, joined};
+use std::io;
 
 // The most objects of a list, and the bytes of the file.
 const PLACES: usize = 64;
@@ -30,74 +30,68 @@ const LISTS: u64 = 22;
 
 const ALL: u64 = 66;
 
-// A refusal's number and pair.
-fn told(a: Answer) {
-    let pair = [a.first, a.second];
-    answer(a.number, &pair);
-    text(b"\n");
-}
-
-// The lookup3 of the IDs of all objects, one after another.
-fn sum_ids(sizes: &[u64], offsets: &[u64], ids: &mut [u8]) -> u32 {
-    let count = least(least(sizes.len(), offsets.len()), ids.len() / 8);
-    let mut i: usize = 0;
-    while i < count {
-        let at = 8 * i;
-        write_managed_id(offsets[i], sizes[i], &mut ids[at..]);
-        i = i + 1;
-    }
-    let end = 8 * count;
-    jenkins_lookup3(&ids[..end])
-}
-
 // What reading answers for an empty object; no bytes have no place.
-fn empty(i: usize, a: Answer) {
-    text(b"  empty");
-    number(i as u64);
-    if a.number == 0 {
-        text(b"; accepted");
-        number(a.second);
-        text(b"\n");
-    } else {
-        told(a);
-    }
+fn empty(rt: &impl Print, i: usize, a: Answer) -> io::Result<()> {
+    let length = [a.second];
+    let pair = [a.first, a.second];
+    let numbers: &[u64] = if a.number == 0 { &length } else { &pair };
+    let refusal = a.number;
+    println!(rt; "  empty {i}{}", Told { refusal, numbers })
 }
 
-fn empties(file: &[u8], header: FractalHeapHeader, sizes: &[u64], offsets: &[u64], width: u8) {
-    let count = least(sizes.len(), offsets.len());
-    let mut i: usize = 0;
-    while i < count {
-        if sizes[i] == 0 {
-            let found = read_object(file, header, offsets[i], 0, width);
-            empty(i, found.answer());
-        }
-        i = i + 1;
-    }
-}
-
-// Prints what came of a list: its objects, those that came back, and lookup3 of the IDs and of the file.
-fn came(
-    back: u64,
+fn empties(
+    rt: &impl Print,
     file: &[u8],
     header: FractalHeapHeader,
     sizes: &[u64],
     offsets: &[u64],
     width: u8,
-) {
+) -> io::Result<()> {
+    for (i, (size, offset)) in sizes.iter().zip(offsets).enumerate() {
+        if *size == 0 {
+            empty(rt, i, read_object(file, header, *offset, 0, width).answer())?;
+        }
+    }
+    Ok(())
+}
+
+// The lookup3 of the IDs of all objects, one after another.
+fn sum_ids(sizes: &[u64], offsets: &[u64]) -> u32 {
     let mut ids = [0u8; 8 * PLACES];
-    let numbers = [
-        sizes.len() as u64,
-        back,
-        sum_ids(sizes, offsets, &mut ids) as u64,
-        jenkins_lookup3(file) as u64,
-    ];
-    answer(0, &numbers);
-    text(b"\n");
-    empties(file, header, sizes, offsets, width);
+    let mut end: usize = 0;
+    for (size, offset) in sizes.iter().zip(offsets) {
+        if end < ids.len() {
+            write_managed_id(*offset, *size, &mut ids[end..]);
+            end += 8;
+        }
+    }
+    jenkins_lookup3(&ids[..end])
+}
+
+// Prints what came of a list: its objects, those that came back, and lookup3 of the IDs and of the file.
+fn came(rt: &impl Print, back: u64, file: &[u8], sizes: &[u64], offsets: &[u64]) -> io::Result<()> {
+    let ids = sum_ids(sizes, offsets);
+    println!(rt;
+        "; accepted {} {back} {ids} {}",
+        sizes.len(),
+        jenkins_lookup3(file)
+    )
+}
+
+fn refusal(rt: &impl Print, a: Answer) -> io::Result<()> {
+    let refusal = a.number;
+    println!(rt;
+        "{}",
+        Told {
+            refusal,
+            numbers: &[a.first, a.second]
+        }
+    )
 }
 
 // Writes the region of a plan and reads it back; the empty objects are read with the header that the plan gives.
 fn go(
+    rt: &impl Print,
     plan: ManagedPlan,
     sizes: &[u64],
     offsets: &mut [u64],
@@ -105,32 +99,39 @@ fn go(
     objects: &[u8],
     file: &mut [u8],
     width: u8,
-) {
+) -> io::Result<()> {
     let a = round_trip(sizes, offsets, blocks, objects, file, REGION, HEADER, width).answer();
-    if a.number == 0 {
-        let root = saturating_add(REGION, plan.root_place);
-        let header = fixed_header(root, (plan.root_rows % 0x1_0000) as u16);
-        came(a.first, file, header, sizes, offsets, width);
-    } else {
-        told(a);
+    if a.number != 0 {
+        return refusal(rt, a);
     }
+    let root = REGION.saturating_add(plan.root_place);
+    let header = fixed_header(root, (plan.root_rows % 0x1_0000) as u16);
+    came(rt, a.first, file, sizes, offsets)?;
+    empties(rt, file, header, sizes, offsets, width)
 }
 
-fn trip(sizes: &[u64], objects: &[u8], file: &mut [u8], width: u8) {
+fn trip(
+    rt: &impl Print,
+    sizes: &[u64],
+    objects: &[u8],
+    file: &mut [u8],
+    width: u8,
+) -> io::Result<()> {
     let mut offsets = [0u64; PLACES];
     let mut blocks = [0u64; PLACES];
     match ManagedPlan::new(sizes, &mut offsets, &mut blocks, width) {
-        Planned::Refused(e) => told(refused(e)),
-        Planned::Accepted(plan) => go(plan, sizes, &mut offsets, &mut blocks, objects, file, width),
+        Planned::Refused(e) => refusal(rt, refused(e)),
+        Planned::Accepted(plan) => go(
+            rt,
+            plan,
+            sizes,
+            &mut offsets,
+            &mut blocks,
+            objects,
+            file,
+            width,
+        ),
     }
-}
-
-fn heading(k: u64, sizes: &[u64], width: u8) {
-    text(b"list");
-    number(k);
-    text(b": width");
-    number(width as u64);
-    list(b", sizes", sizes, sizes.len());
 }
 
 fn list_width(k: u64) -> u8 {
@@ -193,50 +194,45 @@ fn size_of(j: u64, i: usize, v: u64, width: u8) -> u64 {
     }
 }
 
-// Draws a list by bits 16 to 31 of x' = (1103515245 x + 12345) mod 2^32, from its number on, and gives the sum of its
-// sizes modulo 2^32.
-fn draw(sizes: &mut [u64], k: u64) -> usize {
+// Draws a list by bits 16 to 31 of the pseudo-random sequence, from its number on.
+fn draw(sizes: &mut [u64], k: u64) {
     let width = list_width(k);
-    let mut sum: u64 = 0;
-    let mut x = k % 0x1_0000;
-    let mut i: usize = 0;
-    while i < sizes.len() {
-        x = (x * 1_103_515_245 + 12_345) % 0x1_0000_0000;
-        let size = size_of(k % LISTS + 1, i, x / 0x1_0000, width);
-        sizes[i] = size;
-        sum = (sum + size % 0x1_0000_0000) % 0x1_0000_0000;
-        i = i + 1;
-    }
-    sum as usize
-}
-
-fn case(k: u64, sizes: &mut [u64], objects: &[u8], file: &mut [u8]) {
-    let width = list_width(k);
-    let end = least(draw(sizes, k), objects.len());
-    heading(k, sizes, width);
-    trip(sizes, &objects[..end], file, width);
-}
-
-fn lists(sizes: &mut [u64], objects: &[u8], file: &mut [u8]) {
-    let mut k: u64 = 0;
-    while k < ALL {
-        let end = least(list_length(k % LISTS + 1), sizes.len());
-        case(k, &mut sizes[..end], objects, file);
-        k = k + 1;
+    let mut x = (k % 0x1_0000) as u32;
+    for (i, size) in sizes.iter_mut().enumerate() {
+        x = following(x);
+        *size = size_of(k % LISTS + 1, i, u64::from(x / 0x1_0000), width);
     }
 }
 
-fn title() {
-    text(
-        b"The original Rust's answers (IDs and refusals of writing: by the scope's words), from compare/run --record\n",
-    );
+fn case(
+    rt: &impl Print,
+    k: u64,
+    sizes: &mut [u64],
+    objects: &[u8],
+    file: &mut [u8],
+) -> io::Result<()> {
+    let width = list_width(k);
+    draw(sizes, k);
+    let end = joined(sizes).min(objects.len());
+    print!(rt; "list {k}: {}", Heading { sizes, width })?;
+    trip(rt, sizes, &objects[..end], file, width)
 }
 
-fn main() {
-    title();
-    let mut objects = [0u8; 327_600];
-    fill(&mut objects);
+fn lists(rt: &impl Print, objects: &[u8], file: &mut [u8]) -> io::Result<()> {
     let mut sizes = [0u64; PLACES];
-    let mut file = [0xA5u8; FILE];
-    lists(&mut sizes, &objects, &mut file);
+    for k in 0..ALL {
+        let end = list_length(k % LISTS + 1).min(PLACES);
+        case(rt, k, &mut sizes[..end], objects, file)?;
+    }
+    Ok(())
+}
+
+fn main(rt: HostRuntime) -> io::Result<()> {
+    println!(rt;
+        "The original Rust's answers (IDs and refusals of writing: by the scope's words), from compare/run --record"
+    )?;
+    let mut objects = vec![in rt.alloc(); 0u8; 327_600]?;
+    fill(&mut objects);
+    let mut file = vec![in rt.alloc(); 0xA5u8; FILE]?;
+    lists(&rt, &objects, &mut file)
 }

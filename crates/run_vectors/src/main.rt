@@ -3,176 +3,127 @@
 // width. The file stdout beside src/ holds what the original answers.
 #![tactic(auto)]
 
-ghost use Rattle.std.specs.Prelude.{◌≡◌, length};
-
 use checksum::jenkins_lookup3;
 use fields::convert::is_undefined_addr;
 use fields::{read_length, read_offset};
-use libc::STDOUT_FILENO;
 use refusals::Answer;
-use run_report::{dump, fill, text};
+use run_report::{Hex, fill};
+use std::io;
 use stores::{write_offset, write_undef_offset};
 
-fn number(n: u64) {
-    io::print_decimal(STDOUT_FILENO, n);
-    text(b" ");
-}
+const WIDTHS: [u8; 10] = [0, 1, 2, 3, 4, 5, 8, 9, 128, 255];
 
-fn hex(n: u64) {
-    io::print_hex(STDOUT_FILENO, n, 1);
-    text(b" ");
-}
+const PLACES: [u64; 9] = [
+    0,
+    1,
+    8,
+    14,
+    16,
+    17,
+    18,
+    0xFFFF_FFFF_FFFF_FFF8,
+    0xFFFF_FFFF_FFFF_FFFF,
+];
 
-fn checksum_line(bytes: &[u8]) {
-    io::print_hex(STDOUT_FILENO, jenkins_lookup3(bytes) as u64, 8);
-    text(b"\n");
-}
+const ADDRESSES: [u64; 7] = [
+    0,
+    0xFFFE,
+    0xFFFF,
+    0x1_0000,
+    0xFFFF_FFFF,
+    0xFFFF_FFFF_FFFF_FFFE,
+    0xFFFF_FFFF_FFFF_FFFF,
+];
 
-fn published() {
-    text(b"lookup3 \"\" ");
-    checksum_line(b"");
-    text(b"lookup3 \"Four score and seven years ago\" ");
-    checksum_line(b"Four score and seven years ago");
+const LONG: [usize; 6] = [255, 1000, 4096, 10_007, 65_535, 65_536];
+
+fn published(rt: &impl Print) -> io::Result<()> {
+    println!(rt; "lookup3 \"\" {:08x}", jenkins_lookup3(b""))?;
+    let words = "Four score and seven years ago";
+    println!(rt;
+        "lookup3 {words:?} {:08x}",
+        jenkins_lookup3(words.as_bytes())
+    )
 }
 
 // The checksum of the first `n` bytes.
-fn recorded(bytes: &[u8], n: usize) {
-    if n <= bytes.len() {
-        text(b"lookup3 ");
-        number(n as u64);
-        checksum_line(&bytes[..n]);
+fn recorded(rt: &impl Print, bytes: &[u8], n: usize) -> io::Result<()> {
+    match bytes.get(..n) {
+        Some(front) => println!(rt; "lookup3 {n} {:08x}", jenkins_lookup3(front)),
+        None => Ok(()),
     }
 }
 
-fn recorded_to_200(bytes: &[u8]) {
-    let mut n: usize = 0;
-    while n <= 200 {
-        recorded(bytes, n);
-        n = n + 1;
-    }
+fn answer(rt: &impl Print, a: Answer) -> io::Result<()> {
+    print!(rt; "{} {:x} {:x}", a.number, a.first, a.second)
 }
 
-fn place(name: &[u8], pos: u64, width: u8) {
-    text(name);
-    hex(pos);
-    number(width as u64);
+fn read(rt: &impl Print, bytes: &[u8], pos: u64, width: u8) -> io::Result<()> {
+    print!(rt; "offset {pos:x} {width} ")?;
+    answer(rt, read_offset(bytes, pos as usize, width).answer())?;
+    print!(rt; "\nlength {pos:x} {width} ")?;
+    answer(rt, read_length(bytes, pos as usize, width).answer())?;
+    println!(rt; "")
 }
 
-fn answer(a: Answer) {
-    number(a.number as u64);
-    hex(a.first);
-    io::print_hex(STDOUT_FILENO, a.second, 1);
-}
-
-fn reads(bytes: &[u8], pos: u64, width: u8) {
-    place(b"offset ", pos, width);
-    answer(read_offset(bytes, pos as usize, width).answer());
-    text(b"\n");
-    place(b"length ", pos, width);
-    answer(read_length(bytes, pos as usize, width).answer());
-    text(b"\n");
-}
-
-fn store(pos: u64, width: u8) {
+fn store(rt: &impl Print, pos: u64, width: u8) -> io::Result<()> {
     let mut bytes = [0xA5u8; 18];
-    place(b"store ", pos, width);
-    answer(write_offset(&mut bytes, pos as usize, 0x0123_4567_89AB_CDEF, width).answer());
-    text(b" ");
-    dump(&bytes);
-    text(b"\n");
+    print!(rt; "store {pos:x} {width} ")?;
+    answer(
+        rt,
+        write_offset(&mut bytes, pos as usize, 0x0123_4567_89AB_CDEF, width).answer(),
+    )?;
+    println!(rt; " {}", Hex { bytes: &bytes })
 }
 
-fn store_undefined(pos: u64, width: u8) {
+fn store_undefined(rt: &impl Print, pos: u64, width: u8) -> io::Result<()> {
     let mut bytes = [0xA5u8; 18];
-    place(b"undefined ", pos, width);
-    answer(write_undef_offset(&mut bytes, pos as usize, width).answer());
-    text(b" ");
-    dump(&bytes);
-    text(b"\n");
+    print!(rt; "undefined {pos:x} {width} ")?;
+    answer(
+        rt,
+        write_undef_offset(&mut bytes, pos as usize, width).answer(),
+    )?;
+    println!(rt; " {}", Hex { bytes: &bytes })
 }
 
-fn at_width(bytes: &[u8], pos: u64, width: u8) {
-    reads(bytes, pos, width);
-    store(pos, width);
-    store_undefined(pos, width);
-}
-
-fn widths() -> [u8; 10]
-    ensures { 10 ≡ length result }
-{
-    [0, 1, 2, 3, 4, 5, 8, 9, 128, 255]
-}
-
-fn fields_at(bytes: &[u8], pos: u64) {
-    let all = widths();
-    for i in 0..10 {
-        at_width(bytes, pos, all[i]);
+// Fields in these bytes.
+fn fields(rt: &impl Print, bytes: &[u8]) -> io::Result<()> {
+    for pos in PLACES {
+        for width in WIDTHS {
+            read(rt, bytes, pos, width)?;
+            store(rt, pos, width)?;
+            store_undefined(rt, pos, width)?;
+        }
     }
+    Ok(())
 }
 
-// Fields in the first 18 bytes.
-fn fields_in(bytes: &[u8]) {
-    if 18 <= bytes.len() {
-        fields_everywhere(&bytes[..18]);
+fn undefined(rt: &impl Print) -> io::Result<()> {
+    for addr in ADDRESSES {
+        for width in WIDTHS {
+            let said = if is_undefined_addr(addr, width) { 1 } else { 0 };
+            println!(rt; "is undefined {addr:x} {width} {said}")?;
+        }
     }
+    Ok(())
 }
 
-fn fields_everywhere(bytes: &[u8]) {
-    fields_at(bytes, 0);
-    fields_at(bytes, 1);
-    fields_at(bytes, 8);
-    fields_at(bytes, 14);
-    fields_at(bytes, 16);
-    fields_at(bytes, 17);
-    fields_at(bytes, 18);
-    fields_at(bytes, 0xFFFF_FFFF_FFFF_FFF8);
-    fields_at(bytes, 0xFFFF_FFFF_FFFF_FFFF);
-}
-
-fn undefined_line(addr: u64, width: u8) {
-    place(b"is undefined ", addr, width);
-    if is_undefined_addr(addr, width) {
-        text(b"1\n");
-    } else {
-        text(b"0\n");
-    }
-}
-
-fn undefined_at(addr: u64) {
-    let all = widths();
-    for i in 0..10 {
-        undefined_line(addr, all[i]);
-    }
-}
-
-fn undefined_everywhere() {
-    undefined_at(0);
-    undefined_at(0xFFFE);
-    undefined_at(0xFFFF);
-    undefined_at(0x1_0000);
-    undefined_at(0xFFFF_FFFF);
-    undefined_at(0xFFFF_FFFF_FFFF_FFFE);
-    undefined_at(0xFFFF_FFFF_FFFF_FFFF);
-}
-
-fn long(bytes: &[u8]) {
-    recorded(bytes, 255);
-    recorded(bytes, 1000);
-    recorded(bytes, 4096);
-    recorded(bytes, 10_007);
-    recorded(bytes, 65_535);
-    recorded(bytes, 65_536);
-}
-
-fn main() {
-    text(
-        b"The original Rust's answers (stores: by the facts of docs/DECISIONS.md), from compare/run --record\n",
-    );
-    published();
-    let mut bytes = [0u8; 65_536];
+fn main(rt: HostRuntime) -> io::Result<()> {
+    let rt = &rt;
+    println!(rt;
+        "The original Rust's answers (stores: by the facts of docs/DECISIONS.md), from compare/run --record"
+    )?;
+    published(rt)?;
+    let mut bytes = vec![in rt.alloc(); 0u8; 65_536]?;
     fill(&mut bytes);
-    recorded_to_200(&bytes);
-    long(&bytes);
-    fields_in(&bytes);
-    undefined_everywhere();
+    for n in 0..=200 {
+        recorded(rt, &bytes, n)?;
+    }
+    for n in LONG {
+        recorded(rt, &bytes, n)?;
+    }
+    if let Some(front) = bytes.get(..18) {
+        fields(rt, front)?;
+    }
+    undefined(rt)
 }

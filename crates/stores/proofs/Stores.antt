@@ -21,9 +21,6 @@ use Rattle.stores.specs.Stores.{storeChecked, putIf, offsetStored, undefStored}
 
 -- the loop of `store_le`: the bytes of x that are left, stored from where it stands
 module _ (s : List ℕ) (p w x : ℕ) where
-  pub sets-start : sets s p (le w x) ≡ sets s (p + 0) (le (w - 0) x)
-  sets-start = ap₂ (λ (q n : ℕ). sets s q (le n x)) (omega arith) (omega arith)
-
   pub sets_more : (i : ℕ) → i < w → sets s (p + i) (le (w - i) x) ≡ sets (set s (p + i) (x % 256)) (p + (i + 1)) (le (w - (i + 1)) (x / 256))
   unfolding le
   sets_more i h =

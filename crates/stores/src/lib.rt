@@ -16,15 +16,14 @@ pub fn store_le(bytes: &mut [u8], pos: usize, value: u64, width: usize)
     ensures { bytes.new ≡ put bytes.old pos (le width value) }
 {
     let mut rest = value;
-    let mut i: usize = 0;
-    while i < width {
+    for i in 0..width {
         bytes[pos + i] = (rest % 256) as u8;
         rest = rest / 256;
-        i = i + 1;
     }
 }
 
 // Whether an address of `offset_size` bytes can be stored at `pos` of `lent` bytes.
+#[tactic(auto, unfolding(crate::specs::Stores::storeChecked))]
 fn check_store(lent: usize, pos: usize, offset_size: u8) -> Checked
     ensures { result ≡ storeChecked lent pos offset_size }
 {
@@ -41,6 +40,7 @@ fn check_store(lent: usize, pos: usize, offset_size: u8) -> Checked
 }
 
 // Stores the low bytes of `value` as an address of `offset_size` bytes at `pos`.
+#[tactic(auto, unfolding(crate::specs::Stores::offsetStored))]
 pub fn write_offset(bytes: &mut [u8], pos: usize, value: u64, offset_size: u8) -> Checked
     ensures value { result ≡ storeChecked (length bytes.old) pos offset_size }
     ensures bytes_after { bytes.new ≡ offsetStored bytes.old pos value offset_size }

@@ -9,7 +9,7 @@ use native.Mathlib.Nat.{le_trans, mul-le-mul_left}
 use native.Mathlib.Numerals.{add-one}
 use native.Mathlib.Decide.{dec_le}
 use lib.Dec.{leb}
-use lib.ListN.{length, take, drop, get_or, set, replicate, length-append, length-set}
+use lib.ListN.{length, take, get_or, set, replicate, length-append, length-set}
 use lib.Seq.{take-append-le, take_all, take-suc-set, take-take, take-set-le, get_or-set_other}
 use lib.Pow.{pow_mono}
 use borrow.Author.Tests.{le-leb, lt-leb}

@@ -1,6 +1,6 @@
 -- How many object bytes the blocks of a table can hold: HDF5 File Format Specification 3.0, III.G, 'Fractal Heap Direct
 -- Block', Object Data.
-use Rattle.std.specs.Prelude.{ℕ, zero, suc, ◌+◌, ◌-◌, ◌*◌, ◌^◌, cond, List, [], ◌∷◌, ◌++◌, take, leb}
+use Rattle.std.specs.Prelude.{ℕ, zero, suc, ◌-◌, ◌*◌, ◌^◌, cond, List, [], ◌∷◌, ◌++◌, take, leb}
 use Rattle.numbers.specs.Sums.{sum}
 use Rattle.table.specs.Table.{Table, rowBits}
 

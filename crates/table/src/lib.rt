@@ -7,21 +7,21 @@
 ghost use Rattle.std.specs.Prelude.{◌≡◌, ◌^◌, ◌<◌, ◌≤◌, leb};
 ghost use Rattle.table.specs.Table.{fixed, rowBits, rowOffset, row_of, place_of};
 
-#[derive(Drop)]
+#[derive(Clone, Copy)]
 pub struct RowCol {
     pub row: u64,
     pub col: u64,
 }
 
 // A direct slot of the heap.
-#[derive(Drop)]
+#[derive(Clone, Copy)]
 pub struct Slot {
     pub start: u64,
     pub size: u64,
 }
 
 // A slot of one indirect block's table: its row, and its place from the block's own offset on.
-#[derive(Drop)]
+#[derive(Clone, Copy)]
 pub struct TableSlot {
     pub row: u64,
     pub start: u64,
@@ -29,7 +29,7 @@ pub struct TableSlot {
 }
 
 // The rows that a root needs, or none where the table has too few.
-#[derive(Drop)]
+#[derive(Clone, Copy)]
 pub enum Covering {
     Rows(u64),
     Beyond,

@@ -32,11 +32,9 @@ pub fn rows_capacity(offset_size: u8) -> [u64; 29]
     let header = direct_block_header(offset_size);
     let mut per_block = [1024 - header; 29];
     let mut below = 0;
-    let mut row: usize = 2;
-    while row < 29 {
+    for row in 2..29 {
         per_block[row] = block_capacity(row as u64, below, header);
         below += per_block[row - 2];
-        row += 1;
     }
     per_block
 }
@@ -47,10 +45,8 @@ pub fn capacity_sum(per_block: [u64; 29], nrows: usize) -> u64
     ensures { result ≡ 4 * sum (take nrows per_block) }
 {
     let mut total = 0;
-    let mut row = 0;
-    while row < nrows {
+    for row in 0..nrows {
         total += per_block[row];
-        row += 1;
     }
     4 * total
 }

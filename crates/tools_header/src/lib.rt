@@ -40,6 +40,7 @@ fn put_pair(fields: &mut [u64], a: Answer)
 
 // The header's fields, or the refusal's pair, in the first places of a list of at least twelve; a shorter
 // one gives 13 and is left as it is.
+#[tactic(auto, unfolding(crate::specs::HeaderTools::fieldsNumber, crate::specs::HeaderTools::fieldsList))]
 #[unsafe(no_mangle)]
 pub extern "C" fn tools_parse_header(
     file: &[u8],
@@ -61,8 +62,9 @@ pub extern "C" fn tools_parse_header(
         }
         Parsed::Refused(e) => {
             let a = refused(e);
+            let number = a.number;
             put_pair(fields, a);
-            a.number
+            number
         }
     }
 }

@@ -12,8 +12,7 @@ pub fn read_each(h: FractalHeapHeader, file: &[u8], offset_size: u8, ids: &[u8],
     ensures { found.new ≡ put found.old 0 (answersFrom h file.now offset_size (length ids.now / 8) ids.now) }
 {
     let n = ids.len() / 8;
-    let mut i: usize = 0;
-    while i < n {
+    for i in 0..n {
         let a = h
             .read_managed_object(file, &ids[8 * i..8 * i + 8], offset_size)
             .answer();
@@ -21,6 +20,5 @@ pub fn read_each(h: FractalHeapHeader, file: &[u8], offset_size: u8, ids: &[u8],
         found[place] = a.number as u64;
         found[place + 1] = a.first;
         found[place + 2] = a.second;
-        i = i + 1;
     }
 }

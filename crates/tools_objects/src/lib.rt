@@ -59,6 +59,7 @@ pub extern "C" fn tools_heap_id_type(id: &[u8], slot: &mut [u8]) -> u32
 }
 
 // The header once, then every ID; 13 and nothing stored where the list is too short for all.
+#[tactic(auto, unfolding(crate::specs::ObjectTools::tooFew, crate::specs::ObjectTools::eachNumber, crate::specs::ObjectTools::eachList))]
 #[unsafe(no_mangle)]
 pub extern "C" fn tools_read_each(
     file: &[u8],

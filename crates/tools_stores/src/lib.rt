@@ -12,6 +12,7 @@ use c_slot::put_answer;
 use fields::convert::to_usize;
 use stores::{write_offset, write_undef_offset};
 
+#[tactic(auto, unfolding(crate::specs::StoreTools::afterSlot, c_slot::specs::Slot::slotNumber, c_slot::specs::Slot::slotBytes))]
 #[unsafe(no_mangle)]
 pub extern "C" fn tools_write_offset(
     bytes: &mut [u8],
@@ -31,6 +32,7 @@ pub extern "C" fn tools_write_offset(
     put_answer(slot, done.answer())
 }
 
+#[tactic(auto, unfolding(crate::specs::StoreTools::afterSlot, c_slot::specs::Slot::slotNumber, c_slot::specs::Slot::slotBytes))]
 #[unsafe(no_mangle)]
 pub extern "C" fn tools_write_undef_offset(
     bytes: &mut [u8],

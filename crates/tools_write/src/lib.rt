@@ -20,6 +20,7 @@ use plan_numbers::put_planned;
 
 // Plans, and puts the plan's eight numbers, or a refusal's pair, into the first places of `totals`; a
 // shorter list than 8 gives 13 before all else.
+#[tactic(auto, unfolding(plan_numbers::specs::PlanTools::planNumber, plan_numbers::specs::PlanTools::planTotals, plan_numbers::specs::PlanTools::afterTotals))]
 #[unsafe(no_mangle)]
 pub extern "C" fn tools_plan(
     sizes: &[u64],
@@ -45,6 +46,7 @@ pub extern "C" fn tools_plan(
 
 // Plans and writes, and puts the plan's eight numbers, or a refusal's pair, into the first places of `totals`; a
 // shorter list than 8 gives 13 before all else.
+#[tactic(auto, unfolding(plan_numbers::specs::PlanTools::planNumber, plan_numbers::specs::PlanTools::planTotals, plan_numbers::specs::PlanTools::afterTotals))]
 #[unsafe(no_mangle)]
 pub extern "C" fn tools_serialize(
     sizes: &[u64],
@@ -83,6 +85,7 @@ pub extern "C" fn tools_serialize(
 
 // Writes a managed ID, and puts a refusal's pair, or two zeros, into the first 16 bytes of `slot`; a shorter slot
 // gives 13 before all else, and nothing is written.
+#[tactic(auto, unfolding(c_slot::specs::Slot::slotNumber, c_slot::specs::Slot::slotBytes))]
 #[unsafe(no_mangle)]
 pub extern "C" fn tools_write_managed_id(
     offset: u64,

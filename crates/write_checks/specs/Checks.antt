@@ -1,5 +1,5 @@
 -- The tests between planning and writing, in their order.
-use Rattle.std.specs.Prelude.{ℕ, ◌+◌, ◌-◌, ◌*◌, ◌^◌, cond, leb, ltb, eqb}
+use Rattle.std.specs.Prelude.{ℕ, ◌+◌, cond, leb, ltb, eqb}
 use Rattle.refusals.specs.declared.FormatError.TheVariants.{ObjectBytesMismatch, HeaderAddressTooLarge, RegionAddressTooLarge}
 use Rattle.fields.specs.Undefined.{undefinedAddress}
 use Rattle.fields.specs.Fields.{afterCheck}

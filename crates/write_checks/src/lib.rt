@@ -12,7 +12,7 @@ use plan::{Planned, planned_for};
 use region_blocks::Site;
 
 // How much the writer is lent: the places of both lists, the bytes of the objects, the bytes of the region.
-#[derive(Drop)]
+#[derive(Clone, Copy)]
 pub struct Lent {
     pub offset_places: usize,
     pub block_places: usize,

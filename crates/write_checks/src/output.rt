@@ -26,6 +26,7 @@ pub fn sum_sizes(sizes: &[u64]) -> u64
     total
 }
 
+#[tactic(auto, unfolding(crate::specs::Checks::bytesChecked))]
 fn check_bytes(needed: u64, given: u64) -> Checked
     ensures { result ≡ bytesChecked needed given }
 {
@@ -36,6 +37,7 @@ fn check_bytes(needed: u64, given: u64) -> Checked
     }
 }
 
+#[tactic(auto, unfolding(little_endian::specs::Widths::legal))]
 fn undefined_address(offset_size: u8) -> u64
     requires { legal offset_size ≡ true }
     ensures { result ≡ undefinedAddress offset_size }
@@ -47,6 +49,7 @@ fn undefined_address(offset_size: u8) -> u64
     }
 }
 
+#[tactic(auto, unfolding(crate::specs::Checks::headerAddressChecked))]
 fn check_header_address(address: u64, offset_size: u8) -> Checked
     requires { legal offset_size ≡ true }
     ensures { result ≡ headerAddressChecked offset_size address }
@@ -59,6 +62,7 @@ fn check_header_address(address: u64, offset_size: u8) -> Checked
 }
 
 // No sum is formed that could wrap.
+#[tactic(auto, unfolding(crate::specs::Checks::regionAddressChecked))]
 fn check_region_address(address: u64, size: u64, offset_size: u8) -> Checked
     requires { legal offset_size ≡ true }
     ensures { result ≡ regionAddressChecked offset_size address size }
@@ -75,6 +79,7 @@ fn check_region_address(address: u64, size: u64, offset_size: u8) -> Checked
 }
 
 // All of them, in their order.
+#[tactic(auto, unfolding(crate::specs::Checks::outputChecked))]
 pub fn check_output(site: Site, lent: Lent, needed: u64, size: u64) -> Checked
     requires { legal site.offset_size ≡ true }
     ensures { result ≡ outputChecked site lent needed size }
