@@ -40,7 +40,7 @@ pub fn read_front(file: &[u8], at: usize) -> FrontFields
     ensures { (os ls : ℕ) → result ≡ frontFields file.now at os ls }
 {
     FrontFields {
-        heap_id_length: read_u16_le(file, at + 7),
+        heap_id_length: read_u16_le(file, at + 5),
         io_filter_encoded_length: read_u16_le(file, at + 7),
         max_managed_object_size: read_u32_le(file, at + 10),
     }

@@ -24,7 +24,7 @@ use Rattle.read_rows.specs.declared.DoublingTable.{DoublingTable}
 use Rattle.read_blocks.specs.declared.RowScan.{RowScan}
 use Rattle.read_blocks.specs.declared.HeapChild.{HeapChild}
 use Rattle.read_blocks.specs.declared.Found.{Found}
-use Rattle.read_blocks.specs.Blocks.{childOf, afterRow, directAt, walkFrom}
+use Rattle.read_blocks.specs.Blocks.{childOf, afterRow, directAt}
 use Rattle.heap_kept.specs.Walking.{Has, Agrees, Coming, Finds, WalkFinds}
 use Rattle.heap_kept.proofs.Entries.{entry-passed, entry-taken}
 use Rattle.heap_kept.proofs.Standing.{Stands, block-stands, onward, walk-scans}

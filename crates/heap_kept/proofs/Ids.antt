@@ -16,7 +16,6 @@ use Rattle.table.specs.Sizes.{offsetBytes}
 use Rattle.id_decode.specs.declared.ManagedId.TheVariants.{Decoded}
 use Rattle.id_decode.specs.IdTypes.{type_of}
 use Rattle.id_decode.specs.Id.{splitId, decodedId}
-use Rattle.fractal_heap.specs.declared.header.FractalHeapHeader.{FractalHeapHeader}
 use Rattle.id_write.specs.Checks.{idLength, idChecked}
 use Rattle.id_write.proofs.Checking.{held}
 use Rattle.id_write.specs.Ids.{managedId, idWritten}

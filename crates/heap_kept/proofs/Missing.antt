@@ -1,24 +1,22 @@
 -- At any table: where no placed block holds the wanted heap offset, the reader's walk over written indirect blocks
 -- ends with 1.
-use Prim.Native.Nat.{ℕ, zero, suc, ◌+◌, ◌-◌, ◌*◌, ◌^◌, ◌≤◌, ◌<◌}
+use Prim.Native.Nat.{ℕ, zero, suc, ◌+◌, ◌-◌, ◌^◌, ◌≤◌, ◌<◌}
 use mathlib.Core.Path.{◌≡◌, refl, sym, ◌∙◌, subst}
 use mathlib.Core.Logic.{◌⊎◌, inl, inr}
 use mathlib.Core.Bool.{true}
-use mathlib.Core.List.{List, [], ◌∷◌}
+use mathlib.Core.List.{List, ◌∷◌}
 use native.Mathlib.Omega.{arith}
 use native.Mathlib.Decide.{dec_le, dec_lt}
 use lib.ListN.{length, drop}
 use Rattle.little_endian.specs.Widths.{legal}
 use Rattle.table.specs.Table.{Table, rowBits, rowOffset}
 use Rattle.table.specs.Sizes.{offsetBytes}
-use Rattle.table.specs.Slots.{slot_at}
 use Rattle.region_indirects.specs.Walk.{Walked, unplaced, slot, smaller, allSlots, block}
 use Rattle.region_indirects.proofs.Walking.{slot-entry}
-use Rattle.region_laws.proofs.Starts.{Placed, from, from-yes, from-no}
+use Rattle.region_laws.proofs.Starts.{from, from-yes, from-no}
 use Rattle.region_laws.proofs.Geometry.{SlotAt, slot-end, BlockAt, inner-span, inner_block}
 use Rattle.region_laws.proofs.Walking.{by-smaller, Way, empty, placed, deeper, way, cut-placed, slot-cut}
 use Rattle.read_rows.specs.declared.DoublingTable.{DoublingTable}
-use Rattle.read_blocks.specs.Blocks.{walkFrom}
 use Rattle.heap_kept.specs.Walking.{Has, Agrees, Clear, none, more, Absent, missed, Misses, WalkMisses}
 use Rattle.heap_kept.proofs.Entries.{entry-passed, entry-later, entry-undefined}
 use Rattle.heap_kept.proofs.Standing.{Stands, block-stands, onward, walk-scans}

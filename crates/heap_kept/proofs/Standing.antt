@@ -7,10 +7,8 @@ use native.Mathlib.Nat.{add-zero}
 use lib.ListN.{length, drop, length-append}
 use borrow.Author.Tests.{le-leb, eq-eqb}
 use Rattle.little_endian.specs.LittleEndian.{le, value, leAt}
-use Rattle.numbers.specs.Numbers.{saturated}
 use Rattle.fields.specs.Fields.{lenChecked}
 use Rattle.little_endian.proofs.LittleEndian.{length-le}
-use Rattle.refusals.specs.declared.FormatError.TheVariants.{UnexpectedEof}
 use Rattle.checksum.specs.Lookup3.{hashlittle}
 use Rattle.table.specs.Table.{Table}
 use Rattle.table.specs.Sizes.{offsetBytes}
@@ -21,7 +19,6 @@ use Rattle.region_indirects.specs.Walk.{Walked, both, finished, allSlots, block}
 use Rattle.read_rows.specs.declared.DoublingTable.{DoublingTable}
 use Rattle.read_blocks.specs.declared.HeapChild.{HeapChild}
 use Rattle.read_blocks.specs.declared.Found.{Found}
-use Rattle.read_blocks.specs.declared.Found.TheVariants.{Refused}
 use Rattle.read_blocks.specs.Blocks.{childScan, entriesPlace, childIn, childAt, directAt, afterChild, walkFrom}
 use Rattle.heap_kept.specs.Walking.{Has, missed}
 use Rattle.heap_kept.proofs.Holding.{has_left, has_right, has-drop, has-number}

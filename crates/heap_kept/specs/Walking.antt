@@ -1,6 +1,6 @@
 -- What the laws say of the reader's walk over written indirect blocks: steps towards the theorem, at any table. Nothing
 -- here has to be believed.
-use Rattle.std.specs.Prelude.{ℕ, suc, ◌+◌, ◌-◌, ◌*◌, ◌^◌, ◌≤◌, ◌<◌, ◌≡◌, true, List, [], ◌∷◌, length, take, drop}
+use Rattle.std.specs.Prelude.{ℕ, suc, ◌+◌, ◌-◌, ◌^◌, ◌≤◌, ◌<◌, ◌≡◌, true, List, [], ◌∷◌, length, take, drop}
 use Rattle.fields.specs.Undefined.{undefinedAddress}
 use Rattle.little_endian.specs.Widths.{legal}
 use Rattle.table.specs.Table.{Table, rowBits, rowOffset}

@@ -9,9 +9,8 @@ use lib.ListN.{length, drop, get_or, drop_of_length-le}
 use lib.Seq.{drop-cons}
 use lib.Dec.{eqb}
 use borrow.Author.Tests.{eqb-true, eq-eqb, ne_eqb}
-use Rattle.refusals.specs.declared.FormatError.{FormatError}
 use Rattle.read_blocks.specs.declared.Found.{Found}
-use Rattle.read_blocks.specs.declared.Found.TheVariants.{At, Refused}
+use Rattle.read_blocks.specs.declared.Found.TheVariants.{At}
 use Rattle.fractal_heap.specs.declared.header.FractalHeapHeader.{FractalHeapHeader}
 use Rattle.round_trip_read.specs.Objects.{objectAt}
 use Rattle.round_trip_object.specs.Back.{sameBytes, holdsAt, foundAs, comesBack}
@@ -61,16 +60,9 @@ same_end xs ys i l m = rw (drop_of_length-le xs l, drop_of_length-le ys m)
 -- ---- what the answer of reading makes of coming back
 
 module _ (h : FractalHeapHeader) (s : List ℕ) (w o n : ℕ) (bs : List ℕ) where
-  pub back-refused : (e : FormatError) → objectAt h s w o n ≡ Refused e → comesBack h s w o n bs ≡ false
-  unfolding comesBack
-  back-refused e k = ap (λ (x : Found). foundAs x s n bs) k
-
   found : (p len : ℕ) → objectAt h s w o n ≡ At p len → comesBack h s w o n bs ≡ (eqb len n && holdsAt s p len bs)
   unfolding comesBack
   found p len k = ap (λ (x : Found). foundAs x s n bs) k
 
   pub back_found : (p len : ℕ) → objectAt h s w o n ≡ At p len → len ≡ n → comesBack h s w o n bs ≡ holdsAt s p len bs
   back_found p len k e = found p len k ∙ ap (λ (t : Bool). t && holdsAt s p len bs) (eq-eqb len n e)
-
-  pub back-other : (p len : ℕ) → objectAt h s w o n ≡ At p len → (len ≡ n → ⊥) → comesBack h s w o n bs ≡ false
-  back-other p len k e = found p len k ∙ ap (λ (t : Bool). t && holdsAt s p len bs) (ne_eqb len n e)

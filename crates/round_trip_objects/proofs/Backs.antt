@@ -1,11 +1,10 @@
 -- Laws of the count of what comes back, object by object.
-use Prim.Native.Nat.{ℕ, ◌+◌, ◌-◌, ◌≤◌, ◌<◌, min, zero-le}
+use Prim.Native.Nat.{ℕ, ◌+◌, ◌-◌, ◌≤◌, ◌<◌, min}
 use mathlib.Core.Path.{◌≡◌, refl, sym, ap, ◌∙◌}
 use mathlib.Core.Bool.{Bool, true, false, ◌&&◌}
 use mathlib.Core.Logic.{dite}
 use mathlib.Core.List.{List, [], ◌∷◌}
 use native.Mathlib.Omega.{arith}
-use native.Mathlib.Nat.{zero-add}
 use native.Mathlib.Decide.{dec_le}
 use native.Mathlib.Numerals.{add-one}
 use lib.ListN.{length, take, drop, get_or, drop_of_length-le, length-drop}
@@ -72,9 +71,6 @@ pub record Counting (h : FractalHeapHeader) (s : List ℕ) (w : ℕ) (xs os js :
   pub rest : back + backs h s w (drop i xs) (drop i os) (drop from js) ≡ backs h s w xs os js
 
 module _ (h : FractalHeapHeader) (s : List ℕ) (w : ℕ) (xs os js : List ℕ) (count : ℕ) where
-  pub counting-start : count ≡ min (length xs) (length os) → Counting h s w xs os js count 0 0 0
-  counting-start e = record { inside = zero-le; both = e; few = zero-le; here = zero-le; rest = zero-add (backs h s w xs os js) }
-
   module _ (back from i : ℕ) (I : Counting h s w xs os js count back from i) where
     pub counting-end : count ≤ i → back ≡ backs h s w xs os js
     counting-end l =
@@ -92,9 +88,6 @@ module _ (h : FractalHeapHeader) (s : List ℕ) (w : ℕ) (xs os js : List ℕ) 
 
       -- its bytes end at e
       module _ (e : ℕ) (d : e ≡ min (from + get_or xs i 0) (length js)) where
-        pub end_later : from ≤ e
-        end_later = let a = I.here in omega arith
-
         pub end-inside : e ≤ length js
         end-inside = omega arith
 
