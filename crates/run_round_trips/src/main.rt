@@ -60,7 +60,7 @@ fn sum_ids(sizes: &[u64], offsets: &[u64]) -> u32 {
     let mut ids = [0u8; 8 * PLACES];
     let mut end: usize = 0;
     for (size, offset) in sizes.iter().zip(offsets) {
-        if end < ids.len() {
+        if end + 8 <= ids.len() {
             write_managed_id(*offset, *size, &mut ids[end..]);
             end += 8;
         }
