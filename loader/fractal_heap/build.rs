@@ -1,4 +1,5 @@
-//! Says where the proved library is: in the folder that FRACTAL_HEAP_LIBRARIES names, or where `rt staticlib` puts it.
+//! Says where the proved library is: in the folder that FRACTAL_HEAP_LIBRARIES names, or where `loader/static_libraries`
+//! puts it.
 use std::env;
 use std::path::PathBuf;
 
@@ -12,7 +13,7 @@ fn main() {
     println!("cargo::rerun-if-changed={}", library.display());
     if !library.exists() {
         println!(
-            "cargo::warning={} is not there: `./build` or `rt staticlib fractal_heap_c` makes it",
+            "cargo::warning={} is not there: `./build` or `loader/static_libraries fractal_heap_c` makes it",
             library.display()
         );
     }

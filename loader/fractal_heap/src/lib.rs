@@ -37,8 +37,8 @@
 //! # Ok::<(), Error>(())
 //! ```
 //!
-//! The library is linked statically. It is looked for where `rt staticlib` puts it, or in the folder that the variable
-//! `FRACTAL_HEAP_LIBRARIES` names when this crate is built.
+//! The library is linked statically. It is looked for where `loader/static_libraries` puts it, or in the folder that the
+//! variable `FRACTAL_HEAP_LIBRARIES` names when this crate is built.
 #![warn(missing_docs)]
 
 mod numbers;
