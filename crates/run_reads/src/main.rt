@@ -8,7 +8,7 @@
 // file, the ID. An accepted parse has twelve words, the header's fields; any other answer has two values.
 #![tactic(auto)]
 
-ghost use Rattle.std.specs.Prelude.{◌≤◌, length, IfSome};
+ghost use Rattle.std.specs.Prelude.{◌≡◌, ◌+◌, ◌^◌, ◌<◌, ◌≤◌, length, IfSome};
 ghost use Rattle.run_reads.specs.Case.{Whole};
 
 use fields::convert::to_usize;
@@ -148,6 +148,22 @@ fn is_same_at(list: &[u8], pos: usize, case: Case) -> bool
     )
 }
 
+impl Tally {
+    // One case more.
+    fn with(self, same: bool) -> Tally
+        requires differing { self.differ ≤ self.cases }
+        requires room { self.cases < 2 ^ 63 }
+        ensures differing { result.differ ≤ result.cases }
+        ensures counted { result.cases ≡ self.cases + 1 }
+    {
+        let differ = if same { self.differ } else { self.differ + 1 };
+        Tally {
+            cases: self.cases + 1,
+            differ,
+        }
+    }
+}
+
 // The cases of one kind, up to the first place where no case begins.
 fn count(list: &[u8], kind: u8) -> Tally {
     let mut t = Tally {
@@ -157,10 +173,7 @@ fn count(list: &[u8], kind: u8) -> Tally {
     let mut pos: usize = 0;
     while let Some(case) = case_at(list, pos) {
         if list[pos] == kind {
-            t.cases += 1;
-            if !is_same_at(list, pos, case) {
-                t.differ += 1;
-            }
+            t = t.with(is_same_at(list, pos, case));
         }
         pos = case.next;
     }
@@ -168,7 +181,9 @@ fn count(list: &[u8], kind: u8) -> Tally {
 }
 
 // The first place where no case begins.
-fn end(list: &[u8]) -> usize {
+fn end(list: &[u8]) -> usize
+    ensures { result ≤ length list.now }
+{
     let mut pos: usize = 0;
     while let Some(case) = case_at(list, pos) {
         pos = case.next;

@@ -6,7 +6,7 @@ abbrev pub invariant-loop-case : goal.invariant-loop-case
 invariant-loop-case l = record {
   in_list : l.pos ≤ length l.list;
   cases : l.t.cases ≤ l.pos;
-  differ : l.t.differ ≤ l.pos;
+  differ : l.t.differ ≤ l.t.cases;
 }
 
 abbrev pub decreases-loop-case : goal.decreases-loop-case
