@@ -11,7 +11,7 @@ ghost use Rattle.plan_steps.specs.Requires.{Bounded, Small, Runs};
 ghost use Rattle.little_endian.specs.LittleEndian.{put};
 
 use plan_search::open_block;
-use plan_steps::{Filled, State, Step, in_current, initial};
+use plan_steps::{Filled, State, Step, in_current, initial, too_full};
 
 // The objects from `from` on that fit into the current block, and their offsets.
 fn fill_offsets(sizes: &[u64], offsets: &mut [u64], from: usize, s: State) -> Filled
@@ -25,7 +25,7 @@ fn fill_offsets(sizes: &[u64], offsets: &mut [u64], from: usize, s: State) -> Fi
     let mut next = from;
     while next < sizes.len() {
         let size = sizes[next];
-        if state.fill + size > state.size {
+        if too_full(state, size) {
             return Filled { next, state };
         }
         offsets[next] = state.start + state.fill;
@@ -52,10 +52,10 @@ fn write_plan(sizes: &[u64], offsets: &mut [u64], blocks: &mut [u64], offset_siz
         if at >= sizes.len() {
             return;
         }
-        let block = full.count as usize;
         match open_block(full, sizes[at], offset_size) {
             Step::Placed(next, offset) => {
                 offsets[at] = offset;
+                let block = full.count as usize;
                 blocks[block] = next.start;
                 s = next;
             }

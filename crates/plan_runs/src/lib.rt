@@ -10,7 +10,7 @@ ghost use Rattle.plan_steps.specs.Filling.{filledFrom};
 ghost use Rattle.plan_steps.specs.Requires.{Bounded, Small};
 
 use plan_search::open_block;
-use plan_steps::{Filled, Run, State, Step, in_current, initial};
+use plan_steps::{Filled, Run, State, Step, in_current, initial, too_full};
 
 // The objects from `from` on that fit into the current block.
 pub fn fill_block(sizes: &[u64], from: usize, s: State) -> Filled
@@ -22,7 +22,7 @@ pub fn fill_block(sizes: &[u64], from: usize, s: State) -> Filled
     let mut next = from;
     while next < sizes.len() {
         let size = sizes[next];
-        if state.fill + size > state.size {
+        if too_full(state, size) {
             return Filled { next, state };
         }
         state = in_current(state, size);

@@ -9,7 +9,7 @@ ghost use Rattle.plan_steps.specs.Steps.{open_at, blockEnd, opened, step_of};
 ghost use Rattle.plan_steps.specs.Requires.{Bounded};
 ghost use Rattle.plan_search.specs.Spans.{ceilBits};
 
-use plan_steps::{Open, State, Step, in_current, in_new};
+use plan_steps::{Open, State, Step, in_current, in_new, too_full};
 use table_sizes::direct_block_header;
 use table_slots::locate;
 
@@ -52,10 +52,7 @@ pub fn open_block(s: State, size: u64, offset_size: u8) -> Step
 {
     let header = direct_block_header(offset_size);
     match open_from(s.start + s.size, header + size) {
-        Open::At(b) => {
-            let place = b.start + header;
-            Step::Placed(in_new(s, size, b, offset_size), place)
-        }
+        Open::At(b) => Step::Placed(in_new(s, size, b, offset_size), b.start + header),
         Open::Full => Step::Ends,
     }
 }
@@ -66,9 +63,8 @@ pub fn advance(s: State, size: u64, offset_size: u8) -> Step
     requires size_bound { size ≤ maxManaged fixed offset_size }
     ensures { result ≡ step_of fixed offset_size s size }
 {
-    if s.fill + size > s.size {
+    if too_full(s, size) {
         return open_block(s, size, offset_size);
     }
-    let place = s.start + s.fill;
-    Step::Placed(in_current(s, size), place)
+    Step::Placed(in_current(s, size), s.start + s.fill)
 }

@@ -1,17 +1,18 @@
 -- What is left of `advance`: one object's step is either branch.
 use Rattle.std.proofs.Common.{sym, ◌∙◌, arith}
+use borrow.Author.Tests.{ltb-true, ltb-false}
 use Rattle.table.specs.Table.{fixed}
 use Rattle.plan_steps.proofs.Stepping.{size_fits, step-open, same-is}
 use Rattle.plan_search.proofs.advance.Goals as goal
 
-pub overflow_add-s : goal.overflow_add-s
-overflow_add-s c = omega (arith, size_fits c.args.offset_size c.args.size (omega arith) c.requires.size_bound)
+pub too_full-requires-clause-size_bound : goal.too_full-requires-clause-size_bound
+too_full-requires-clause-size_bound c = omega (arith, size_fits c.args.offset_size c.args.size (omega arith) c.requires.size_bound)
 
-pub returns-then-s-size : goal.returns-then-s-size
-returns-then-s-size c = c.open_block.ensures ∙ sym (step-open fixed _ _ _ c.if-s-size.true)
+pub returns-then-too_full : goal.returns-then-too_full
+returns-then-too_full c = c.open_block.ensures ∙ sym (step-open fixed _ _ _ (ltb-true _ _ (sym c.if-too_full.ensures)))
 
 pub in_current-requires-clause-size_bound : goal.in_current-requires-clause-size_bound
 in_current-requires-clause-size_bound c = omega (arith, size_fits c.args.offset_size c.args.size (omega arith) c.requires.size_bound)
 
 pub returns : goal.returns
-returns c = same-is _ _ _ _ c.if-s-size.false c.in_current.ensures
+returns c = same-is _ _ _ _ (ltb-false _ _ (sym c.if-too_full.ensures)) c.in_current.ensures
