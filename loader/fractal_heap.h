@@ -1,5 +1,5 @@
 /* The loader's interface to the fractal heap: the three functions of the library fractal_heap_c
- * (`rt staticlib fractal_heap_c`, target/staticlib/libfractal_heap_c.a). */
+ * (loader/static_libraries fractal_heap_c, target/staticlib/libfractal_heap_c.a). */
 #ifndef FRACTAL_HEAP_H
 #define FRACTAL_HEAP_H
 

@@ -7,7 +7,7 @@ ghost use Rattle.std.specs.Prelude.{◌<◌, ◌≤◌};
 
 use plan::{ManagedPlan, Planned};
 use plan_numbers::put_planned;
-use run_report::{Heading, List, Lists, Told, following};
+use run_report::{Answered, Heading, List, Lists, following};
 use std::io;
 
 // What a lent place holds before a call.
@@ -42,7 +42,7 @@ fn case_in(
     };
     println!(rt;
         "{}{lists}",
-        Told {
+        Answered {
             refusal,
             numbers: &numbers
         }
@@ -154,20 +154,27 @@ fn edge(k: u64, d: u64, width: u8) -> u64
     size.min(65_536 - header)
 }
 
-// A size from a number's bits 16 to 31: below 200, up to 65,504 and mostly below 4,096, or around what
-// a block holds.
-fn drawn(x: u32, kind: u8, width: u8) -> u64 {
+// The kinds of pseudo-random sizes.
+#[derive(Clone, Copy)]
+enum Kind {
+    Small, // below 200
+    Mixed, // up to 65,504, mostly below 4,096
+    Edges, // around what a block holds
+}
+
+// A size from a number's bits 16 to 31.
+fn drawn(x: u32, kind: Kind, width: u8) -> u64 {
     let a = u64::from(x / 0x1_0000 % 256);
     let b = u64::from(x / 0x100_0000 % 256);
     match kind {
-        0 => a % 200,
-        1 => (a * 256 + b) / (1 + b % 32),
-        _ => edge(a % 7, b % 5, width),
+        Kind::Small => a % 200,
+        Kind::Mixed => (a * 256 + b) / (1 + b % 32),
+        Kind::Edges => edge(a % 7, b % 5, width),
     }
 }
 
 // Sizes of one kind, by the pseudo-random sequence from 1 on.
-fn random(rt: &impl Print, name: &str, sizes: &mut [u64], kind: u8, width: u8) -> io::Result<()> {
+fn random(rt: &impl Print, name: &str, sizes: &mut [u64], kind: Kind, width: u8) -> io::Result<()> {
     let mut x: u32 = 1;
     for size in sizes.iter_mut() {
         x = following(x);
@@ -178,13 +185,13 @@ fn random(rt: &impl Print, name: &str, sizes: &mut [u64], kind: u8, width: u8) -
 
 fn long(rt: &impl Print, width: u8) -> io::Result<()> {
     let mut few = [0; 40];
-    random(rt, "40 small", &mut few, 0, width)?;
-    random(rt, "40 mixed", &mut few, 1, width)?;
-    random(rt, "40 edges", &mut few, 2, width)?;
+    random(rt, "40 small", &mut few, Kind::Small, width)?;
+    random(rt, "40 mixed", &mut few, Kind::Mixed, width)?;
+    random(rt, "40 edges", &mut few, Kind::Edges, width)?;
     let mut many = [0; 256];
-    random(rt, "256 small", &mut many, 0, width)?;
-    random(rt, "256 mixed", &mut many, 1, width)?;
-    random(rt, "256 edges", &mut many, 2, width)?;
+    random(rt, "256 small", &mut many, Kind::Small, width)?;
+    random(rt, "256 mixed", &mut many, Kind::Mixed, width)?;
+    random(rt, "256 edges", &mut many, Kind::Edges, width)?;
     case(rt, "250 largest", &[65_522 - u64::from(width); 250], width)
 }
 

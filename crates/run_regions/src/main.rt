@@ -10,7 +10,7 @@ use checksum::jenkins_lookup3;
 use fractal_heap_write::serialize;
 use plan::{ManagedPlan, Planned};
 use plan_numbers::put_planned;
-use run_report::{Heading, Hex, List, Lists, Told, fill, following, joined};
+use run_report::{Answered, Heading, Hex, List, Lists, fill, following, joined};
 use std::io;
 
 // What a place of a lent list, and a byte of a lent region, holds before a call.
@@ -142,7 +142,7 @@ fn write(
     let refusal = put_planned(&mut numbers, planned);
     print!(rt;
         "{}",
-        Told {
+        Answered {
             refusal,
             numbers: &numbers
         }

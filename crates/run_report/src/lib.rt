@@ -2,7 +2,7 @@
 // they work on. It serves the programs alone: what is printed is held to a recorded file.
 #![tactic(auto)]
 
-ghost use Rattle.std.specs.Prelude.{◌≡◌, length};
+ghost use Rattle.std.specs.Prelude.{◌≡◌, ◌%◌, ◌^◌, length, sum};
 ghost use Rattle.run_report.specs.Sequence.{next, bytesAfter};
 
 use std::fmt;
@@ -90,12 +90,12 @@ impl<'a> fmt::Display for Lists<'a> {
 
 // An answer by number: the numbers of what was accepted, or a refusal's number and its pair.
 #[derive(Clone, Copy)]
-pub struct Told<'a> {
+pub struct Answered<'a> {
     pub refusal: u32,
     pub numbers: &'a [u64],
 }
 
-impl<'a> fmt::Display for Told<'a> {
+impl<'a> fmt::Display for Answered<'a> {
     fn fmt<W: fmt::Write>(&self, f: &mut fmt::Formatter<W>) -> fmt::Result {
         let refusal = self.refusal;
         if refusal == 0 {
@@ -122,12 +122,14 @@ fn sum_in_order(numbers: &[u64]) -> u64 {
 }
 
 // How many bytes objects of these sizes have together, modulo 2^32.
-pub fn joined(sizes: &[u64]) -> usize {
-    let mut sum: u32 = 0;
+pub fn joined(sizes: &[u64]) -> usize
+    ensures { result ≡ sum sizes.now % 2 ^ 32 }
+{
+    let mut total: u32 = 0;
     for size in sizes {
-        sum = sum.wrapping_add((*size % 0x1_0000_0000) as u32);
+        total = total.wrapping_add((*size % 0x1_0000_0000) as u32);
     }
-    sum as usize
+    total as usize
 }
 
 // The number after `x` in the pseudo-random sequence.

@@ -12,7 +12,7 @@ use plan::{ManagedPlan, Planned};
 use refusals::{Answer, refused};
 use round_trip::round_trip;
 use round_trip_read::{fixed_header, read_object};
-use run_report::{Heading, Told, fill, following, joined};
+use run_report::{Answered, Heading, fill, following, joined};
 use std::io;
 
 // The most objects of a list, and the bytes of the file.
@@ -36,7 +36,7 @@ fn empty(rt: &impl Print, i: usize, a: Answer) -> io::Result<()> {
     let pair = [a.first, a.second];
     let numbers: &[u64] = if a.number == 0 { &length } else { &pair };
     let refusal = a.number;
-    println!(rt; "  empty {i}{}", Told { refusal, numbers })
+    println!(rt; "  empty {i}{}", Answered { refusal, numbers })
 }
 
 fn empties(
@@ -82,7 +82,7 @@ fn refusal(rt: &impl Print, a: Answer) -> io::Result<()> {
     let refusal = a.number;
     println!(rt;
         "{}",
-        Told {
+        Answered {
             refusal,
             numbers: &[a.first, a.second]
         }
