@@ -1,6 +1,6 @@
 //! The whole way, ours against the original: plan a list, write its region into a file, write each object's ID,
 //! read the object back by it; and the same IDs from the front parts of the list. Then the writer of IDs alone,
-//! held to the scope's table.
+//! held to the rules' table.
 use crate::ours::{self, View, Writing};
 use crate::plan::{accepted, enough, news};
 use crate::random::Random;
@@ -10,13 +10,13 @@ use crate::{image, made};
 use original::{Answer, Header, Plan};
 use std::ops::Range;
 
-/// The ID by the scope: 0, the heap offset in five bytes, the length in two.
+/// The ID by the rules: 0, the heap offset in five bytes, the length in two.
 pub fn by_rule(offset: u64, length: u64) -> [u8; 8] {
     let (o, n) = (offset.to_le_bytes(), length.to_le_bytes());
     [0, o[0], o[1], o[2], o[3], o[4], n[0], n[1]]
 }
 
-/// Its refusals by the scope's table and in its order: 16, 13.
+/// Its refusals by the rules' table and in its order: 16, 13.
 pub fn by_table(offset: u64, length: u64, lent: usize) -> Option<Answer> {
     if offset >= 1 << 40 || length >= 1 << 16 {
         return Some((16, offset, length));
@@ -92,11 +92,11 @@ fn ids(random: &mut Random, n: u64) -> Row {
         same(random, offset, length, lent, slot);
     }
     println!(
-        "compare: write_managed_id accepted {}, by 16 {}, by 13 {}, by 13 for a short slot {short}: by the scope's table, all other memory as it was",
+        "compare: write_managed_id accepted {}, by 16 {}, by 13 {}, by 13 for a short slot {short}: by the rules' table, all other memory as it was",
         times[0], times[16], times[13]
     );
     row(
-        "IDs written or refused, by the scope",
+        "IDs written or refused, by the rules",
         short + times.iter().sum::<u64>(),
     )
 }

@@ -386,7 +386,7 @@ fn together(times: &mut Times, name: &str, written: &Written) {
     times.line("  ours copying too", again * n, || all(true), original);
 }
 
-/// The original has no writer of IDs: the scope's words in plain Rust, with the same memory lent, stand for it.
+/// The original has no writer of IDs: the rules' words in plain Rust, with the same memory lent, stand for it.
 #[inline(never)]
 fn plain_id(offset: u64, size: u64, id: &mut [u8], slot: &mut [u8]) -> u32 {
     if slot.len() < 16 {

@@ -99,7 +99,7 @@ impl Comparison {
         });
     }
 
-    /// Where the original panics, ours is held to the scope's words, and the answer is not counted.
+    /// Where the original panics, ours is held to the rules' words, and the answer is not counted.
     fn decode(&mut self, heap: &Heap, header: &Header, id: &[u8]) {
         let got = ours::decode(heap, id);
         let due = match caught(|| header.decode(id)) {
@@ -632,7 +632,7 @@ impl Comparison {
 }
 
 /// The longest ID of the compared domain; from 2^29 payload bytes on the original cannot count the bits, and
-/// ours answers by the scope's words: 40 bits of offset, the other 24 of the first eight bytes as length.
+/// ours answers by the rules' words: 40 bits of offset, the other 24 of the first eight bytes as length.
 fn long_ids(random: &mut Random) -> Row {
     let heap = bare(random, &made::fixed(0, 0), 8, 8);
     let header = original::parse(&heap.file, 0, 8, 8).expect("a right header");
@@ -648,7 +648,7 @@ fn long_ids(random: &mut Random) -> Row {
         let kind = caught(|| header.decode(&id[..len])).expect_err("an ID of too many bits");
         assert_eq!(ours::decode(&heap, &id[..len]), due, "an ID of {len} bytes");
         println!(
-            "compare: the original panicked in {kind}: ID of {len} bytes; ours by the scope's words"
+            "compare: the original panicked in {kind}: ID of {len} bytes; ours by the rules' words"
         );
     }
     row("IDs of about 2^29 bytes", 3).with_panics(2)

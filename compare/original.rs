@@ -119,7 +119,7 @@ mod source {
     }
 }
 
-/// Ours, by the scope's two facts: the original's file is not at hand.
+/// Ours, by the rules' two facts: the original's file is not at hand.
 mod file_writer {
     pub(crate) fn write_offset(buf: &mut Vec<u8>, value: u64, size: u8) {
         assert!(matches!(size, 2 | 4 | 8), "width {size}");
@@ -185,7 +185,7 @@ pub fn to_usize(value: u64) -> usize {
 }
 
 /// A plan: the objects' heap offsets, the placed blocks' heap offsets, and the totals in the order of
-/// the scope: block count, region size, root rows, the root's place in the region, managed, allocated
+/// the rules: block count, region size, root rows, the root's place in the region, managed, allocated
 /// and free space, iterator.
 #[derive(Debug, PartialEq, Eq)]
 pub struct Plan {

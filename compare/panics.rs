@@ -54,7 +54,7 @@ impl Panics {
     pub fn print(&self, part: &str) {
         for (kind, (times, _, input)) in &self.0 {
             println!(
-                "{part}: the original panicked {times} times in {kind}: ours as the scope says; smallest {input}"
+                "{part}: the original panicked {times} times in {kind}: ours as the rules say; smallest {input}"
             );
         }
     }

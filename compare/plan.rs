@@ -14,7 +14,7 @@ pub fn limit(w: u8) -> u64 {
     65_536 - header(w)
 }
 
-/// The refusals before any planning, by the scope's table and in its order: 2, 13 offsets, 13 blocks, 11.
+/// The refusals before any planning, by the rules' table and in its order: 2, 13 offsets, 13 blocks, 11.
 pub fn by_table(sizes: &[u64], offsets: usize, blocks: usize, w: u8) -> Option<Answer> {
     let n = sizes.len();
     if !matches!(w, 2 | 4 | 8) {
@@ -118,7 +118,7 @@ pub fn enough(sizes: &[u64], more: Places) -> Places {
 /// Numbers by their index.
 type Values = &'static [(usize, u64)];
 
-/// The worked heaps 1 to 7 of the scope (w = 8), its wrong turn and an empty object after two full blocks: the sizes,
+/// The worked heaps 1 to 7 of the rules (w = 8), its wrong turn and an empty object after two full blocks: the sizes,
 /// offsets, totals.
 const WORKED: [(&[u64], Values, Values); 9] = [
     (&[], &[], &[(1, 1024), (6, 1002), (2, 0), (7, 0)]),
@@ -374,11 +374,11 @@ fn refusals(random: &mut Random, n: u64) -> Row {
     }
     let [accepted, two, eleven, thirteen] = [0, 2, 11, 13].map(|i| all.by_number[i]);
     println!(
-        "compare: plan refused by 2 {two}, by 11 {eleven}, by 13 {thirteen} and for short totals {}: by the scope's table, all memory as it was; {accepted} accepted between them: equal",
+        "compare: plan refused by 2 {two}, by 11 {eleven}, by 13 {thirteen} and for short totals {}: by the rules' table, all memory as it was; {accepted} accepted between them: equal",
         all.short_totals
     );
     let calls = all.by_number.iter().sum::<u64>() + all.short_totals;
-    row("plans refused and some between them, by the scope", calls)
+    row("plans refused and some between them, by the rules", calls)
 }
 
 /// The index of the object at which the heap space ends, by bisection: the length of the longest front

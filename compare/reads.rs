@@ -116,7 +116,7 @@ const NONE: Heap = Heap {
 
 impl List {
     /// The object begins behind the two bytes of a long length, or behind one byte. An empty ID in the short
-    /// form is answered by the scope's words: the original panics.
+    /// form is answered by the rules' words: the original panics.
     fn tiny(&mut self, heap_id_length: u16, id: &[u8]) {
         let long = heap_id_length > 17;
         let (number, x, y) = match id {
@@ -227,7 +227,7 @@ fn damaged_headers(list: &mut List, random: &mut Random) {
     }
 }
 
-/// The scope's worked case 8; IDs of every short length at several numbers of heap bits, of every type, and
+/// Worked case 8 of docs/RULES.md; IDs of every short length at several numbers of heap bits, of every type, and
 /// long ones. At 64 bits and more the original answers IDs of up to nine bytes.
 fn decoded(list: &mut List, random: &mut Random) {
     let heap = headed(random, &made::fixed(22, 0), 8, 8, 0);
@@ -396,7 +396,7 @@ fn trees(list: &mut List, random: &mut Random) {
     }
 }
 
-/// Tiny objects: the scope's two cases, both forms, lengths around the ID's end.
+/// Tiny objects: the rules' two cases, both forms, lengths around the ID's end.
 fn tiny(list: &mut List, random: &mut Random) {
     list.tiny(8, &[]);
     let long = [

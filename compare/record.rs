@@ -1,5 +1,5 @@
 //! What the programs `run_vectors` and `run_heaps` must print, from the original (stores: by the facts of
-//! docs/DECISIONS.md; the refusals of planning that the original does not have: by the scope's table). What
+//! docs/DECISIONS.md; the refusals of planning that the original does not have: by the rules' table). What
 //! the program `run_reads` replays and prints is in reads.rs, what `run_regions` and `run_round_trips` print in
 //! regions.rs and round_trips.rs.
 use crate::fields::stored;
@@ -146,7 +146,7 @@ fn case(name: &str, sizes: &[u64], w: u8) -> String {
 /// Sizes with a name.
 type Named = (&'static str, Vec<u64>);
 
-/// The scope's worked heaps 1 to 7 and its wrong turn, for width 8.
+/// Worked heaps 1 to 7 of docs/RULES.md and a wrong turn, for width 8.
 pub fn worked() -> Vec<Named> {
     vec![
         ("heap 1", vec![]),

@@ -1,4 +1,4 @@
-//! What the program `run_regions` must print: the original's regions, and the refusals by the scope's table.
+//! What the program `run_regions` must print: the original's regions, and the refusals by the rules' table.
 use crate::ours::Writing;
 use crate::plan::header;
 use crate::record::{NO_WIDTH, answered, given, hex, lines, numbers, sequence, shifted, worked};

@@ -1,4 +1,4 @@
-//! What the program `run_round_trips` must print: the original plans, writes and reads; IDs are by the scope's
+//! What the program `run_round_trips` must print: the original plans, writes and reads; IDs are by the rules'
 //! words, refusals of writing by its table.
 use crate::back::by_rule;
 use crate::made;

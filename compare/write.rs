@@ -1,5 +1,5 @@
 //! Writing, ours against the original: the plan, every byte of the region, and all lent memory. What the
-//! original cannot refuse is held to the scope's table.
+//! original cannot refuse is held to the rules' table.
 use crate::ours::{self, Writing};
 use crate::plan::{self, Lent, Places, any_list, enough, limit, news, short_lists};
 use crate::random::Random;
@@ -11,7 +11,7 @@ pub fn most(w: u8) -> u64 {
     u64::MAX >> (64 - 8 * u32::from(w))
 }
 
-/// The refusals by the scope's table and in its order: those of planning, 14, 13 region, 15 header, 15 region.
+/// The refusals by the rules' table and in its order: those of planning, 14, 13 region, 15 header, 15 region.
 pub fn by_table(writing: &Writing, offsets: usize, blocks: usize, bytes: usize) -> Option<Answer> {
     let (sizes, w) = (writing.sizes, writing.offset_size);
     if let Some(answer) = plan::by_table(sizes, offsets, blocks, w) {
@@ -492,10 +492,10 @@ fn refusals(comparison: &mut Comparison, n: u64) -> Row {
         .map(|((name, number), n)| format!("{number} for {name} {n}"))
         .collect();
     println!(
-        "compare: serialize refused by {}, with any later causes: by the scope's table, all memory as it was; {accepted} accepted between them: equal",
+        "compare: serialize refused by {}, with any later causes: by the rules' table, all memory as it was; {accepted} accepted between them: equal",
         by.join(", ")
     );
-    row("regions refused and some between them, by the scope", n)
+    row("regions refused and some between them, by the rules", n)
 }
 
 /// At each width `n` random lists and more; five times as many calls with something wrong.

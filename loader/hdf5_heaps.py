@@ -32,7 +32,7 @@ class Parameters(ctypes.Structure):
     ]
 
 
-# What document 01 has as fixed, with the largest object that this allows; IDs as long as they must be.
+# What docs/RULES.md has as fixed, with the largest object that this allows; IDs as long as they must be.
 FIXED = dict(width=4, start=1024, largest_direct=65536, bits=40, start_rows=1)
 FIXED.update(checksums=True, largest_object=65536 - BODY, id_length=0)
 

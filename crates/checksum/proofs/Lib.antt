@@ -1,3 +1,4 @@
 pub mod Switch
 pub mod Tails
 pub mod Walk
+pub mod Laws

@@ -4,7 +4,6 @@ use Rattle.little_endian.specs.LittleEndian.{leAt, value}
 use Rattle.little_endian.proofs.LittleEndian.{leAt-drop}
 use Rattle.checksum_mix.specs.Words.{add32}
 use Rattle.checksum_mix.specs.declared.State.{State}
-use Rattle.checksum.specs.Requires.{Tail}
 use Rattle.checksum_mix.proofs.Words.{Fit}
 use Rattle.checksum.specs.Lookup3.{grouped, caseAdded, caseMet, switched}
 
@@ -40,13 +39,13 @@ switch-adds (x0 ∷ x1 ∷ x2 ∷ x3 ∷ x4 ∷ x5 ∷ x6 ∷ x7 ∷ x8 ∷ x9 �
 switch-adds (x0 ∷ x1 ∷ x2 ∷ x3 ∷ x4 ∷ x5 ∷ x6 ∷ x7 ∷ x8 ∷ x9 ∷ x10 ∷ x11 ∷ []) s k = refl
 switch-adds (x0 ∷ x1 ∷ x2 ∷ x3 ∷ x4 ∷ x5 ∷ x6 ∷ x7 ∷ x8 ∷ x9 ∷ x10 ∷ x11 ∷ x12 ∷ xs) s k = absurd (omega arith)
 
-switch-words : (tail : List ℕ) (s : State) → Fit s → length tail ≤ 12 → switched 12 tail s ≡ grouped tail 0 s
+pub switch-words : (tail : List ℕ) (s : State) → Fit s → length tail ≤ 12 → switched 12 tail s ≡ grouped tail 0 s
 unfolding grouped leAt
 switch-words tail s f k =
     switch-adds tail s k ∙ (λ i. record { a = added-word (take 4 tail) f.a i; b = added-word (take 4 (drop 4 tail)) f.b i; c = added-word (take 4 (drop 8 tail)) f.c i })
 
 -- so a tail, read at its place in the bytes, is added as a group is
-pub tail-group : {bytes : List ℕ} {at : ℕ} {s : State} → Tail bytes at → Fit s → grouped bytes at s ≡ switched 12 (drop at bytes) s
+pub tail-group : (bytes : List ℕ) (at : ℕ) {s : State} → length bytes ≤ at + 12 → Fit s → grouped bytes at s ≡ switched 12 (drop at bytes) s
 unfolding grouped
-tail-group {bytes} {at} {s} t f =
-    rw (switch-words (drop at bytes) s f (rw (length-drop at bytes) (omega (arith, t.most))), leAt-drop bytes at 0 4, leAt-drop bytes at 4 4, leAt-drop bytes at 8 4, add-zero at)
+tail-group bytes at {s} most f =
+    rw (switch-words (drop at bytes) s f (rw (length-drop at bytes) (omega (arith, most))), leAt-drop bytes at 0 4, leAt-drop bytes at 4 4, leAt-drop bytes at 8 4, add-zero at)

@@ -1,14 +1,11 @@
 -- Words at the end of the bytes, where fewer than four are left.
-use Rattle.std.proofs.Common.{◌≡◌, ℕ, ◌+◌, ◌-◌, ◌*◌, ◌/◌, ◌%◌, ◌^◌, ◌<◌, ◌≤◌, min, cond, leb, List, length, get_or, sym, ap, ◌∙◌, lt_of_lt_of_le, div-le_self, arith, pow_mono, le-leb}
+use Rattle.std.proofs.Common.{◌≡◌, ℕ, ◌+◌, ◌-◌, ◌*◌, ◌/◌, ◌%◌, ◌^◌, ◌<◌, ◌≤◌, min, List, length, get_or, refl, sym, ap, ◌∙◌, lt_of_lt_of_le, arith, pow_mono}
 use mathlib.Core.Logic.{dite}
-use borrow.Author.Tests.{lt-leb}
-use Rattle.checksum.specs.Requires.{Short}
 use native.Mathlib.Nat.{div-eq_of_lt}
 use native.Mathlib.Decide.{dec_le}
 use Rattle.checksum_mix.specs.Words.{add32}
 use Rattle.checksum.specs.Lookup3.{grouped}
-use Rattle.checksum_mix.specs.declared.State.{State}
-use Rattle.checksum_mix.proofs.Words.{Fit, add_none}
+use Rattle.checksum_mix.proofs.Words.{add_none}
 use Rattle.little_endian.specs.LittleEndian.{leAt, value}
 use Rattle.little_endian.proofs.LittleEndian.{leAt-add, leAt-byte, leAt-end, leAt-last}
 
@@ -37,10 +34,10 @@ pub tail-word-added : (x : ℕ) (s : List ℕ) → ((j : ℕ) → get_or s j 0 <
 tail-word-added x s bytes p at h e = ap (add32 x) (tail-word-is s bytes p at h e)
 
 -- the last of 5 to 12 bytes are the last word that there is, shifted down
-pub last-word-is : (s : List ℕ) → ((j : ℕ) → get_or s j 0 < 256) → Short s → leAt s (length s - 4) 4 / 2 ^ (8 * ((12 - length s) % 4)) ≡ leAt s ((length s - 1) / 4 * 4) 4
-last-word-is s bytes h =
-    let there : length s - 4 + (12 - length s) % 4 ≡ (length s - 1) / 4 * 4 = omega (arith, h.more, h.most) in
-    sym (leAt-last s bytes 4 (length s - 4) ((12 - length s) % 4) (omega (arith, h.more))) ∙ ap (λ (q : ℕ). leAt s q 4) there
+pub last-word-is : (s : List ℕ) → ((j : ℕ) → get_or s j 0 < 256) → 5 ≤ length s → length s ≤ 12 → leAt s (length s - 4) 4 / 2 ^ (8 * ((12 - length s) % 4)) ≡ leAt s ((length s - 1) / 4 * 4) 4
+last-word-is s bytes more most =
+    let there : length s - 4 + (12 - length s) % 4 ≡ (length s - 1) / 4 * 4 = omega (arith, more, most) in
+    sym (leAt-last s bytes 4 (length s - 4) ((12 - length s) % 4) (omega (arith, more))) ∙ ap (λ (q : ℕ). leAt s q 4) there
 
 -- all of two to four bytes: the last two, without those that the first two have
 pub few_bytes : (s : List ℕ) → ((j : ℕ) → get_or s j 0 < 256) → 2 ≤ length s → length s ≤ 4 → leAt s 0 2 + leAt s (length s - 2) 2 / 2 ^ (8 * (4 - length s)) * 0x10000 ≡ leAt s 0 4
@@ -59,30 +56,22 @@ module _ (s : List ℕ) where
   unfolding leAt value
   past_end p h = leAt-end s p 4 0 (omega arith) (omega arith)
 
-  -- four bytes or fewer are all in the first word
-  pub short-group : (at : ℕ) (w : State) → Fit w → length s ≤ 4 → at ≡ 0 → record { a = add32 w.a (leAt s 0 4); b = w.b; c = w.c } ≡ grouped s at w
-  unfolding grouped
-  short-group at w f h e =
-      rw (e, past_end 4 (omega arith), past_end 8 (omega arith)) (λ i. record { a = add32 w.a (leAt s 0 4); b = add_none f.b i; c = add_none f.c i })
+  module _ {x : ℕ} (f : x < 2 ^ 32) where
+    -- four bytes or fewer are all in the first word
+    pub in_one : length s ≤ 4 → record { a = add32 x (leAt s 0 4); b = x; c = x } ≡ grouped s 0 (record { a = x; b = x; c = x })
+    unfolding grouped
+    in_one h = rw (past_end 4 (omega arith), past_end 8 (omega arith)) (λ i. record { a = add32 x (leAt s 0 4); b = add_none f i; c = add_none f i })
 
--- what `short_checksum` makes of 5 to 12 bytes
-unfoldable pub shortWords : List ℕ → ℕ → State
-shortWords s x =
-    let last = add32 x (leAt s ((length s - 1) / 4 * 4) 4) in
-    record { a = add32 x (leAt s 0 4); b = cond (leb (length s) 8) last (add32 x (leAt s ((length s - 5) / 4 * 4) 4)); c = cond (leb (length s) 8) x last }
+    -- of 5 to 8 the last are in the second
+    pub in_two : 5 ≤ length s → length s ≤ 8 → record { a = add32 x (leAt s 0 4); b = add32 x (leAt s ((length s - 1) / 4 * 4) 4); c = x } ≡ grouped s 0 (record { a = x; b = x; c = x })
+    unfolding grouped
+    in_two more most =
+        let last : (length s - 1) / 4 * 4 ≡ 4 = omega (arith, more, most) in
+        rw (last, past_end 8 most) (λ i. record { a = add32 x (leAt s 0 4); b = add32 x (leAt s 4 4); c = add_none f i })
 
--- the last of them are in the second word if they are 8 or fewer, otherwise in the third
-pub short-words : (s : List ℕ) (x : ℕ) → x < 2 ^ 32 → Short s → shortWords s x ≡ grouped s 0 (record { a = x; b = x; c = x })
-unfolding shortWords grouped
-short-words s x f h = dite (dec_le (length s) 8) two three
-  where
-    two : length s ≤ 8 → shortWords s x ≡ grouped s 0 (record { a = x; b = x; c = x })
-    two k =
-        let last : (length s - 1) / 4 * 4 ≡ 4 = omega (arith, h.more) in
-        rw (le-leb (length s) 8 k, last, past_end s 8 k) (λ i. record { a = add32 x (leAt s 0 4); b = add32 x (leAt s 4 4); c = add_none f i })
-
-    three : (length s ≤ 8 → ⊥) → shortWords s x ≡ grouped s 0 (record { a = x; b = x; c = x })
-    three k =
-        let last : (length s - 1) / 4 * 4 ≡ 8 = omega (arith, k, h.most) in
-        let before : (length s - 5) / 4 * 4 ≡ 4 = omega (arith, k, h.most) in
-        rw (lt-leb (length s) 8 (omega (arith, k)), last, before)
+    -- and of 9 to 12 in the third
+    pub in_three : 8 < length s → length s ≤ 12 → record { a = add32 x (leAt s 0 4); b = add32 x (leAt s 4 4); c = add32 x (leAt s ((length s - 1) / 4 * 4) 4) } ≡ grouped s 0 (record { a = x; b = x; c = x })
+    unfolding grouped
+    in_three more most =
+        let last : (length s - 1) / 4 * 4 ≡ 8 = omega (arith, more, most) in
+        rw last refl

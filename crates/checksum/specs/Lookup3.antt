@@ -1,7 +1,7 @@
 -- HDF5 File Format Specification 3.0, I.A: every checksum is Jenkins' lookup3. lookup3.c (Bob Jenkins, May 2006, public
 -- domain), hashlittle, by the last of its three ways, byte by byte. That it is hashlittle with initval 0 the text does
--- not say: document 01. Each definition says which part it follows.
-use Rattle.std.specs.Prelude.{ℕ, zero, suc, ◌+◌, ◌-◌, ◌*◌, ◌/◌, ◌%◌, ◌^◌, cond, List, length, drop, ◌==◌, nat_le, slice_index}
+-- not say: it is what HDF5's files have (docs/RULES.md). Each definition says which part it follows.
+use Rattle.std.specs.Prelude.{ℕ, zero, suc, ◌+◌, ◌-◌, ◌*◌, ◌/◌, ◌%◌, ◌^◌, if◌then◌else◌, List, length, drop, ◌==◌, nat_le, slice_index}
 use Rattle.little_endian.specs.LittleEndian.{leAt}
 use Rattle.checksum_mix.specs.Words.{add32}
 use Rattle.checksum_mix.specs.Mix.{mixed, finalMixed}
@@ -39,16 +39,14 @@ tailOf bytes = drop (12 * groups_of (length bytes)) bytes
 unfoldable pub caseAdded : ℕ → ℕ → State → State
 caseAdded n x s =
     let y = x * 2 ^ ((n - 1) % 4 * 8) in
-    cond (nat_le n 4)
-    (record { a = add32 s.a y; b = s.b; c = s.c })
-    (cond (nat_le n 8)
-    (record { a = s.a; b = add32 s.b y; c = s.c })
-    (record { a = s.a; b = s.b; c = add32 s.c y }))
+    if nat_le n 4 then record { a = add32 s.a y; b = s.b; c = s.c }
+    else if nat_le n 8 then record { a = s.a; b = add32 s.b y; c = s.c }
+    else record { a = s.a; b = s.b; c = add32 s.c y }
 
 -- a tail enters at the case of its length and falls through to case 1, so it meets case n if it has n
 -- bytes or more
 unfoldable pub caseMet : ℕ → List ℕ → State → State
-caseMet n tail s = cond (nat_le n (length tail)) (caseAdded n (slice_index tail (n - 1)) s) s
+caseMet n tail s = if nat_le n (length tail) then caseAdded n (slice_index tail (n - 1)) s else s
 
 -- the switch: the cases from n down
 unfoldable pub switched : ℕ → List ℕ → State → State
@@ -57,7 +55,7 @@ switched (suc n) tail s = switched n tail (caseMet (suc n) tail s)
 
 -- case 0 gives c as it is; the other cases give it after the final mix
 unfoldable pub ended : List ℕ → State → ℕ
-ended tail s = cond (length tail == 0) s.c (finalMixed (switched 12 tail s)).c
+ended tail s = if length tail == 0 then s.c else (finalMixed (switched 12 tail s)).c
 
 -- hashlittle(bytes, length, 0)
 unfoldable pub hashlittle : List ℕ → ℕ

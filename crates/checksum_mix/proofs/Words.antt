@@ -3,11 +3,6 @@ use Rattle.std.proofs.Common.{◌≡◌, ℕ, ◌+◌, ◌%◌, ◌^◌, ◌<◌
 use Rattle.checksum_mix.specs.Words.{add32, sub32}
 use Rattle.checksum_mix.specs.declared.State.{State}
 
--- what `wrapping_sub_u32` ensures is the difference
-pub sub_is : {x y r : ℕ} → x < 2 ^ 32 → y < 2 ^ 32 → r < 2 ^ 32 → (r + y) % 2 ^ 32 ≡ x → r ≡ sub32 x y
-unfolding sub32
-sub_is hx hy hr e = omega arith
-
 -- three 32-bit words
 pub record Fit (s : State) : Type 0 where
   pub a : s.a < 2 ^ 32

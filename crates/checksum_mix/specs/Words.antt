@@ -1,6 +1,7 @@
 -- 32-bit words, uint32_t in lookup3.c (Bob Jenkins, May 2006, public domain): sums and differences modulo 2^32,
 -- exclusive or, and its macro rot.
-use Rattle.std.specs.Prelude.{ℕ, ◌+◌, ◌-◌, ◌*◌, ◌/◌, ◌%◌, ◌^◌, bit_or, bit_xor}
+use Rattle.std.specs.Prelude.{ℕ, ◌+◌, ◌-◌, ◌%◌, ◌^◌, bit_xor}
+use Rattle.std.specs.Int.{w32, rotate_left}
 
 unfoldable pub add32 : ℕ → ℕ → ℕ
 add32 x y = (x + y) % 2 ^ 32
@@ -10,7 +11,7 @@ sub32 x y = (x + (2 ^ 32 - y)) % 2 ^ 32
 
 -- the macro rot: x rotated by k bits to the left
 unfoldable pub rot : ℕ → ℕ → ℕ
-rot x k = bit_or (x * 2 ^ k % 2 ^ 32) (x / 2 ^ (32 - k))
+rot x k = rotate_left w32 x k
 
 -- y is taken from x, then x is exclusive-ored with y rotated by k
 unfoldable pub subXor : ℕ → ℕ → ℕ → ℕ

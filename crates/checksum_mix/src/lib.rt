@@ -1,15 +1,12 @@
-// The mixing of Bob Jenkins' lookup3.c. One line of its macros mix and final is one function here; a state is
-// its three words.
+//! The mixing of Bob Jenkins' lookup3.c. One line of its macros mix and final is one function here; a state is
+//! its three words.
 #![tactic(auto)]
 
 ghost use Rattle.std.specs.Prelude.{◌≡◌};
-ghost use Rattle.checksum_mix.specs.Words.{rot, subXor, xorSub};
-ghost use Rattle.checksum_mix.specs.Requires.{Rotation};
+ghost use Rattle.checksum_mix.specs.Words.{subXor, xorSub};
 ghost use Rattle.checksum_mix.specs.Mix.{mixA, mixB, mixC, mixed, finalA, finalB, finalC, finalMixed};
 
-use std::num::{wrapping_add_u32, wrapping_sub_u32};
-
-// The three words a, b and c.
+/// The three words a, b and c.
 #[derive(Clone, Copy)]
 pub struct State {
     pub a: u32,
@@ -17,53 +14,41 @@ pub struct State {
     pub c: u32,
 }
 
-#[tactic(auto, unfolding(crate::specs::Words::rot))]
-fn rotate_left(x: u32, k: u32) -> u32
-    requires { Rotation k }
-    ensures { result ≡ rot x k }
-{
-    (x << k) | (x >> (32 - k))
-}
-
 // `y` is taken from `x`, then `x` is exclusive-ored with `y` rotated by `k`.
-#[tactic(auto, using(crate::proofs::Words::sub_is), unfolding(crate::specs::Words::subXor))]
+#[tactic(auto, unfolding(crate::specs::Words::subXor, crate::specs::Words::sub32, crate::specs::Words::rot))]
 fn sub_xor(x: u32, y: u32, k: u32) -> u32
-    requires { Rotation k }
     ensures { result ≡ subXor x y k }
 {
-    wrapping_sub_u32(x, y) ^ rotate_left(y, k)
+    x.wrapping_sub(y) ^ y.rotate_left(k)
 }
 
 // `x` is exclusive-ored with `y`, then `y` rotated by `k` is taken from it.
-#[tactic(auto, using(crate::proofs::Words::sub_is), unfolding(crate::specs::Words::xorSub))]
+#[tactic(auto, unfolding(crate::specs::Words::xorSub, crate::specs::Words::sub32, crate::specs::Words::rot))]
 fn xor_sub(x: u32, y: u32, k: u32) -> u32
-    requires { Rotation k }
     ensures { result ≡ xorSub x y k }
 {
-    wrapping_sub_u32(x ^ y, rotate_left(y, k))
+    (x ^ y).wrapping_sub(y.rotate_left(k))
 }
 
 // A line of mix for a: c is taken from it, then it is exclusive-ored with c rotated by `k`; b is added to c.
 #[tactic(auto, unfolding(crate::specs::Mix::mixA, crate::specs::Words::add32))]
 fn mix_a(s: State, k: u32) -> State
-    requires { Rotation k }
     ensures { result ≡ mixA k s }
 {
     State {
         a: sub_xor(s.a, s.c, k),
         b: s.b,
-        c: wrapping_add_u32(s.c, s.b),
+        c: s.c.wrapping_add(s.b),
     }
 }
 
 // A line of mix for b: likewise with a; c is added to a.
 #[tactic(auto, unfolding(crate::specs::Mix::mixB, crate::specs::Words::add32))]
 fn mix_b(s: State, k: u32) -> State
-    requires { Rotation k }
     ensures { result ≡ mixB k s }
 {
     State {
-        a: wrapping_add_u32(s.a, s.c),
+        a: s.a.wrapping_add(s.c),
         b: sub_xor(s.b, s.a, k),
         c: s.c,
     }
@@ -72,17 +57,16 @@ fn mix_b(s: State, k: u32) -> State
 // A line of mix for c: likewise with b; a is added to b.
 #[tactic(auto, unfolding(crate::specs::Mix::mixC, crate::specs::Words::add32))]
 fn mix_c(s: State, k: u32) -> State
-    requires { Rotation k }
     ensures { result ≡ mixC k s }
 {
     State {
         a: s.a,
-        b: wrapping_add_u32(s.b, s.a),
+        b: s.b.wrapping_add(s.a),
         c: sub_xor(s.c, s.b, k),
     }
 }
 
-// The mix of three words, after each group of 12 bytes.
+/// The mix of three words, after each group of 12 bytes.
 #[tactic(auto, unfolding(crate::specs::Mix::mixed))]
 pub fn mix(s: State) -> State
     ensures { result ≡ mixed s }
@@ -98,7 +82,6 @@ pub fn mix(s: State) -> State
 // A line of final for c: it is exclusive-ored with b, then b rotated by `k` is taken from it.
 #[tactic(auto, unfolding(crate::specs::Mix::finalC))]
 fn final_c(s: State, k: u32) -> State
-    requires { Rotation k }
     ensures { result ≡ finalC k s }
 {
     State {
@@ -111,7 +94,6 @@ fn final_c(s: State, k: u32) -> State
 // A line of final for a: likewise with c.
 #[tactic(auto, unfolding(crate::specs::Mix::finalA))]
 fn final_a(s: State, k: u32) -> State
-    requires { Rotation k }
     ensures { result ≡ finalA k s }
 {
     State {
@@ -124,7 +106,6 @@ fn final_a(s: State, k: u32) -> State
 // A line of final for b: likewise with a.
 #[tactic(auto, unfolding(crate::specs::Mix::finalB))]
 fn final_b(s: State, k: u32) -> State
-    requires { Rotation k }
     ensures { result ≡ finalB k s }
 {
     State {
@@ -134,7 +115,7 @@ fn final_b(s: State, k: u32) -> State
     }
 }
 
-// The final mix of three words.
+/// The final mix of three words.
 #[tactic(auto, unfolding(crate::specs::Mix::finalMixed))]
 pub fn final_mix(s: State) -> State
     ensures { result ≡ finalMixed s }

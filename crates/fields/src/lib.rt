@@ -1,120 +1,102 @@
-// Fields of an HDF5 file: bounds-checked reads of addresses and lengths in a lent slice.
+//! Fields of an HDF5 file: bounds-checked reads of addresses and lengths in a lent slice.
 #![tactic(auto)]
 
 pub mod convert;
 
-ghost use Rattle.std.specs.Prelude.{◌≡◌, ◌+◌, leb};
+ghost use Rattle.std.specs.Prelude.{◌≡◌, ◌+◌, ◌≤◌, ◌↔◌, length, IsTrue, OnOk};
+ghost use Rattle.numbers.specs.Numbers.{saturated};
 ghost use Rattle.little_endian.specs.Widths.{legal};
-ghost use Rattle.fields.specs.Answers.{checkedAnswer, fieldAnswer};
-ghost use Rattle.fields.specs.Fields.{lenChecked, field_at, offsetAt, length_at};
+ghost use Rattle.fields.specs.Fields.{len_ensured, plain_at, number_at, offset_at, length_at};
 
-use little_endian::read_le;
-use numbers::saturating_add;
-use refusals::{Answer, FormatError, refused};
+use little_endian::{read_le, read_u16_le, read_u32_le};
+use refusals::FormatError;
 
-// A test that has no value to give.
-#[derive(Clone, Copy)]
-pub enum Checked {
-    Passed,
-    Refused(FormatError),
-}
-
-// A number that was read.
-#[derive(Clone, Copy)]
-pub enum Field {
-    Value(u64),
-    Refused(FormatError),
-}
-
-impl Checked {
-    // The answer in numbers: nothing to report where the test passed.
-    pub fn answer(self) -> Answer
-        ensures { result ≡ checkedAnswer self }
-    {
-        match self {
-            Checked::Passed => Answer {
-                number: 0,
-                first: 0,
-                second: 0,
-            },
-            Checked::Refused(e) => refused(e),
-        }
+// The refusal where no `needed` bytes stand at `offset`. The end that it reports saturates at 2^64 - 1.
+#[tactic(auto, unfolding(numbers::specs::Numbers::saturated))]
+fn end_missing(bytes: &[u8], offset: usize, needed: usize) -> FormatError
+    ensures { result ≡ FormatError.UnexpectedEof (saturated (offset + needed)) (length bytes.now) }
+{
+    FormatError::UnexpectedEof {
+        expected: offset.saturating_add(needed) as u64,
+        available: bytes.len() as u64,
     }
 }
 
-impl Field {
-    // The answer in numbers: the number that was read is the first value.
-    pub fn answer(self) -> Answer
-        ensures { result ≡ fieldAnswer self }
-    {
-        match self {
-            Field::Value(value) => Answer {
-                number: 0,
-                first: value,
-                second: 0,
-            },
-            Field::Refused(e) => refused(e),
-        }
+/// Tests that `needed` bytes stand at `offset`: else 1, with the end that they would have, and the number of bytes.
+#[tactic(auto, unfolding(crate::specs::Fields::len_ensured))]
+pub fn ensure_len(bytes: &[u8], offset: usize, needed: usize) -> Result<(), FormatError>
+    ensures value { result ≡ len_ensured bytes.now offset needed }
+    ensures there { OnOk result (offset + needed ≤ length bytes.now) }
+{
+    match bytes.len().checked_sub(needed) {
+        Some(last) if offset <= last => Ok(()),
+        _ => Err(end_missing(bytes, offset, needed)),
     }
 }
 
-// Whether `needed` bytes stand at `pos` of `lent` bytes. No sum is formed that could wrap.
+/// The two bytes at `pos` as a number.
+#[tactic(auto, unfolding(crate::specs::Fields::plain_at))]
+pub fn read_u16(bytes: &[u8], pos: usize) -> Result<u16, FormatError>
+    ensures value { result ≡ plain_at bytes.now pos 2 }
+    ensures there { OnOk result (pos + 2 ≤ length bytes.now) }
+{
+    ensure_len(bytes, pos, 2)?;
+    Ok(read_u16_le(bytes, pos))
+}
+
+/// The four bytes at `pos` as a number.
+#[tactic(auto, unfolding(crate::specs::Fields::plain_at))]
+pub fn read_u32(bytes: &[u8], pos: usize) -> Result<u32, FormatError>
+    ensures value { result ≡ plain_at bytes.now pos 4 }
+    ensures there { OnOk result (pos + 4 ≤ length bytes.now) }
+{
+    ensure_len(bytes, pos, 4)?;
+    Ok(read_u32_le(bytes, pos))
+}
+
+/// Whether `needed` bytes stand at `pos` of `lent` bytes. No sum is formed that could wrap.
 pub fn has_room(lent: usize, pos: usize, needed: usize) -> bool
-    ensures { result ≡ leb (pos + needed) lent }
+    ensures { IsTrue result ↔ (pos + needed ≤ lent) }
 {
-    if pos <= lent {
-        needed <= lent - pos
-    } else {
-        false
-    }
+    pos <= lent && needed <= lent - pos
 }
 
-// Whether `needed` bytes stand at `offset`. The end that a refusal reports saturates at 2^64 - 1.
-#[tactic(auto, unfolding(crate::specs::Fields::lenChecked))]
-pub fn ensure_len(bytes: &[u8], offset: usize, needed: usize) -> Checked
-    ensures { result ≡ lenChecked bytes.now offset needed }
-{
-    let available = bytes.len();
-    if has_room(available, offset, needed) {
-        Checked::Passed
-    } else {
-        let end = saturating_add(offset as u64, needed as u64);
-        Checked::Refused(FormatError::UnexpectedEof(end, available as u64))
-    }
-}
-
-// Whether an address or a length may have this width.
+/// Whether an address or a length may have this width.
 #[tactic(auto, unfolding(little_endian::specs::Widths::legal))]
 pub fn is_width(width: u8) -> bool
     ensures { result ≡ legal width }
 {
-    match width {
-        2 | 4 | 8 => true,
-        _ => false,
+    matches!(width, 2 | 4 | 8)
+}
+
+// A number of `width` bytes at `pos`; `invalid` is the refusal of a width that is none.
+#[tactic(auto, unfolding(crate::specs::Fields::number_at, crate::specs::Fields::len_ensured))]
+fn read_number(
+    bytes: &[u8],
+    pos: usize,
+    width: u8,
+    invalid: FormatError,
+) -> Result<u64, FormatError>
+    ensures value { result ≡ number_at bytes.now pos width invalid }
+    ensures there { OnOk result (pos + width ≤ length bytes.now) }
+{
+    if !is_width(width) {
+        return Err(invalid);
+    }
+    let needed = usize::from(width);
+    match bytes.len().checked_sub(pos) {
+        Some(rest) if needed <= rest => Ok(read_le(bytes, pos, width)),
+        _ => Err(end_missing(bytes, pos, needed)),
     }
 }
 
-// A number of `width` bytes at `pos`; `otherwise` is the refusal of a width that is none.
-#[tactic(auto, unfolding(crate::specs::Fields::field_at))]
-fn read_field(bytes: &[u8], pos: usize, width: u8, otherwise: FormatError) -> Field
-    ensures { result ≡ field_at bytes.now pos width otherwise }
+/// The address of `offset_size` bytes at `pos`.
+#[tactic(auto, unfolding(crate::specs::Fields::offset_at))]
+pub fn read_offset(bytes: &[u8], pos: usize, offset_size: u8) -> Result<u64, FormatError>
+    ensures value { result ≡ offset_at bytes.now pos offset_size }
+    ensures there { OnOk result (pos + offset_size ≤ length bytes.now) }
 {
-    if is_width(width) {
-        match ensure_len(bytes, pos, width as usize) {
-            Checked::Passed => Field::Value(read_le(bytes, pos, width)),
-            Checked::Refused(e) => Field::Refused(e),
-        }
-    } else {
-        Field::Refused(otherwise)
-    }
-}
-
-// The address of `offset_size` bytes at `pos`.
-#[tactic(auto, unfolding(crate::specs::Fields::offsetAt))]
-pub fn read_offset(bytes: &[u8], pos: usize, offset_size: u8) -> Field
-    ensures { result ≡ offsetAt bytes.now pos offset_size }
-{
-    read_field(
+    read_number(
         bytes,
         pos,
         offset_size,
@@ -122,12 +104,13 @@ pub fn read_offset(bytes: &[u8], pos: usize, offset_size: u8) -> Field
     )
 }
 
-// The length of `length_size` bytes at `pos`.
+/// The length of `length_size` bytes at `pos`.
 #[tactic(auto, unfolding(crate::specs::Fields::length_at))]
-pub fn read_length(bytes: &[u8], pos: usize, length_size: u8) -> Field
-    ensures { result ≡ length_at bytes.now pos length_size }
+pub fn read_length(bytes: &[u8], pos: usize, length_size: u8) -> Result<u64, FormatError>
+    ensures value { result ≡ length_at bytes.now pos length_size }
+    ensures there { OnOk result (pos + length_size ≤ length bytes.now) }
 {
-    read_field(
+    read_number(
         bytes,
         pos,
         length_size,

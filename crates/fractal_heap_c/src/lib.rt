@@ -1,21 +1,30 @@
-// What the loader calls: the checksum, the decoding of a managed ID, and reading. The last two parse the
-// header at `at` first. Each returns the refusal's number, 0 where there is none, and puts the answer's
-// two values into the first 16 bytes of the slot; a shorter slot gives 13 before all else.
+//! What the loader calls: the checksum, the decoding of a managed ID, and reading. The last two parse the
+//! header at `at` first. Each returns the refusal's number, 0 where there is none, and puts the answer's
+//! two values into the first 16 bytes of the slot; a shorter slot gives 13 before all else.
 #![tactic(auto)]
 
-ghost use Rattle.std.specs.Prelude.{◌≡◌};
+ghost use Rattle.std.specs.Prelude.{◌≡◌, ◌≤◌, length, Ok};
 ghost use Rattle.checksum.specs.Lookup3.{hashlittle};
-ghost use Rattle.c_slot.specs.Slot.{slotNumber, slotBytes};
-ghost use Rattle.id_decode.specs.Id.{decodedAnswer};
-ghost use Rattle.read_blocks.specs.Blocks.{foundAnswer};
+ghost use Rattle.c_slot.specs.Slot.{slot_number, slot_bytes};
+ghost use Rattle.refusals.specs.Refusals.{report_of};
+ghost use Rattle.id_decode.specs.Id.{id_report};
+ghost use Rattle.read_walk.specs.Walk.{place_report};
+ghost use Rattle.fractal_heap.specs.declared.header.FractalHeapHeader.{FractalHeapHeader};
 ghost use Rattle.fractal_heap.specs.Header.{header_at};
-ghost use Rattle.fractal_heap.specs.Read.{idBy, objectBy};
+ghost use Rattle.fractal_heap.specs.Read.{id_by, object_by};
+ghost use Rattle.object_bytes.specs.Kept.{ForKept};
+ghost use Rattle.fractal_heap_c.specs.InSlot.{NamesPlace};
 
 use c_slot::put_answer;
 use checksum::jenkins_lookup3;
 use fields::convert::to_usize;
 use fractal_heap::header::FractalHeapHeader;
+use id_decode::ManagedId;
+use read_walk::place::Place;
+use refusals::FormatError;
+use refusals::answer::Reported;
 
+/// The checksum of HDF5's metadata: lookup3 of the bytes, with initial value 0.
 #[unsafe(no_mangle)]
 pub extern "C" fn fractal_heap_checksum(bytes: &[u8]) -> u32
     ensures { result ≡ hashlittle bytes.now }
@@ -23,7 +32,32 @@ pub extern "C" fn fractal_heap_checksum(bytes: &[u8]) -> u32
     jenkins_lookup3(bytes)
 }
 
-// Heap offset and length of a managed ID.
+fn decode(
+    file: &[u8],
+    at: u64,
+    offset_size: u8,
+    length_size: u8,
+    id: &[u8],
+) -> Result<ManagedId, FormatError>
+    ensures { result ≡ id_by file.now at offset_size length_size id.now }
+{
+    FractalHeapHeader::parse(file, to_usize(at), offset_size, length_size)?.decode_managed_id(id)
+}
+
+fn read(
+    file: &[u8],
+    at: u64,
+    offset_size: u8,
+    length_size: u8,
+    id: &[u8],
+) -> Result<Place, FormatError>
+    ensures { result ≡ object_by file.now at offset_size length_size id.now offset_size }
+{
+    let header = FractalHeapHeader::parse(file, to_usize(at), offset_size, length_size)?;
+    header.read_managed_object(file, id, offset_size)
+}
+
+/// Heap offset and length of a managed ID.
 #[unsafe(no_mangle)]
 pub extern "C" fn fractal_heap_decode_managed_id(
     file: &[u8],
@@ -33,14 +67,21 @@ pub extern "C" fn fractal_heap_decode_managed_id(
     id: &[u8],
     slot: &mut [u8],
 ) -> u32
-    ensures number { result ≡ slotNumber slot.old (decodedAnswer (idBy (header_at file.now at offset_size length_size) id.now)) }
-    ensures slot_after { slot.new ≡ slotBytes slot.old (decodedAnswer (idBy (header_at file.now at offset_size length_size) id.now)) }
+    ensures number { result ≡ slot_number slot.old
+        (report_of id_report (id_by file.now at offset_size length_size id.now)) }
+    ensures slot_after { slot.new ≡ slot_bytes slot.old
+        (report_of id_report (id_by file.now at offset_size length_size id.now)) }
 {
-    let parsed = FractalHeapHeader::parse(file, to_usize(at), offset_size, length_size);
-    put_answer(slot, parsed.decode_managed_id(id).answer())
+    put_answer(
+        slot,
+        decode(file, at, offset_size, length_size, id).answer(),
+    )
 }
 
-// Position in the file and length of a managed object.
+/// Position in the file and length of a managed object.
+///
+/// Of a heap that our writer wrote, and by an ID that it gave, early in a run or at its end, the file has the object's
+/// bytes there.
 #[unsafe(no_mangle)]
 pub extern "C" fn fractal_heap_read_managed_object(
     file: &[u8],
@@ -50,12 +91,15 @@ pub extern "C" fn fractal_heap_read_managed_object(
     id: &[u8],
     slot: &mut [u8],
 ) -> u32
-    ensures number { result ≡ slotNumber slot.old (foundAnswer (objectBy (header_at file.now at offset_size length_size) file.now id.now offset_size)) }
-    ensures slot_after { slot.new ≡ slotBytes slot.old (foundAnswer (objectBy (header_at file.now at offset_size length_size) file.now id.now offset_size)) }
+    ensures number { result ≡ slot_number slot.old
+        (report_of place_report
+        (object_by file.now at offset_size length_size id.now offset_size)) }
+    ensures slot_after { slot.new ≡ slot_bytes slot.old
+        (report_of place_report
+        (object_by file.now at offset_size length_size id.now offset_size)) }
+    ensures kept { (h : FractalHeapHeader) → header_at file.now at offset_size length_size ≡ Ok h
+        → ForKept h file.now offset_size id.now
+        (λ bytes. 16 ≤ length slot.old → NamesPlace result slot.new file.now bytes) }
 {
-    let parsed = FractalHeapHeader::parse(file, to_usize(at), offset_size, length_size);
-    put_answer(
-        slot,
-        parsed.read_managed_object(file, id, offset_size).answer(),
-    )
+    put_answer(slot, read(file, at, offset_size, length_size, id).answer())
 }

@@ -8,29 +8,27 @@ use native.Mathlib.Decide.{dec_le}
 use lib.ListN.{length, take, drop, length-append}
 use lib.Pow.{pow_mono}
 use lib.Seq.{take_at, length-take-le}
+use Rattle.little_endian.specs.LittleEndian.{put}
+use Rattle.little_endian.proofs.LittleEndian.{put_front}
 use Rattle.little_endian.proofs.Widths.{legal-small}
+use Rattle.numbers.specs.Sums.{sum}
 use Rattle.table.specs.Table.{fixed, rowOffset}
 use Rattle.table.specs.Sizes.{maxManaged}
-use Rattle.numbers.specs.Sums.{sum}
 use Rattle.plan_steps.specs.Steps.{planStarts}
 use Rattle.plan_steps.specs.Requires.{Small, Runs}
 use Rattle.plan_checks.proofs.Checking.{Passing, all_small}
-use Rattle.little_endian.specs.LittleEndian.{put}
-use Rattle.little_endian.proofs.LittleEndian.{put_front}
 use Rattle.plan.specs.declared.ManagedPlan.{ManagedPlan}
-use Rattle.plan.specs.declared.Planned.TheVariants.{Accepted}
-use Rattle.plan.specs.Answer.{plannedFor}
 use Rattle.plan.proofs.Answering.{Went, accepted}
 use Rattle.plan_laws.proofs.Tally.{tallied}
 use Rattle.plan_laws.proofs.Root.{Bare, Rowed, shape}
 use Rattle.region_blocks.specs.declared.Site.{Site}
-use Rattle.region_blocks.specs.Site.{siteOf}
-use Rattle.region_laws.proofs.Indirect.{indirect-planned}
 use Rattle.region_write.specs.Region.{region}
 use Rattle.region_write.specs.Requires.{Rooted, Writable}
-use Rattle.write_checks.proofs.Answering.{written, Fit, fit, below-undefined}
-use Rattle.fractal_heap_write.specs.Serialize.{Call, call_of, memory, lent_by, serialized, Written}
+use Rattle.region_laws.proofs.Indirect.{indirect-planned}
 use Rattle.region_laws.proofs.Region.{indirect-bytes, indirects-planned, region-length}
+use Rattle.write_checks.specs.declared.Lent.{Lent}
+use Rattle.write_checks.specs.Answer.{Accepted}
+use Rattle.write_checks.proofs.Answering.{below-undefined}
 
 -- as many rows as the heap space has
 rows_few : (n : ℕ) → rowOffset fixed (suc n) ≤ 2 ^ 40 → suc n ≤ 29
@@ -47,118 +45,108 @@ front_of new old = ap (take (length new)) (put_front old new) ∙ take_at new (d
 front_length : (new old : List ℕ) → length new ≤ length (put old 0 new)
 front_length new old = let z = ap length (put_front old new) ∙ length-append new (drop (length new) old) in omega arith
 
--- a call by its parts, which is accepted
-pub wrote : (xs js os bs r : List ℕ) (w h a : ℕ) (p : ManagedPlan) → Accepted p ≡ serialized (call_of xs js (siteOf w h a) (memory os bs r))
-    → Written (call_of xs js (siteOf w h a) (memory os bs r)) p
-wrote xs js os bs r w h a p e = record { accepted = sym e }
+module _ {xs : List ℕ} {lent : Lent} {site : Site} {p : ManagedPlan} (A : Accepted xs lent site p) where
+  -- ---- the plan
 
-module _ {c : Call} {p : ManagedPlan} (A : Written c p) where
-  abbrev xs : List ℕ
-  xs = c.sizes
+  passes : Passing xs lent.offset_places lent.block_places site.offset_size
+  passes = (accepted xs lent.offset_places lent.block_places site.offset_size p A.planned).0
 
-  abbrev js : List ℕ
-  js = c.objects
+  went : Went site.offset_size xs p
+  went = (accepted xs lent.offset_places lent.block_places site.offset_size p A.planned).1
 
-  abbrev site : Site
-  site = c.site
+  pub sizes-small : Small (maxManaged fixed site.offset_size) xs
+  sizes-small = record { small = all_small (maxManaged fixed site.offset_size) 0 xs passes.sizes }
 
-  abbrev o : ℕ
-  o = length c.lent.offsets
-
-  abbrev b : ℕ
-  b = length c.lent.blocks
-
-  abbrev r : List ℕ
-  r = c.lent.bytes
-
-  abbrev w : ℕ
-  w = site.offset_size
-
-  abbrev h : ℕ
-  h = site.heap_header_address
-
-  abbrev a : ℕ
-  a = site.region_address
-
-  plan : plannedFor xs o b w ≡ Accepted p
-  plan = (written xs (lent_by c) site p A.accepted).0
-
-  fits : Fit site (lent_by c) (sum xs) p.region_size
-  fits = fit site (lent_by c) (sum xs) p.region_size (written xs (lent_by c) site p A.accepted).1
-
-  passes : Passing xs o b w
-  passes = (accepted xs o b w p plan).0
-
-  went : Went w xs p
-  went = (accepted xs o b w p plan).1
-
-  pub small : Small (maxManaged fixed w) xs
-  small = record { small = all_small (maxManaged fixed w) 0 xs passes.sizes }
-
-  pub runs : Runs w xs
+  runs : Runs site.offset_size xs
   runs = record { last = went.state; is = went.ran }
 
   -- the places that the lists have
-  pub places : (length xs ≤ o) × (max 1 (length xs) ≤ b)
-  places = (passes.offsets, passes.blocks)
+  pub offsets_fit : length xs ≤ lent.offset_places
+  offsets_fit = passes.offsets
 
-  pub size_fits : p.region_size ≤ length r
-  size_fits = fits.room
+  pub blocks_fit : max 1 (length xs) ≤ lent.block_places
+  blocks_fit = passes.blocks
 
-  pub space-within : p.allocated_space ≤ p.region_size
-  space-within = let z = indirect-bytes xs o b w p plan h in omega arith
+  pub region_fits : p.region_size ≤ lent.region_bytes
+  region_fits = A.fit.room
+
+  pub space_within : p.allocated_space ≤ p.region_size
+  space_within = let z = indirect-bytes xs lent.offset_places lent.block_places site.offset_size p A.planned 0 in omega arith
 
   few : p.root_rows ≤ 29
   few = ⊎_elim
-      (λ (B : Bare w xs p went.state). omega (arith, B.rows))
-      (λ (R : Rowed w xs p went.state). omega (arith, R.rows, rows_few R.n R.heap))
-      (shape w xs p (legal-small w passes.width) went)
+      (λ (B : Bare site.offset_size xs p went.state). omega (arith, B.rows))
+      (λ (R : Rowed site.offset_size xs p went.state). omega (arith, R.rows, rows_few R.n R.heap))
+      (shape site.offset_size xs p (legal-small site.offset_size passes.width) went)
 
-  -- the starts that the list of blocks holds then
-  module _ (bs bs' : List ℕ) (f : bs' ≡ put bs 0 (planStarts fixed w xs)) where
+  -- ---- the starts that the list of blocks holds then
+
+  module _ (bs bs' : List ℕ) (f : bs' ≡ put bs 0 (planStarts fixed site.offset_size xs)) where
     pub count_fits : p.block_count ≤ length bs'
-    count_fits = let c = (tallied xs o b w p plan).blocks in let l = front_length (planStarts fixed w xs) bs in let z = ap length f in omega arith
+    count_fits =
+        let c = (tallied xs lent.offset_places lent.block_places site.offset_size p A.planned).blocks in
+        let l = front_length (planStarts fixed site.offset_size xs) bs in
+        let z = ap length f in
+        omega arith
 
-    starts-there : take p.block_count bs' ≡ planStarts fixed w xs
-    starts-there = ap (take p.block_count) f ∙ ap (λ (n : ℕ). take n (put bs 0 (planStarts fixed w xs))) (tallied xs o b w p plan).blocks ∙ front_of (planStarts fixed w xs) bs
+    starts-there : take p.block_count bs' ≡ planStarts fixed site.offset_size xs
+    starts-there =
+        ap (take p.block_count) f
+        ∙ ap (λ (n : ℕ). take n (put bs 0 (planStarts fixed site.offset_size xs))) (tallied xs lent.offset_places lent.block_places site.offset_size p A.planned).blocks
+        ∙ front_of (planStarts fixed site.offset_size xs) bs
 
-    rooted : Rooted site (planStarts fixed w xs) (take p.region_size r) p.root_rows (p.region_size - p.allocated_space)
+  -- ---- the region in what is lent
+
+  abbrev size : ℕ
+  size = p.region_size - p.allocated_space
+
+  module _ (r : List ℕ) (long : length r ≡ p.region_size) where
+    rooted : Rooted site (planStarts fixed site.offset_size xs) r p.root_rows size
     rooted =
-        let n : length (take p.region_size r) ≡ p.region_size = length-take-le p.region_size r size_fits in
-        let d : ℕ = a + (p.region_size - p.allocated_space) in
-        let i = indirects-planned xs o b w p plan h a d in
-        let s = space-within in
-        let u = below-undefined w (a + p.region_size) passes.width fits.end in
+        let w = site.offset_size in
+        let h = site.heap_header_address in
+        let a = site.region_address in
+        let i = indirects-planned xs lent.offset_places lent.block_places w p A.planned h a (a + size) in
+        let s = space_within in
+        let u = below-undefined w (a + p.region_size) passes.width A.fit.end in
         record {
           narrow = legal-small w passes.width;
           few = few;
           room = omega arith;
           behind = omega arith;
           addresses = omega arith;
-          direct = λ l. (let m = (indirect-planned xs o b w p plan l h a d).next in omega arith);
+          direct = λ l. (let m = (indirect-planned xs lent.offset_places lent.block_places w p A.planned l h a (a + size)).next in omega arith);
         }
 
-    pub writable : Writable site xs (take p.block_count bs') js (take p.region_size r) p.root_rows (p.region_size - p.allocated_space)
-    writable =
-        let s = starts-there in
-        let n : length (take p.region_size r) ≡ p.region_size = length-take-le p.region_size r size_fits in
-        let i = indirect-bytes xs o b w p plan h in
-        let j = indirects-planned xs o b w p plan h a (a + (p.region_size - p.allocated_space)) in
-        let W : Writable site xs (planStarts fixed w xs) js (take p.region_size r) p.root_rows (p.region_size - p.allocated_space) =
+    starts-writable : (js : List ℕ) → sum xs ≡ length js → Writable site xs (planStarts fixed site.offset_size xs) js r p.root_rows size
+    starts-writable js j =
+        let w = site.offset_size in
+        let h = site.heap_header_address in
+        let a = site.region_address in
+        let i = indirect-bytes xs lent.offset_places lent.block_places w p A.planned h in
+        let k = indirects-planned xs lent.offset_places lent.block_places w p A.planned h a (a + size) in
         record {
           rooted = rooted;
           starts-are = refl;
           size_is = omega arith;
           ahead = omega arith;
-          small = small;
+          small = sizes-small;
           runs = runs;
-          joined = sym fits.bytes;
-          fills = n ∙ sym (region-length xs o b w p plan h a js);
-        } in
-        subst (λ (y : List ℕ). Writable site xs y js (take p.region_size r) p.root_rows (p.region_size - p.allocated_space)) (sym s) W
+          joined = sym j;
+          fills = long ∙ sym (region-length xs lent.offset_places lent.block_places w p A.planned h a js);
+        }
+
+  pub writable : (js r bs bs' : List ℕ) → lent.object_bytes ≡ length js → lent.region_bytes ≡ length r → bs' ≡ put bs 0 (planStarts fixed site.offset_size xs)
+      → Writable site xs (take p.block_count bs') js (take p.region_size r) p.root_rows size
+  writable js r bs bs' j l f =
+      let n : p.region_size ≤ length r = omega (arith, region_fits) in
+      subst (λ (y : List ℕ). Writable site xs y js (take p.region_size r) p.root_rows size) (sym (starts-there bs bs' f))
+      (starts-writable (take p.region_size r) (length-take-le p.region_size r n) js (A.fit.bytes ∙ j))
 
   -- the bytes behind the region are as they were
-  pub behind-kept : (l : List ℕ) → l ≡ region site p.root_rows xs js → l ++ drop p.region_size r ≡ put r 0 (region site p.root_rows xs js)
-  behind-kept l f =
+  pub behind-kept : (js r l : List ℕ) → l ≡ region site p.root_rows xs js → l ++ drop p.region_size r ≡ put r 0 (region site p.root_rows xs js)
+  behind-kept js r l f =
       ap (λ (y : List ℕ). y ++ drop p.region_size r) f
-      ∙ ap (λ (n : ℕ). region site p.root_rows xs js ++ drop n r) (sym (region-length xs o b w p plan h a js)) ∙ sym (put_front r (region site p.root_rows xs js))
+      ∙ ap (λ (n : ℕ). region site p.root_rows xs js ++ drop n r)
+      (sym (region-length xs lent.offset_places lent.block_places site.offset_size p A.planned site.heap_header_address site.region_address js))
+      ∙ sym (put_front r (region site p.root_rows xs js))

@@ -1,60 +1,62 @@
-// Writing the managed blocks of a fractal heap: `serialize` plans anew and writes the region of the plan.
+//! Writing the managed blocks of a fractal heap: `serialize` plans anew and writes the region of the plan.
 #![tactic(auto)]
 
-ghost use Rattle.region_blocks.specs.Site.{siteOf};
-ghost use Rattle.fractal_heap_write.specs.Serialize.{memory, call_of, Serialized};
+ghost use Rattle.std.specs.Prelude.{◌≡◌, IfOk, OnOk, OnErr};
+ghost use Rattle.little_endian.specs.LittleEndian.{put};
+ghost use Rattle.table.specs.Table.{fixed};
+ghost use Rattle.plan_steps.specs.Steps.{planOffsets, planStarts};
+ghost use Rattle.region_write.specs.Region.{region as region_of};
+ghost use Rattle.plan_laws.specs.Plans.{PlanKept};
+ghost use Rattle.write_checks.specs.Answer.{serializedFor};
+ghost use Rattle.fractal_heap_write.specs.Serialize.{lent_for};
 
-use plan::Planned;
-use plan_lists::write_lists;
+use plan::{ManagedPlan, write_lists};
+use refusals::FormatError;
 use region_blocks::Site;
 use region_write::write_region;
 use write_checks::{Lent, serialized_for};
 
-// Plans anew, and writes the region of the plan into the front of `region`; the plan itself goes into the lent
-// lists. A refusal leaves all three as they were.
+/// Plans anew, and writes the region of the plan into the front of `region`; the objects' heap offsets and the blocks'
+/// starts go into the front of the lent lists. `objects` are the objects' bytes, joined in the order of their sizes.
+/// What is refused is refused by planning's tests (2, 13, 13, 11, 12), then for the bytes of the objects (14), the
+/// room for the region (13) and the two addresses of the site (15, 15); then nothing that is lent has changed. What is
+/// accepted keeps its objects apart, so that each comes back.
 pub fn serialize(
     sizes: &[u64],
+    objects: &[u8],
+    site: Site,
     offsets: &mut [u64],
     blocks: &mut [u64],
-    objects: &[u8],
     region: &mut [u8],
-    region_address: u64,
-    heap_header_address: u64,
-    offset_size: u8,
-) -> Planned
-    ensures { Serialized
-        (call_of sizes.now objects.now (siteOf offset_size heap_header_address region_address)
-        (memory offsets.old blocks.old region.old))
-        result
-        (memory offsets.new blocks.new region.new) }
+) -> Result<ManagedPlan, FormatError>
+    ensures answer { result ≡ serializedFor sizes.now
+        (lent_for offsets.old blocks.old objects.now region.old) site }
+    ensures written { IfOk result (λ plan. region.new
+        ≡ put region.old 0 (region_of site plan.root_rows sizes.now objects.now)) }
+    ensures offsets_listed { OnOk result (offsets.new
+        ≡ put offsets.old 0 (planOffsets fixed site.offset_size sizes.now)) }
+    ensures blocks_listed { OnOk result (blocks.new
+        ≡ put blocks.old 0 (planStarts fixed site.offset_size sizes.now)) }
+    ensures kept { IfOk result (λ plan. PlanKept sizes.now site.offset_size plan) }
+    ensures untouched { OnErr result
+        ((offsets.new ≡ offsets.old) × (blocks.new ≡ blocks.old) × (region.new ≡ region.old)) }
 {
-    let site = Site {
-        offset_size,
-        heap_header_address,
-        region_address,
-    };
     let lent = Lent {
         offset_places: offsets.len(),
         block_places: blocks.len(),
         object_bytes: objects.len(),
         region_bytes: region.len(),
     };
-    match serialized_for(sizes, lent, site) {
-        Planned::Refused(e) => Planned::Refused(e),
-        Planned::Accepted(p) => {
-            let count = p.block_count as usize;
-            let size = p.region_size as usize;
-            write_lists(sizes, offsets, blocks, offset_size);
-            write_region(
-                sizes,
-                &blocks[..count],
-                objects,
-                &mut region[..size],
-                site,
-                p.root_rows,
-                p.region_size - p.allocated_space,
-            );
-            Planned::Accepted(p)
-        }
-    }
+    let plan = serialized_for(sizes, lent, site)?;
+    write_lists(sizes, offsets, blocks, site.offset_size);
+    write_region(
+        sizes,
+        &blocks[..plan.block_count as usize],
+        objects,
+        &mut region[..plan.region_size as usize],
+        site,
+        plan.root_rows,
+        plan.region_size - plan.allocated_space,
+    );
+    Ok(plan)
 }

@@ -1,1 +1,3 @@
+pub mod FieldList
 pub mod Groups
+pub mod Reading

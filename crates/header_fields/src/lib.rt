@@ -1,92 +1,118 @@
-// The fields of a heap's header, read in groups where they stand: its front, the numbers of objects, the doubling
-// table, the root block. Public for `fractal_heap` alone, which has tested that they are there.
-#![tactic(auto, unfolding(header_layout::specs::FieldList::headerList, header_layout::specs::FieldList::span_of, header_layout::specs::FieldList::width_in, header_layout::specs::FieldList::fieldPlace, header_layout::specs::FieldList::fieldNumber, crate::specs::Groups::frontFields, crate::specs::Groups::objectFields, crate::specs::Groups::tableFields, crate::specs::Groups::rootFields))]
+//! The fields of a heap's header, read in groups by a reader that goes through it: its front, the numbers of objects,
+//! the doubling table, the root block. A field that is not there is refused, with the end that it would have (1).
+#![tactic(auto, unfolding(crate::specs::FieldList::header_list, crate::specs::FieldList::span_of, crate::specs::FieldList::width_in, crate::specs::FieldList::field_place, crate::specs::Groups::front_at, crate::specs::Groups::objects_at, crate::specs::Groups::table_at, crate::specs::Groups::root_at))]
 
-ghost use Rattle.std.specs.Prelude.{◌≡◌, true, ℕ, ◌+◌, ◌≤◌, length};
-ghost use Rattle.little_endian.specs.Widths.{legal};
-ghost use Rattle.header_layout.specs.FieldList.{headerEnd};
-ghost use Rattle.header_fields.specs.Groups.{frontFields, objectFields, tableFields, rootFields};
+pub mod reader;
 
-use little_endian::{read_le, read_u16_le, read_u32_le};
+ghost use Rattle.std.specs.Prelude.{length};
+
+use crate::reader::Reader;
 use read_rows::DoublingTable;
+use refusals::FormatError;
 
-// Heap ID Length, I/O Filters' Encoded Length, Maximum Size of Managed Objects: before the fields whose sizes the file
-// chooses.
-#[derive(Clone, Copy)]
+/// What stands before the fields whose sizes the file chooses.
+#[derive(Clone, Copy, Debug, PartialEq, Eq)]
 pub struct FrontFields {
     pub heap_id_length: u16,
     pub io_filter_encoded_length: u16,
     pub max_managed_object_size: u32,
 }
 
-// v2 B-tree Address of Huge Objects, Number of Managed Objects in Heap.
-#[derive(Clone, Copy)]
+/// The huge objects' tree, and how many managed objects there are.
+#[derive(Clone, Copy, Debug, PartialEq, Eq)]
 pub struct ObjectFields {
     pub btree_huge_objects_address: u64,
     pub managed_objects_count: u64,
 }
 
-// Starting # of Rows in Root Indirect Block, Address of Root Block, Current # of Rows in Root Indirect Block.
-#[derive(Clone, Copy)]
+/// The root block, and how many rows it has.
+#[derive(Clone, Copy, Debug, PartialEq, Eq)]
 pub struct RootFields {
     pub start_root_rows: u16,
     pub root_block_address: u64,
     pub current_rows_in_root_indirect_block: u16,
 }
 
-// Of the header at `at`, as in all below; these fields stand at the same places at every size of offsets and lengths.
-pub fn read_front(file: &[u8], at: usize) -> FrontFields
-    requires { at + 14 ≤ length file.now }
-    ensures { (os ls : ℕ) → result ≡ frontFields file.now at os ls }
-{
-    FrontFields {
-        heap_id_length: read_u16_le(file, at + 5),
-        io_filter_encoded_length: read_u16_le(file, at + 7),
-        max_managed_object_size: read_u32_le(file, at + 10),
-    }
-}
+impl Reader<'_> {
+    ghost use Rattle.std.specs.Prelude.{◌≡◌, ◌≤◌, OnOk};
+    ghost use Rattle.header_fields.specs.Reading.{field_at, MovedTo};
+    ghost use Rattle.header_fields.specs.Groups.{front_at, objects_at, table_at, root_at};
 
-pub fn read_objects(file: &[u8], at: usize, offset_size: u8, length_size: u8) -> ObjectFields
-    requires offset_size_value { legal offset_size ≡ true }
-    requires length_size_value { legal length_size ≡ true }
-    requires length_size_in_bounds { at + headerEnd offset_size length_size ≤ length file.now }
-    ensures { result ≡ objectFields file.now at offset_size length_size }
-{
-    let o = offset_size as usize;
-    let l = length_size as usize;
-    ObjectFields {
-        btree_huge_objects_address: read_le(file, at + (14 + l), offset_size),
-        managed_objects_count: read_le(file, at + (14 + 5 * l + 2 * o), length_size),
+    /// From Heap ID Length on.
+    #[inline(always)]
+    pub fn front(&mut self) -> Result<FrontFields, FormatError>
+        requires { self.old.pos ≡ field_at self.old 0 }
+        ensures value { result ≡ front_at self.old.file.now self.old.start
+            self.old.offset_size self.old.length_size }
+        ensures moved { OnOk result (MovedTo self.old self.new (field_at self.old 5)) }
+    {
+        let heap_id_length = self.u16()?;
+        let io_filter_encoded_length = self.u16()?;
+        self.skip(1)?; // Flags
+        let max_managed_object_size = self.u32()?;
+        self.skip(usize::from(self.length_size))?; // Next Huge Object ID
+        Ok(FrontFields {
+            heap_id_length,
+            io_filter_encoded_length,
+            max_managed_object_size,
+        })
     }
-}
 
-pub fn read_table(file: &[u8], at: usize, offset_size: u8, length_size: u8) -> DoublingTable
-    requires length_size_value { legal length_size ≡ true }
-    requires length_size_in_bounds { at + headerEnd offset_size length_size ≤ length file.now }
-    ensures { result ≡ tableFields file.now at offset_size length_size }
-{
-    let o = offset_size as usize;
-    let l = length_size as usize;
-    let table = at + (14 + 10 * l + 2 * o);
-    DoublingTable {
-        table_width: read_u16_le(file, table),
-        starting_block_size: read_le(file, table + 2, length_size),
-        max_direct_block_size: read_le(file, table + (2 + l), length_size),
-        max_heap_size: read_u16_le(file, table + (2 + 2 * l)),
+    /// From v2 B-tree Address of Huge Objects on.
+    #[inline(always)]
+    pub fn objects(&mut self) -> Result<ObjectFields, FormatError>
+        requires { self.old.pos ≡ field_at self.old 5 }
+        ensures value { result ≡ objects_at self.old.file.now self.old.start
+            self.old.offset_size self.old.length_size }
+        ensures moved { OnOk result (MovedTo self.old self.new (field_at self.old 12)) }
+    {
+        let btree_huge_objects_address = self.offset()?;
+        // free space, its manager, managed space, allocated space, allocation iterator
+        self.skip(4 * usize::from(self.length_size) + usize::from(self.offset_size))?;
+        let managed_objects_count = self.length()?;
+        Ok(ObjectFields {
+            btree_huge_objects_address,
+            managed_objects_count,
+        })
     }
-}
 
-pub fn read_root(file: &[u8], at: usize, offset_size: u8, length_size: u8) -> RootFields
-    requires offset_size_value { legal offset_size ≡ true }
-    requires length_size_in_bounds { at + headerEnd offset_size length_size ≤ length file.now }
-    ensures { result ≡ rootFields file.now at offset_size length_size }
-{
-    let o = offset_size as usize;
-    let l = length_size as usize;
-    let table = at + (14 + 10 * l + 2 * o);
-    RootFields {
-        start_root_rows: read_u16_le(file, table + (4 + 2 * l)),
-        root_block_address: read_le(file, table + (6 + 2 * l), offset_size),
-        current_rows_in_root_indirect_block: read_u16_le(file, table + (6 + 2 * l + o)),
+    /// From Size of Huge Objects in Heap on. The four lengths there are stepped over untested, as in the original.
+    #[inline(always)]
+    pub fn table(&mut self) -> Result<DoublingTable, FormatError>
+        requires place { self.old.pos ≡ field_at self.old 12 }
+        requires there { self.old.pos ≤ length self.old.file.now }
+        ensures value { result ≡ table_at self.old.file.now self.old.start
+            self.old.offset_size self.old.length_size }
+        ensures moved { OnOk result (MovedTo self.old self.new (field_at self.old 20)) }
+    {
+        self.pos += 4 * usize::from(self.length_size);
+        let table_width = self.u16()?;
+        let starting_block_size = self.length()?;
+        let max_direct_block_size = self.length()?;
+        let max_heap_size = self.u16()?;
+        Ok(DoublingTable {
+            table_width,
+            starting_block_size,
+            max_direct_block_size,
+            max_heap_size,
+        })
+    }
+
+    /// From Starting # of Rows in Root Indirect Block on.
+    #[inline(always)]
+    pub fn root(&mut self) -> Result<RootFields, FormatError>
+        requires { self.old.pos ≡ field_at self.old 20 }
+        ensures value { result ≡ root_at self.old.file.now self.old.start
+            self.old.offset_size self.old.length_size }
+        ensures moved { OnOk result (MovedTo self.old self.new (field_at self.old 23)) }
+    {
+        let start_root_rows = self.u16()?;
+        let root_block_address = self.offset()?;
+        let current_rows_in_root_indirect_block = self.u16()?;
+        Ok(RootFields {
+            start_root_rows,
+            root_block_address,
+            current_rows_in_root_indirect_block,
+        })
     }
 }

@@ -5,23 +5,21 @@ use mathlib.Core.Logic.{◌⊎◌, inl, inr}
 use mathlib.Core.List.{List, [], ◌∷◌}
 use native.Mathlib.Omega.{arith}
 use native.Mathlib.Decide.{ℕ_discrete, dec_le, dec_lt}
-use lib.ListN.{length, take, get_or}
-use borrow.Author.Tests.{le-ltb}
+use lib.ListN.{length, get_or}
+use Rattle.std.proofs.lemmas.Bool.Decides.{nat_tests}
 use Rattle.refusals.specs.declared.FormatError.TheVariants.{UnexpectedEof, HeapIdTooLarge}
-use Rattle.fields.specs.declared.Checked.TheVariants.{Refused as NotPassed}
 use Rattle.table.specs.Table.{Table, fixed, rowOffset}
 use Rattle.table.specs.Slots.{slot_at}
 use Rattle.table_laws.proofs.Format.{direct-local, fixed-slot}
 use Rattle.plan.specs.declared.ManagedPlan.{ManagedPlan}
 use Rattle.numbers.proofs.Saturating.{sat-fits}
-use Rattle.read_blocks.specs.declared.Found.TheVariants.{At, Refused}
-use Rattle.read_blocks.specs.Blocks.{directAt}
+use Rattle.std.specs.Prelude.{Ok, Err}
+use Rattle.read_walk.specs.Walk.{direct_at}
 use Rattle.fractal_heap.specs.declared.header.FractalHeapHeader.{FractalHeapHeader}
-use Rattle.fractal_heap.specs.Read.{rootAt, managedAt}
+use Rattle.fractal_heap.specs.Read.{root_at, managed_at}
 use Rattle.id_write.specs.Checks.{idChecked}
-use Rattle.id_write.specs.Ids.{idWritten}
-use Rattle.fractal_heap_write.specs.Serialize.{Call, Written}
-use Rattle.heap_kept.specs.HeapKept.{HoldsRegion, HeaderOf, offset_of, EmptyRead, accepts, refuses, EmptyAnswered}
+use Rattle.id_write.specs.Ids.{managedId}
+use Rattle.heap_kept.specs.HeapKept.{Call, Written, HoldsRegion, HeaderOf, offset_of, EmptyRead, accepts, refuses, EmptyObjectsAnswered}
 use Rattle.heap_kept.proofs.Ids.{id-passes}
 use Rattle.heap_kept.proofs.FromRoot.{starts, block_of, start, place_of, place-fits, block_inside, by_bare, by-missing, root-finds}
 use Rattle.heap_kept.proofs.Theorem.{by-id, in_block}
@@ -47,9 +45,9 @@ holder t x (s ∷ ss) = go (dec_le s x) (dec_lt x (s + (slot_at t s).size)) (hol
     go (no l) (yes u) (inr C) = inr (more (λ k. absurd (l k)) C)
 
 -- at the heap's end there is no ID
-no-id : (o : ℕ) → o ≡ 2 ^ 40 → (id : List ℕ) → idChecked fixed o 0 (length id) ≡ NotPassed (HeapIdTooLarge o 0)
+no-id : (o : ℕ) → o ≡ 2 ^ 40 → (lent : ℕ) → idChecked fixed o 0 lent ≡ Err (HeapIdTooLarge o 0)
 unfolding idChecked
-no-id o e id = rw (le-ltb o (2 ^ 40) (omega arith))
+no-id o e lent = grind (arith, nat_tests)
 
 module _ (c : Call) (p : ManagedPlan) (W : Written c p)
     (F : List ℕ) (H : HoldsRegion F c p) (h : FractalHeapHeader) (T : HeaderOf h c p) (x : ℕ) where
@@ -67,21 +65,21 @@ module _ (c : Call) (p : ManagedPlan) (W : Written c p)
     in-file : place n l + (x - its n l) ≤ length F
     in-file = let k = block_inside c p W n l F H in omega arith
 
-    nothing_read : directAt F (place n l) (its n l) x 0 ≡ At (place n l + (x - its n l)) 0
+    nothing_read : direct_at F (place n l) (its n l) x 0 ≡ Ok (record { position = place n l + (x - its n l); length = 0 })
     nothing_read =
         let f = in-file in
         let r = place-fits c p W n l in
         in_block F (place n l) (its n l) x 0 (omega arith) (omega arith)
 
-    found-there : x < 2 ^ 40 → rootAt h F x 0 w ≡ directAt F (place n l) (its n l) x 0 → EmptyRead F h w x p.root_rows
-    found-there s e = accepts (place n l + (x - its n l)) in-file (λ id k. by-id h F w x 0 c p T s (omega arith) id k ∙ e ∙ nothing_read)
+    found-there : x < 2 ^ 40 → root_at h F x 0 w ≡ direct_at F (place n l) (its n l) x 0 → EmptyRead F h w x p.root_rows
+    found-there s e = accepts (place n l + (x - its n l)) in-file (by-id h F w x 0 c p T s (omega arith) ∙ e ∙ nothing_read)
 
   -- where no placed block holds the offset, and the root has rows
-  pub missed-there : (n : ℕ) → n < length (starts c p W) → 0 < p.root_rows → Clear fixed x (starts c p W) → x < 2 ^ 40 → (id : List ℕ) → 8 ≤ length id
-      → managedAt h F (take 8 (idWritten fixed x 0 id)) w ≡ Refused (UnexpectedEof x (length F))
-  missed-there n l r C s id k =
-      by-id h F w x 0 c p T s (omega arith) id k ∙ by-missing c p W n l F H h T x 0 r C
-      ∙ ap (λ (y : ℕ). Refused (UnexpectedEof y (length F))) (sat-fits (x + 0) (omega arith) ∙ (let e : x + 0 ≡ x = omega arith in e))
+  pub missed-there : (n : ℕ) → n < length (starts c p W) → 0 < p.root_rows → Clear fixed x (starts c p W) → x < 2 ^ 40
+      → managed_at h F (managedId fixed x 0) w ≡ Err (UnexpectedEof x (length F))
+  missed-there n l r C s =
+      by-id h F w x 0 c p T s (omega arith) ∙ by-missing c p W n l F H h T x 0 r C
+      ∙ ap (λ (y : ℕ). Err (UnexpectedEof y (length F))) (sat-fits (x + 0) (omega arith) ∙ (let e : x + 0 ≡ x = omega arith in e))
 
   -- at an offset that lies at or before the end of the n-th block
   read-empty : (n : ℕ) (l : n < length (starts c p W)) → x ≤ its n l + (slot_at fixed (its n l)).size → x < 2 ^ 40 → EmptyRead F h w x p.root_rows
@@ -95,8 +93,7 @@ module _ (c : Call) (p : ManagedPlan) (W : Written c p)
       go (no z) (inr C) = refuses (omega arith) (missed-there n l (omega arith) C s)
 
 -- every empty object
-pub empty-answered : (c : Call) (p : ManagedPlan) → Written c p → (file : List ℕ) → HoldsRegion file c p → (h : FractalHeapHeader) → HeaderOf h c p
-    → (i : ℕ) → i < length c.sizes → get_or c.sizes i 0 ≡ 0 → EmptyAnswered file h c.site.offset_size (offset_of c.site.offset_size c.sizes i) p.root_rows
+pub empty-answered : EmptyObjectsAnswered
 unfolding rowOffset
 empty-answered c p W file H h T i l e =
     let x = offset_of c.site.offset_size c.sizes i in
@@ -106,7 +103,7 @@ empty-answered c p W file H h T i l e =
     let d = (direct-local fixed (omega arith) (omega arith) B.slot).inside in
     record {
       within = omega arith;
-      id-accepted = λ s id k. id-passes x 0 s (omega arith) id k;
-      id-refused = λ s id. no-id x s id;
+      id-accepted = λ s lent k. id-passes x 0 s (omega arith) lent k;
+      id-refused = λ s lent. no-id x s lent;
       read = λ s. read-empty c p W file H h T x B.n B.placed (omega arith) s;
     }

@@ -21,10 +21,11 @@ use Rattle.region_laws.proofs.Starts.{Placed, more, before, from, before-yes, be
 use Rattle.region_laws.proofs.Geometry.{SlotAt, slot-end, BlockAt, inner-span, own-slot, inner_block}
 use Rattle.region_laws.proofs.Walking.{by-smaller, Way, empty, placed, deeper, way, Cut, slot-cut}
 use Rattle.read_rows.specs.declared.DoublingTable.{DoublingTable}
-use Rattle.read_blocks.specs.declared.RowScan.{RowScan}
-use Rattle.read_blocks.specs.declared.HeapChild.{HeapChild}
-use Rattle.read_blocks.specs.declared.Found.{Found}
-use Rattle.read_blocks.specs.Blocks.{childOf, afterRow, directAt}
+use Rattle.read_children.specs.declared.HeapChild.{HeapChild}
+use Rattle.read_walk.specs.declared.place.Place.{Place}
+use Rattle.std.specs.Prelude.{Option, Result}
+use Rattle.refusals.specs.declared.FormatError.{FormatError}
+use Rattle.read_walk.specs.Walk.{direct_at}
 use Rattle.heap_kept.specs.Walking.{Has, Agrees, Coming, Finds, WalkFinds}
 use Rattle.heap_kept.proofs.Entries.{entry-passed, entry-taken}
 use Rattle.heap_kept.proofs.Standing.{Stands, block-stands, onward, walk-scans}
@@ -70,15 +71,15 @@ module _ {t : Table} {b a : ℕ} {bs : List ℕ} where
 
 module _ (t : Table) (g : t.startBits ≤ t.directBits) (wd : t.width_bits + t.startBits ≤ suc t.directBits) (w header : ℕ) (d : DoublingTable) (N : ℕ) (A : Agrees d t N) (F : List ℕ) (ok : legal w ≡ true)
     (target len b a : ℕ) (bs : List ℕ) (lo : b ≤ target) (hi : target < b + (slot_at t b).size) (last : a < 2 ^ (8 * w) - 1) where
-  abbrev Wanted : Found
-  Wanted = directAt F a b target len
+  abbrev Wanted : Result Place FormatError
+  Wanted = direct_at F a b target len
 
   -- the walk from a block of n rows comes to the block at b
   abbrev FindsFrom : ℕ → Type 0
   FindsFrom n = Finds t w header d N F target len b a bs n
 
   module _ {n base : ℕ} (finds : (j : ℕ) → j < n → FindsFrom j) (few : n ≤ N) (top : base + rowOffset t n < 2 ^ 64) (B : BlockAt t n base) (depth : ℕ) (deep : n ≤ depth) (s : List ℕ) where
-    abbrev then : HeapChild → Found
+    abbrev then : Result (Option HeapChild) FormatError → Result Place FormatError
     then = onward d F w target len depth
 
     module _ {r at : ℕ} (C : SlotAt t n base r at) where
@@ -90,20 +91,18 @@ module _ (t : Table) (g : t.startBits ≤ t.directBits) (wd : t.width_bits + t.s
 
       -- the slot in which the block at b begins
       taken : {ss : List ℕ} {pos next : ℕ} (e : ℕ) → Way t w header n r at pos next ss → Coming t b a bs at ss next → b < at + z → Stands F s w pos e (slot t w header (smaller t w header n) r at ss pos next)
-          → Settled d then Wanted s w z target r e at
+          → Settled d then Wanted s w target r e at
       unfolding direct
-      taken e (empty none _ q) S u H m K = absurd (coming-some (at + z) S u none)
-      taken {next = next} e (placed {s = s₁} {ss = ss} dr is size R q) S u H m K =
+      taken e (empty none _ q) S u H rs = absurd (coming-some (at + z) S u none)
+      taken {next = next} e (placed {s = s₁} {ss = ss} dr is size R q) S u H rs =
           let o = own-slot t g wd B C b (slot_at t b).size (coming-slot S) dr S.ahead u in
           let o0 = o.0 in
           let o1 = o.1 in
           let x : next ≡ a = coming-first S (omega arith) in
           let v = C.row_in in
-          ap (λ (y : RowScan). then (afterRow y (childOf d r) K))
-          (entry-taken s w z target m e at ok fits (omega arith) (omega arith) a last (subst (λ (y : ℕ). Has s e (le w y)) x (subst (λ (o : Walked). Has s e o.entries) q H.entries)))
-          ∙ ap then (A.direct r a at (omega arith) dr)
-          ∙ ap (λ (y : ℕ). directAt F a y target len) (sym o0)
-      taken {pos = pos} {next = next} e (deeper {s = s₁} {ss = ss} dr h q) S u H m K =
+          rw (entry-taken d s w target r rs e at z (A.size r (omega arith)) ok fits (omega arith) (omega arith) a last (subst (λ (y : ℕ). Has s e (le w y)) x (subst (λ (o : Walked). Has s e o.entries) q H.entries)), A.direct r a at (omega arith) dr)
+          (ap (λ (y : ℕ). direct_at F a y target len) (sym o0))
+      taken {pos = pos} {next = next} e (deeper {s = s₁} {ss = ss} dr h q) S u H rs =
           let j : ℕ = r - t.width_bits in
           let f : rowOffset t j ≡ z = inner-span t g wd r dr in
           let I = inner_block t g wd B C dr in
@@ -112,21 +111,21 @@ module _ (t : Table) (g : t.startBits ≤ t.directBits) (wd : t.width_bits + t.s
           let v = C.row_in in
           let x = fits in
           let G : Stands F s w pos e (block t w header j at (s₁ ∷ ss) pos next) = subst (Stands F s w pos e) q H in
-          leads-inside t w header d N A F s target len depth r at (s₁ ∷ ss) pos next e ok (omega arith) dr fits (omega arith) (omega arith) G m K
+          leads-inside t w header d N A F s target len depth r at (s₁ ∷ ss) pos next e ok (omega arith) dr fits (omega arith) (omega arith) G rs
           ∙ finds j (omega arith) at (s₁ ∷ ss) pos next depth (omega arith) (omega arith) (omega arith) I (S, omega arith) G.bytes G.below
 
       -- a slot settles it, or ends before the block at b
       law : (ss : List ℕ) (pos next e : ℕ) → Coming t b a bs at ss next → Stands F s w pos e (slot t w header (smaller t w header n) r at ss pos next)
-          → Settled d then Wanted s w z target r e at
-          ⊎ (Passed s w z target e at × Coming t b a bs (at + z) (slot t w header (smaller t w header n) r at ss pos next).rest (slot t w header (smaller t w header n) r at ss pos next).next)
+          → Settled d then Wanted s w target r e at
+          ⊎ (Passed d s w target r z e at × Coming t b a bs (at + z) (slot t w header (smaller t w header n) r at ss pos next).rest (slot t w header (smaller t w header n) r at ss pos next).next)
       law ss pos next e S H = go (dec_lt b (at + z))
         where
-          go : Dec (b < at + z) → Settled d then Wanted s w z target r e at ⊎ (Passed s w z target e at × Coming t b a bs (at + z) (slot t w header (smaller t w header n) r at ss pos next).rest (slot t w header (smaller t w header n) r at ss pos next).next)
+          go : Dec (b < at + z) → Settled d then Wanted s w target r e at ⊎ (Passed d s w target r z e at × Coming t b a bs (at + z) (slot t w header (smaller t w header n) r at ss pos next).rest (slot t w header (smaller t w header n) r at ss pos next).next)
           go (yes u) = inl (taken e (way t g wd w header B C S.placed pos next) S u H)
           go (no u) =
               let x = slot-entry t w header n r at ss pos next in
               let y = H.entries.within in
-              inr (λ m. entry-passed s w z target m e at ok fits (omega arith) (omega arith), coming-later (omega arith) (slot-cut t g wd w header pos next B C S.placed) S)
+              inr (λ rs. entry-passed d s w target r rs e at z (A.size r (let v = C.row_in in omega arith)) ok fits (omega arith) (omega arith), coming-later (omega arith) (slot-cut t g wd w header pos next B C S.placed) S)
 
   block-found : (n : ℕ) → ((j : ℕ) → j < n → FindsFrom j) → FindsFrom n
   block-found n finds base ss pos next zero few deep top B (S, u) H k = absurd (omega arith)
@@ -135,7 +134,7 @@ module _ (t : Table) (g : t.startBits ≤ t.directBits) (wd : t.width_bits + t.s
       let I = block-stands t w header n base ss pos next F H k in
       let p : ℕ = pos + length o.bytes in
       walk-scans t w header d A.bits F target len p n base depth o.entries I.own
-      ∙ scanned t w header d N A F (drop p F) target n base few (onward d F w target len depth) Wanted (Coming t b a bs)
+      ∙ scanned t w header d N A F (drop p F) target n base (onward d F w target len depth) Wanted (Coming t b a bs)
       (λ r at ss pos next e C S H. law finds few top B depth (omega arith) (drop p F) C ss pos next e S H) (λ ss next S. absurd (let l = S.ahead in omega arith))
       ss pos next (5 + w + offsetBytes t) S I.slots
 

@@ -7,7 +7,6 @@ use native.Mathlib.Omega.{arith}
 use native.Mathlib.Decide.{ℕ_discrete}
 use lib.ListN.{length, take, drop, get_or, length-append}
 use lib.Pow.{pow_mono}
-use lib.Seq.{take_at}
 use borrow.Author.Tests.{eq-eqb, ne_eqb}
 use Rattle.little_endian.specs.Widths.{legal}
 use Rattle.little_endian.proofs.Widths.{legal-small}
@@ -18,9 +17,7 @@ use Rattle.table.proofs.Rows.{row-mono}
 use Rattle.table.proofs.Slots.{slot-some}
 use Rattle.table_laws.proofs.Format.{fixed-slot}
 use Rattle.plan_steps.specs.Steps.{planOffsets, planStarts}
-use Rattle.little_endian.proofs.LittleEndian.{put_front}
 use Rattle.plan.specs.declared.ManagedPlan.{ManagedPlan}
-use Rattle.plan.specs.declared.Planned.TheVariants.{Accepted}
 use Rattle.plan.specs.Answer.{plannedFor}
 use Rattle.plan_checks.proofs.Checking.{Passing}
 use Rattle.plan.proofs.Answering.{Went, accepted}
@@ -36,20 +33,21 @@ use Rattle.region_laws.proofs.Indirect.{rooted, indirect-planned, bare-planned}
 use Rattle.region_write.specs.Region.{indirects, indirectBytes, region}
 use Rattle.region_write.proofs.Root.{indirects-some}
 use Rattle.region_laws.proofs.Region.{indirect-bytes, indirects-planned, region-length}
-use Rattle.write_checks.proofs.Answering.{written, Fit, fit}
-use Rattle.read_blocks.specs.declared.Found.{Found}
-use Rattle.read_blocks.specs.Blocks.{directAt, walkFrom}
+use Rattle.write_checks.specs.Checks.{Fit}
+use Rattle.write_checks.proofs.Answering.{written, fit}
+use Rattle.read_walk.specs.declared.place.Place.{Place}
+use Rattle.std.specs.Prelude.{Result, Ok}
+use Rattle.refusals.specs.declared.FormatError.{FormatError}
+use Rattle.read_walk.specs.Walk.{root_walk, direct_at, walk_from}
 use Rattle.fractal_heap.specs.declared.header.FractalHeapHeader.{FractalHeapHeader}
-use Rattle.fractal_heap.specs.Header.{table_of}
-use Rattle.fractal_heap.specs.Read.{rootAt}
+use Rattle.fractal_heap.specs.Read.{root_at}
 use Rattle.heap_kept.specs.Walking.{Has, Agrees, Coming, Clear, missed, Doubles}
 use Rattle.heap_kept.proofs.Holding.{has_some, has_left, has_right}
 use Rattle.heap_kept.proofs.Agreeing.{numbersOf, agrees}
 use Rattle.heap_kept.proofs.Entries.{defined}
 use Rattle.heap_kept.proofs.Finding.{found}
 use Rattle.heap_kept.proofs.Missing.{not_found}
-use Rattle.fractal_heap_write.specs.Serialize.{Call, lent_by, Written}
-use Rattle.heap_kept.specs.HeapKept.{HoldsRegion, HeaderOf}
+use Rattle.heap_kept.specs.HeapKept.{Call, Written, lent_by, HoldsRegion, HeaderOf}
 use Rattle.heap_kept.proofs.Directs.{block_at, block-least, directs-has}
 
 doubles : Doubles fixed
@@ -62,10 +60,10 @@ module _ (c : Call) (p : ManagedPlan) (W : Written c p) where
   xs = c.sizes
 
   abbrev o : ℕ
-  o = length c.lent.offsets
+  o = c.offset_places
 
   abbrev b : ℕ
-  b = length c.lent.blocks
+  b = c.block_places
 
   abbrev js : List ℕ
   js = c.objects
@@ -95,7 +93,7 @@ module _ (c : Call) (p : ManagedPlan) (W : Written c p) where
   abbrev directPart : List ℕ
   directPart = directs fixed w header offsets xs js starts
 
-  pub planned : plannedFor xs o b w ≡ Accepted p
+  pub planned : plannedFor xs o b w ≡ Ok p
   planned = (written xs (lent_by c) c.site p W.accepted).0
 
   pub tests : Fit c.site (lent_by c) (sum xs) p.region_size
@@ -184,7 +182,7 @@ module _ (c : Call) (p : ManagedPlan) (W : Written c p) where
           let m : length R ≡ p.region_size = region-length xs o b w p planned header address js in
           let i = in-region in
           let s = slot-some fixed start in
-          has_some F address R (omega arith) (ap (λ (k : ℕ). take k (drop address F)) m ∙ H.holds ∙ ap (take p.region_size) (put_front c.lent.bytes R) ∙ take_at R (drop (length R) c.lent.bytes) p.region_size m)
+          has_some F address R (omega arith) (ap (λ (k : ℕ). take k (drop address F)) m ∙ H.holds)
 
       -- the block stands there
       pub block-has : Has F place_of bytes_of
@@ -198,16 +196,15 @@ module _ (c : Call) (p : ManagedPlan) (W : Written c p) where
       -- ---- under a header
 
       module _ (h : FractalHeapHeader) (T : HeaderOf h c p) (t len : ℕ) where
-        table_is : table_of h ≡ numbersOf fixed
-        unfolding table_of
+        table_is : h.table ≡ numbersOf fixed
         table_is = λ i. record { table_width = T.table-width i; starting_block_size = T.starting-block i; max_direct_block_size = T.largest-direct i; max_heap_size = T.heap-bits i }
 
         below : place_of < 2 ^ (8 * w) - 1
         below = let i = in-region in let e = tests.end in let s = slot-some fixed start in omega arith
 
         -- a root of no rows is the one block
-        pub by_bare : p.root_rows ≡ 0 → rootAt h F t len w ≡ directAt F place_of start t len
-        unfolding rootAt sizesAt
+        pub by_bare : p.root_rows ≡ 0 → root_at h F t len w ≡ direct_at F place_of start t len
+        unfolding root_walk sizesAt
         by_bare z =
             let B = bare-planned xs o b w p planned z in
             let r = B.region in
@@ -219,7 +216,7 @@ module _ (c : Call) (p : ManagedPlan) (W : Written c p) where
             let e = T.root in
             let u = below in
             let d : h.root_block_address ≡ place_of = omega arith in
-            rw (defined h.root_block_address w (omega arith), eq-eqb h.current_rows_in_root_indirect_block 0 (T.rows ∙ z)) (ap₂ (λ (x y : ℕ). directAt F x y t len) d (sym f))
+            rw (defined h.root_block_address w (omega arith), eq-eqb h.current_rows_in_root_indirect_block 0 (T.rows ∙ z)) (ap₂ (λ (x y : ℕ). direct_at F x y t len) d (sym f))
           where
             one : (ss : List ℕ) → ss ≡ 0 ∷ [] → (n : ℕ) → n < length ss → get_or ss n 0 ≡ 0
             one ss e zero l = ap (λ (v : List ℕ). get_or v 0 0) e
@@ -266,35 +263,35 @@ module _ (c : Call) (p : ManagedPlan) (W : Written c p) where
               let x = indirect-length in
               omega arith
 
-          by-walk : (x : Found) → walkFrom (numbersOf fixed) F w t len 64 root p.root_rows 0 ≡ x → rootAt h F t len w ≡ x
-          unfolding rootAt
+          by-walk : (x : Result Place FormatError) → walk_from (numbersOf fixed) F w t len 64 root p.root_rows 0 ≡ x → root_at h F t len w ≡ x
+          unfolding root_walk
           by-walk x q =
               let e = root_is in
               let u = root_below in
               let z = T.rows in
               rw (defined h.root_block_address w (omega arith), ne_eqb h.current_rows_in_root_indirect_block 0 (λ y. omega arith))
-              ((λ i. walkFrom (table_is i) F w t len 64 (e i) (z i) 0) ∙ q)
+              ((λ i. walk_from (table_is i) F w t len 64 (e i) (z i) 0) ∙ q)
 
-          by-found : start ≤ t → t < start + (slot_at fixed start).size → rootAt h F t len w ≡ directAt F place_of start t len
+          by-found : start ≤ t → t < start + (slot_at fixed start).size → root_at h F t len w ≡ direct_at F place_of start t len
           by-found lo hi =
               let r = (rooted xs o b w p planned some).reaches in
               let e = end-reached starts-placed there in
               let s = slot-some fixed start in
               let f = few in
-              by-walk (directAt F place_of start t len)
+              by-walk (direct_at F place_of start t len)
               (found fixed doubles w header (numbersOf fixed) 29 agree F width-legal t len start place_of (drop (suc n) starts) lo hi below p.root_rows 0 starts address firstDirect 64 few (omega arith) span_small is_block (coming, omega arith) blocks-have blocks-below)
 
           -- where no placed block holds the offset
-          pub by-missing : Clear fixed t starts → rootAt h F t len w ≡ missed F t len
+          pub by-missing : Clear fixed t starts → root_at h F t len w ≡ missed F t len
           by-missing X =
               let f = few in
               by-walk (missed F t len)
               (not_found fixed doubles w header (numbersOf fixed) 29 agree F width-legal t len p.root_rows 0 starts address firstDirect 64 few (omega arith) span_small is_block (record { placed = starts-placed; clear = X }) blocks-have blocks-below)
 
         -- from the root to the block
-        pub root-finds : start ≤ t → t < start + (slot_at fixed start).size → rootAt h F t len w ≡ directAt F place_of start t len
+        pub root-finds : start ≤ t → t < start + (slot_at fixed start).size → root_at h F t len w ≡ direct_at F place_of start t len
         root-finds lo hi = go (ℕ_discrete p.root_rows 0)
           where
-            go : Dec (p.root_rows ≡ 0) → rootAt h F t len w ≡ directAt F place_of start t len
+            go : Dec (p.root_rows ≡ 0) → root_at h F t len w ≡ direct_at F place_of start t len
             go (yes z) = by_bare z
             go (no z) = by-found (omega arith) lo hi

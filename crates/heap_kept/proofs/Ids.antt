@@ -1,25 +1,24 @@
 -- A written ID decodes to what was written, under every header of the fixed geometry.
 use Prim.Native.Nat.{ℕ, ◌+◌, ◌-◌, ◌*◌, ◌^◌, ◌/◌, ◌%◌, ◌≤◌, ◌<◌}
-use mathlib.Core.Path.{◌≡◌, refl, ap, ap₂, ◌∙◌, subst}
+use mathlib.Core.Path.{◌≡◌, refl, ap, ap₂, ◌∙◌}
 use mathlib.Core.List.{List, ◌++◌}
 use native.Mathlib.Omega.{arith}
 use native.Mathlib.Nat.{mod-eq_of_lt}
-use lib.ListN.{length, take, get_or, length-append}
+use lib.ListN.{length, length-append}
 use lib.Pow.{high, low}
 use lib.Seq.{take_all}
-use borrow.Author.Tests.{lt-ltb, le-leb, ne_eqb}
-use Rattle.little_endian.specs.LittleEndian.{le, value, leAt, put}
-use Rattle.fields.specs.declared.Checked.TheVariants.{Passed}
-use Rattle.little_endian.proofs.LittleEndian.{length-le, value-le, value-append, put-here}
+use Rattle.std.proofs.lemmas.Bool.Decides.{nat_tests}
+use borrow.Author.Tests.{lt-ltb}
+use Rattle.little_endian.specs.LittleEndian.{le, value, leAt}
+use Rattle.little_endian.proofs.LittleEndian.{length-le, value-le, value-append}
 use Rattle.table.specs.Table.{fixed}
 use Rattle.table.specs.Sizes.{offsetBytes}
-use Rattle.id_decode.specs.declared.ManagedId.TheVariants.{Decoded}
+use Rattle.std.specs.Prelude.{slice_index, Ok}
 use Rattle.id_decode.specs.IdTypes.{type_of}
-use Rattle.id_decode.specs.Id.{splitId, decodedId}
+use Rattle.id_decode.specs.Id.{split_id, decoded_id}
 use Rattle.id_write.specs.Checks.{idLength, idChecked}
-use Rattle.id_write.proofs.Checking.{held}
-use Rattle.id_write.specs.Ids.{managedId, idWritten}
-use Rattle.id_write.proofs.Ids.{id-length, id-passed}
+use Rattle.id_write.specs.Ids.{managedId}
+use Rattle.id_write.proofs.Ids.{id-length}
 use Rattle.heap_kept.specs.HeapKept.{IdRoundTrip}
 
 module _ (o x : ℕ) where
@@ -36,28 +35,32 @@ module _ (o x : ℕ) where
         let p = ap (λ (m : ℕ). value (le 2 x) * 2 ^ (8 * m)) (length-le 5 o) in
         ap value (take_all 8 T (omega arith)) ∙ omega arith
 
-    pub decodes : decodedId 40 (managedId fixed o x) ≡ Decoded o x
-    unfolding decodedId splitId type_of
+    pub decodes : decoded_id 40 (managedId fixed o x) ≡ Ok (record { offset = o; length = x })
+    unfolding decoded_id split_id
     decodes =
         let l = id-length o x in
-        let first : type_of (get_or (managedId fixed o x) 0 0) ≡ 0 = (unfold managedId le in refl) in
+        let first : type_of (slice_index (managedId fixed o x) 0) ≡ 0 = (unfold managedId le in refl) in
         let m : length (managedId fixed o x) - 1 ≡ 7 = omega arith in
         let q : leAt (managedId fixed o x) 1 8 % 2 ^ 40 ≡ o = ap (λ (v : ℕ). v % 2 ^ 40) id-number ∙ low x 40 lo in
         let r : leAt (managedId fixed o x) 1 8 / 2 ^ 40 % 2 ^ 16 ≡ x = ap (λ (v : ℕ). v / 2 ^ 40 % 2 ^ 16) id-number ∙ ap (λ (v : ℕ). v % 2 ^ 16) (high x 40 lo) ∙ mod-eq_of_lt hi in
-        rw (ne_eqb (length (managedId fixed o x)) 0 (λ z. omega arith), first, m) (ap₂ (λ (a b : ℕ). Decoded a b) q r)
+        rw (lt-ltb 0 (length (managedId fixed o x)) (omega arith), first, m, q, r)
 
     -- the ID writer accepts them
-    pub id-passes : (id : List ℕ) → 8 ≤ length id → idChecked fixed o x (length id) ≡ Passed
+    pub id-passes : (lent : ℕ) → 8 ≤ lent → idChecked fixed o x lent ≡ Ok tt
     unfolding idChecked idLength offsetBytes
-    id-passes id l = rw (lt-ltb o (2 ^ 40) lo, lt-ltb x (2 ^ 16) hi, le-leb 8 (length id) l)
+    id-passes lent l = grind (arith, nat_tests)
 
-    -- and the first eight bytes are the ID then
-    pub id-is : (id : List ℕ) → 8 ≤ length id → take 8 (idWritten fixed o x id) ≡ managedId fixed o x
-    id-is id l =
-        ap (take 8) (id-passed fixed o x id (id-passes id l))
-        ∙ subst (λ (n : ℕ). take n (put id 0 (managedId fixed o x)) ≡ managedId fixed o x) (id-length o x) (put-here id 0 (managedId fixed o x) (let n = id-length o x in omega arith))
+-- what the ID writer accepts is small enough
+pub record Small (o x lent : ℕ) : Type 0 where
+  pub offset : o < 2 ^ 40
+  pub size : x < 2 ^ 16
+  pub room : 8 ≤ lent
+
+pub id-small : (o x lent : ℕ) → idChecked fixed o x lent ≡ Ok tt → Small o x lent
+unfolding idChecked idLength offsetBytes
+id-small o x lent e = grind (arith, nat_tests)
 
 pub id-round-trip : IdRoundTrip
-id-round-trip o x id e h bits =
-    let H = held o x (length id) e in
-    ap₂ decodedId bits (id-is o x H.offset H.size id H.room) ∙ decodes o x H.offset H.size
+id-round-trip o x lent e h bits =
+    let S = id-small o x lent e in
+    ap (λ (n : ℕ). decoded_id n (managedId fixed o x)) bits ∙ decodes o x S.offset S.size

@@ -7,7 +7,7 @@ use native.Mathlib.Nat.{add-zero}
 use lib.ListN.{length, drop, length-append}
 use borrow.Author.Tests.{le-leb, eq-eqb}
 use Rattle.little_endian.specs.LittleEndian.{le, value, leAt}
-use Rattle.fields.specs.Fields.{lenChecked}
+use Rattle.fields.specs.Fields.{len_ensured}
 use Rattle.little_endian.proofs.LittleEndian.{length-le}
 use Rattle.checksum.specs.Lookup3.{hashlittle}
 use Rattle.table.specs.Table.{Table}
@@ -17,10 +17,16 @@ use Rattle.region_blocks.specs.Blocks.{blockHead, indirectBlock}
 use Rattle.region_blocks.proofs.Lengths.{indirect-head-length, indirect-length}
 use Rattle.region_indirects.specs.Walk.{Walked, both, finished, allSlots, block}
 use Rattle.read_rows.specs.declared.DoublingTable.{DoublingTable}
-use Rattle.read_blocks.specs.declared.HeapChild.{HeapChild}
-use Rattle.read_blocks.specs.declared.Found.{Found}
-use Rattle.read_blocks.specs.Blocks.{childScan, entriesPlace, childIn, childAt, directAt, afterChild, walkFrom}
-use Rattle.heap_kept.specs.Walking.{Has, missed}
+use Rattle.read_children.specs.declared.HeapChild.{HeapChild}
+use Rattle.read_walk.specs.declared.place.Place.{Place}
+use Rattle.std.specs.Prelude.{Option, Result}
+use Rattle.refusals.specs.Steps.{◌>>=◌}
+use Rattle.refusals.specs.declared.FormatError.{FormatError}
+use Rattle.refusals.specs.declared.FormatError.TheVariants.{UnexpectedEof}
+use Rattle.numbers.specs.Numbers.{saturated}
+use Rattle.read_children.specs.Blocks.{slot_rows, child_in_slots, entries_place, child_in, child_at}
+use Rattle.read_walk.specs.Walk.{direct_at, by_child, walk_from}
+use Rattle.heap_kept.specs.Walking.{Has}
 use Rattle.heap_kept.proofs.Holding.{has_left, has_right, has-drop, has-number}
 
 -- the outcome o of a walk is in the file F: its blocks from pos on, its entries at e of s; addresses have w bytes
@@ -99,13 +105,13 @@ block-stands t w header n at ss pos next F H k =
     }
 
 -- what the walk makes of a child, with so many blocks to go
-abbrev pub onward : DoublingTable → List ℕ → ℕ → ℕ → ℕ → ℕ → HeapChild → Found
-onward d F w target len depth c = afterChild c (λ p o. directAt F p o target len) (λ p m o. walkFrom d F w target len depth p m o) (missed F target len)
+abbrev pub onward : DoublingTable → List ℕ → ℕ → ℕ → ℕ → ℕ → Result (Option HeapChild) FormatError → Result Place FormatError
+onward d F w target len depth c = c >>= (λ child. by_child child (λ p o. direct_at F p o target len) (λ p m o. walk_from d F w target len depth p m o) (UnexpectedEof (saturated (target + len)) (length F)))
 
 -- at a block in the file the walk scans its entries
 pub walk-scans : (t : Table) (w header : ℕ) (d : DoublingTable) → d.max_heap_size ≡ t.heapBits → (F : List ℕ) (target len p n at depth : ℕ) (es : List ℕ) → Has F p (indirectBlock t w header at es)
-    → walkFrom d F w target len (suc depth) p n at ≡ onward d F w target len depth (childScan d (drop p F) w target n 0 (5 + w + offsetBytes t) at)
-unfolding walkFrom childAt childIn value lenChecked entriesPlace offsetBytes
+    → walk_from d F w target len (suc depth) p n at ≡ onward d F w target len depth (child_in_slots d (drop p F) w target (slot_rows d n 0) (5 + w + offsetBytes t) at)
+unfolding walk_from child_at child_in value len_ensured entries_place offsetBytes
 walk-scans t w header d bits F target len p n at depth es H =
     let r = H.within in
     let l = indirect-length t w header at es in

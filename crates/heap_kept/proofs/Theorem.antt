@@ -1,4 +1,4 @@
--- Every object comes back: document 01's demand 3, and what it means for an ID that was given early.
+-- Every object comes back, and what it means for an ID that was given early.
 use Prim.Native.Nat.{ℕ, ◌+◌, ◌-◌, ◌^◌, ◌≤◌, ◌<◌, max}
 use mathlib.Core.Path.{◌≡◌, refl, sym, ap, ap₂, ◌∙◌, subst, subst₂}
 use mathlib.Core.List.{List}
@@ -6,8 +6,8 @@ use native.Mathlib.Omega.{arith}
 use native.Mathlib.Decide.{ℕ_discrete}
 use lib.ListN.{length, take, drop, get_or, length-drop, take-append-drop}
 use lib.Seq.{take-append-le, drop-append-le, take-take, take_all, length-take-le, get_or-take}
-use borrow.Author.Tests.{le-ltb, le-leb}
-use Rattle.fields.specs.Fields.{lenChecked}
+use borrow.Author.Tests.{le-leb, eq-eqb}
+use Rattle.fields.specs.Fields.{len_ensured}
 use Rattle.table.specs.Table.{fixed, rowOffset}
 use Rattle.table.specs.Slots.{slot_at}
 use Rattle.table.specs.Sizes.{directHeader, maxManaged}
@@ -16,41 +16,35 @@ use Rattle.numbers.proofs.Sums.{sum-take-suc, sum-take-le}
 use Rattle.table_laws.proofs.Format.{direct-local, fixed-slot}
 use Rattle.plan_steps.specs.Steps.{planOffsets}
 use Rattle.plan.specs.declared.ManagedPlan.{ManagedPlan}
-use Rattle.plan.specs.declared.Planned.TheVariants.{Accepted}
-use Rattle.plan.specs.Answer.{plannedFor}
 use Rattle.plan_checks.proofs.Checking.{all_small}
 use Rattle.plan_laws.specs.Plans.{InPlacedBlock}
 use Rattle.plan_laws.proofs.Front.{front-part}
-use Rattle.plan_laws.proofs.Objects.{no-shared-byte, in-one-body, no-header-touched}
-use Rattle.plan_laws.proofs.Free.{free-is-count}
+use Rattle.plan_laws.proofs.Kept.{plan-kept}
 use Rattle.region_directs.proofs.Objects.{objects-at}
-use Rattle.read_blocks.specs.declared.Found.TheVariants.{At}
-use Rattle.read_blocks.specs.Blocks.{directAt}
-use Rattle.id_decode.specs.declared.ManagedId.{ManagedId}
-use Rattle.id_decode.specs.Id.{decodedId}
+use Rattle.std.specs.Prelude.{Ok}
+use Rattle.read_walk.specs.Walk.{direct_at}
+use Rattle.id_decode.specs.Id.{decoded_id}
 use Rattle.fractal_heap.specs.declared.header.FractalHeapHeader.{FractalHeapHeader}
-use Rattle.fractal_heap.specs.Read.{rootAt, afterId, managedAt}
-use Rattle.id_write.specs.Ids.{managedId, idWritten}
+use Rattle.fractal_heap.specs.Read.{root_at, managed_at}
+use Rattle.id_write.specs.Ids.{managedId}
 use Rattle.heap_kept.proofs.Holding.{has_part}
-use Rattle.fractal_heap_write.specs.Serialize.{Call, Written}
-use Rattle.heap_kept.specs.HeapKept.{HoldsRegion, HeaderOf, offset_of, ComesBack, part_of, PlanKept, HeapKept, EarlyIdHolds}
-use Rattle.heap_kept.proofs.Ids.{decodes, id-passes, id-is}
+use Rattle.heap_kept.specs.HeapKept.{Call, Written, HoldsRegion, HeaderOf, offset_of, ComesBack, part_of, HeapKept, EarlyIdsHold}
+use Rattle.heap_kept.proofs.Ids.{decodes, id-passes}
 use Rattle.heap_kept.proofs.FromRoot.{planned, tests, went, block_of, start, place_of, place-fits, bytes_of, bytes-least, block-has, block_inside, root-finds}
 
 -- ---- the reader by an ID
 
 -- by a written ID the reader looks for what it was written for
-pub by-id : (h : FractalHeapHeader) (F : List ℕ) (w o x : ℕ) (c : Call) (p : ManagedPlan) → HeaderOf h c p → o < 2 ^ 40 → x < 2 ^ 16 → (id : List ℕ) → 8 ≤ length id
-    → managedAt h F (take 8 (idWritten fixed o x id)) w ≡ rootAt h F o x w
-unfolding managedAt
-by-id h F w o x c p T lo hi id l =
-    let f = T.unfiltered in
-    let e : decodedId h.max_heap_size (take 8 (idWritten fixed o x id)) ≡ decodedId 40 (managedId fixed o x) = ap₂ decodedId T.heap-bits (id-is o x lo hi id l) in
-    rw (le-ltb 0 h.io_filter_encoded_length (omega arith)) (ap (λ (y : ManagedId). afterId y (λ t len. rootAt h F t len w)) (e ∙ decodes o x lo hi))
+pub by-id : (h : FractalHeapHeader) (F : List ℕ) (w o x : ℕ) (c : Call) (p : ManagedPlan) → HeaderOf h c p → o < 2 ^ 40 → x < 2 ^ 16
+    → managed_at h F (managedId fixed o x) w ≡ root_at h F o x w
+unfolding managed_at
+by-id h F w o x c p T lo hi =
+    let e : decoded_id h.table.max_heap_size (managedId fixed o x) ≡ decoded_id 40 (managedId fixed o x) = ap (λ (n : ℕ). decoded_id n (managedId fixed o x)) T.heap-bits in
+    rw (eq-eqb h.io_filter_encoded_length 0 T.unfiltered, e ∙ decodes o x lo hi)
 
 -- len bytes in a block that the file holds
-pub in_block : (F : List ℕ) (a b t len : ℕ) → a + (t - b) ≤ 2 ^ 64 - 1 → a + (t - b) + len ≤ length F → directAt F a b t len ≡ At (a + (t - b)) len
-unfolding directAt lenChecked
+pub in_block : (F : List ℕ) (a b t len : ℕ) → a + (t - b) ≤ 2 ^ 64 - 1 → a + (t - b) + len ≤ length F → direct_at F a b t len ≡ Ok (record { position = a + (t - b); length = len })
+unfolding direct_at len_ensured
 in_block F a b t len u v = rw (le-leb (t - b) (2 ^ 64 - 1 - a) (omega arith), le-leb (a + (t - b) + len) (length F) v)
 
 -- ---- an object
@@ -95,7 +89,7 @@ module _ (c : Call) (p : ManagedPlan) (W : Written c p)
     unfolding rowOffset
     offset-small = let z = (direct-local fixed (omega arith) (omega arith) B.slot).inside in omega arith
 
-    read : rootAt h F offset size w ≡ At (place + (offset - its)) size
+    read : root_at h F offset size w ≡ Ok (record { position = place + (offset - its); length = size })
     read =
         let f = B.from in
         let t = B.to in
@@ -133,7 +127,7 @@ module _ (c : Call) (p : ManagedPlan) (W : Written c p)
         record {
           id-accepted = id-passes offset size offset-small size_small;
           position = place + (offset - its);
-          read = λ id n. by-id h F w offset size c p T offset-small size_small id n ∙ read;
+          read = by-id h F w offset size c p T offset-small size_small ∙ read;
           same = bytes;
         }
 
@@ -143,17 +137,6 @@ module _ (c : Call) (p : ManagedPlan) (W : Written c p)
 
 -- ---- the theorem
 
-pub plan-kept : (xs : List ℕ) (o b w : ℕ) (p : ManagedPlan) → plannedFor xs o b w ≡ Accepted p → PlanKept xs w p
-plan-kept xs o b w p e =
-    record {
-      front-parts = front-part xs o b w p e;
-      no-shared-byte = no-shared-byte xs o b w p e;
-      in-a-body = in-one-body xs o b w p e;
-      no-header-touched = no-header-touched xs o b w p e;
-      free-space = free-is-count xs o b w p e;
-    }
-
--- demand 3
 pub heap-kept : HeapKept
 heap-kept = record { planned = plan-kept; comes_back = nonempty-back }
 
@@ -177,11 +160,10 @@ part-early xs js k i e l m =
     ∙ take-append-le (get_or xs i 0) (drop s (take S js)) (drop S js) (omega arith))
 
 -- an ID given when the run had k objects is the object's ID in the whole run, and reads the same bytes there
-pub early-id-holds : (c : Call) (p : ManagedPlan) → Written c p → (file : List ℕ) → HoldsRegion file c p → (h : FractalHeapHeader) → HeaderOf h c p
-    → (k i : ℕ) → i < k → i < length c.sizes → 0 < get_or c.sizes i 0 → EarlyIdHolds c k file h i
+pub early-id-holds : EarlyIdsHold
 early-id-holds c p W file H h T k i l m s =
     record {
-      same_id = λ id. ap₂ (λ (u v : ℕ). idWritten fixed u v id) same-offset same_size;
+      same_id = ap₂ (λ (u v : ℕ). managedId fixed u v) same-offset same_size;
       comes_back = subst (λ (u : ℕ). ComesBack file h w u (get_or (take k xs) i 0) early) (sym same-offset)
           (subst₂ (λ (v : ℕ) (bytes : List ℕ). ComesBack file h w (offset_of w xs i) v bytes) (sym same_size) (sym (part-early xs c.objects k i (sym (tests c p W).bytes) l m)) (nonempty-back c p W file H h T i m s));
     }
@@ -200,5 +182,5 @@ early-id-holds c p W file H h T k i l m s =
 
     same-offset : offset_of w (take k xs) i ≡ offset_of w xs i
     same-offset =
-        let F = front-part xs (length c.lent.offsets) (length c.lent.blocks) w p (planned c p W) k (length (take k xs)) (max 1 (length (take k xs))) (omega arith) (omega arith) in
+        let F = front-part xs c.offset_places c.block_places w p (planned c p W) k (length (take k xs)) (max 1 (length (take k xs))) (omega arith) (omega arith) in
         ap (λ (v : List ℕ). get_or v i 0) F.same-offsets ∙ get_or-take k (planOffsets fixed w xs) i 0 l

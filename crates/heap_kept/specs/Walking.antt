@@ -1,6 +1,6 @@
 -- What the laws say of the reader's walk over written indirect blocks: steps towards the theorem, at any table. Nothing
 -- here has to be believed.
-use Rattle.std.specs.Prelude.{ℕ, suc, ◌+◌, ◌-◌, ◌^◌, ◌≤◌, ◌<◌, ◌≡◌, true, List, [], ◌∷◌, length, take, drop}
+use Rattle.std.specs.Prelude.{ℕ, suc, ◌+◌, ◌-◌, ◌^◌, ◌≤◌, ◌<◌, ◌≡◌, true, List, [], ◌∷◌, length, take, drop, Result, Err}
 use Rattle.fields.specs.Undefined.{undefinedAddress}
 use Rattle.little_endian.specs.Widths.{legal}
 use Rattle.table.specs.Table.{Table, rowBits, rowOffset}
@@ -13,10 +13,11 @@ use Rattle.refusals.specs.declared.FormatError.TheVariants.{UnexpectedEof}
 use Rattle.numbers.specs.Numbers.{saturated}
 use Rattle.read_rows.specs.declared.DoublingTable.{DoublingTable}
 use Rattle.read_rows.specs.Rows.{slotSize}
-use Rattle.read_blocks.specs.declared.Found.{Found}
-use Rattle.read_blocks.specs.declared.Found.TheVariants.{Refused}
-use Rattle.read_blocks.specs.declared.HeapChild.TheVariants.{Direct, Indirect}
-use Rattle.read_blocks.specs.Blocks.{childOf, directAt, walkFrom}
+use Rattle.read_walk.specs.declared.place.Place.{Place}
+use Rattle.refusals.specs.declared.FormatError.{FormatError}
+use Rattle.read_children.specs.declared.HeapChild.TheVariants.{Direct, Indirect}
+use Rattle.read_children.specs.Blocks.{child_of}
+use Rattle.read_walk.specs.Walk.{direct_at, walk_from}
 
 -- from p on the file F has the bytes l
 pub record Has (F : List ℕ) (p : ℕ) (l : List ℕ) : Type 0 where
@@ -28,8 +29,8 @@ pub record Agrees (d : DoublingTable) (t : Table) (N : ℕ) : Type 0 where
   pub width : d.table_width ≡ 2 ^ t.width_bits
   pub bits : d.max_heap_size ≡ t.heapBits
   pub size : (r : ℕ) → r < N → slotSize d r ≡ 2 ^ rowBits t r
-  pub direct : (r a start : ℕ) → r < N → rowBits t r ≤ t.directBits → childOf d r a start ≡ Direct a (2 ^ rowBits t r) start
-  pub deep : (r a start : ℕ) → r < N → t.directBits < rowBits t r → childOf d r a start ≡ Indirect a (r - t.width_bits) start
+  pub direct : (r a start : ℕ) → r < N → rowBits t r ≤ t.directBits → child_of d r a start ≡ Direct a (2 ^ rowBits t r) start
+  pub deep : (r a start : ℕ) → r < N → t.directBits < rowBits t r → child_of d r a start ≡ Indirect a (r - t.width_bits) start
 
 -- of the blocks ss, placed from a heap offset on, the first of them at the address `next`, the one at b is still
 -- to come, and stands at the address a; bs come after it
@@ -45,8 +46,8 @@ pub data Clear (t : Table) (x : ℕ) : List ℕ → Type 0 where
   more : {s : ℕ} {ss : List ℕ} → (s ≤ x → s + (slot_at t s).size ≤ x) → Clear t x ss → Clear t x (s ∷ ss)
 
 -- what the walk answers where it ends at no block
-abbrev pub missed : List ℕ → ℕ → ℕ → Found
-missed F target len = Refused (UnexpectedEof (saturated (target + len)) (length F))
+abbrev pub missed : List ℕ → ℕ → ℕ → Result Place FormatError
+missed F target len = Err (UnexpectedEof (saturated (target + len)) (length F))
 
 -- the blocks ss, placed from a heap offset on, do not hold x
 pub record Absent (t : Table) (x at : ℕ) (ss : List ℕ) : Type 0 where
@@ -56,14 +57,14 @@ pub record Absent (t : Table) (x at : ℕ) (ss : List ℕ) : Type 0 where
 module _ (t : Table) (w header : ℕ) (d : DoublingTable) (N : ℕ) (F : List ℕ) (target len : ℕ) where
   -- where the file has an indirect block of n rows that begins at the heap offset `base`, behind the blocks in its
   -- slots, and P holds of its placed blocks ss, the first of them at the address `next`, the walk from it on gives x
-  abbrev WalkGives : (ℕ → List ℕ → ℕ → Type 0) → Found → ℕ → Type 0
+  abbrev WalkGives : (ℕ → List ℕ → ℕ → Type 0) → Result Place FormatError → ℕ → Type 0
   WalkGives P x n = (base : ℕ) (ss : List ℕ) (pos next depth : ℕ) → n ≤ N → n < depth → base + rowOffset t n < 2 ^ 64 → BlockAt t n base → P base ss next
       → Has F pos (block t w header n base ss pos next).bytes → pos + length (block t w header n base ss pos next).bytes ≤ undefinedAddress w
-      → walkFrom d F w target len depth (pos + length (allSlots t w header n base ss pos next).bytes) n base ≡ x
+      → walk_from d F w target len depth (pos + length (allSlots t w header n base ss pos next).bytes) n base ≡ x
 
   -- it comes to the block at b, which begins in this one
   abbrev pub Finds : ℕ → ℕ → List ℕ → ℕ → Type 0
-  Finds b a bs n = WalkGives (λ base ss next. Coming t b a bs base ss next × (b < base + rowOffset t n)) (directAt F a b target len) n
+  Finds b a bs n = WalkGives (λ base ss next. Coming t b a bs base ss next × (b < base + rowOffset t n)) (direct_at F a b target len) n
 
   -- it ends with 1, where no block holds the target
   abbrev pub Misses : ℕ → Type 0

@@ -1,37 +1,31 @@
-// Decoding heap IDs: the type of an ID (`types`), and the heap offset and the length in a managed one.
+//! Decoding heap IDs: the type of an ID (`types`), and the heap offset and the length in a managed one.
 #![tactic(auto)]
 
 pub mod types;
 
 ghost use Rattle.std.specs.Prelude.{◌≡◌, ◌^◌, ◌%◌, ◌/◌, ◌<◌, length};
 ghost use Rattle.little_endian.specs.LittleEndian.{leAt};
-ghost use Rattle.id_decode.specs.Id.{splitId, decodedId, decodedAnswer};
+ghost use Rattle.id_decode.specs.Id.{split_id, decoded_id};
 
 use crate::types::type_of;
 use little_endian::read_u64_le;
-use numbers::{least, saturating_sub};
-use refusals::{Answer, FormatError, refused};
+use refusals::FormatError;
+use refusals::answer::{Answer, Reported};
 
-// A managed ID: heap offset and length.
-#[derive(Clone, Copy)]
-pub enum ManagedId {
-    Decoded(u64, u64),
-    Refused(FormatError),
+/// Where a managed object lies in the heap space, and how many bytes it has.
+#[derive(Clone, Copy, Debug, PartialEq, Eq)]
+pub struct ManagedId {
+    pub offset: u64,
+    pub length: u64,
 }
 
-impl ManagedId {
-    // The answer in numbers: offset and length.
-    pub fn answer(self) -> Answer
-        ensures { result ≡ decodedAnswer self }
-    {
-        match self {
-            ManagedId::Decoded(offset, length) => Answer {
-                number: 0,
-                first: offset,
-                second: length,
-            },
-            ManagedId::Refused(e) => refused(e),
-        }
+impl Reported for ManagedId {
+    ghost use Rattle.id_decode.specs.Id.{id_report};
+
+    ghost report = { id_report };
+
+    fn answer(self) -> Answer {
+        Answer::accepted(self.offset, self.length)
     }
 }
 
@@ -52,13 +46,15 @@ fn high_bits(x: u64, bits: u64) -> u64
 // The offset and the length in the number that `bytes` bytes hold, in a heap with so many bits.
 #[tactic(auto, using(crate::proofs::Ids::split_least))]
 fn split_id(max_heap_size: u16, bytes: usize, number: u64) -> ManagedId
-    ensures { result ≡ splitId max_heap_size bytes number }
+    ensures { result ≡ split_id max_heap_size bytes number }
 {
-    let offset_bits = max_heap_size as u64;
+    let offset_bits = u64::from(max_heap_size);
     // more bytes than 65,536 keep no more bits, and their bits could not be counted
-    let length_bits = saturating_sub(8 * least(bytes, 0x1_0000) as u64, offset_bits);
-    let length = low_bits(high_bits(number, offset_bits), length_bits);
-    ManagedId::Decoded(low_bits(number, offset_bits), length)
+    let length_bits = (8 * bytes.min(0x1_0000) as u64).saturating_sub(offset_bits);
+    ManagedId {
+        offset: low_bits(number, offset_bits),
+        length: low_bits(high_bits(number, offset_bits), length_bits),
+    }
 }
 
 fn wide(byte: u8) -> u64
@@ -96,18 +92,20 @@ fn id_number(id: &[u8]) -> u64
     short_number(id)
 }
 
-// The heap offset and the length in a managed ID of a heap with so many bits.
-#[tactic(auto, unfolding(crate::specs::Id::decodedId))]
-pub fn decode_managed_id(max_heap_size: u16, id: &[u8]) -> ManagedId
-    ensures { result ≡ decodedId max_heap_size id.now }
+/// The heap offset and the length in a managed ID of a heap with so many bits.
+#[tactic(auto, unfolding(crate::specs::Id::decoded_id))]
+pub fn decode_managed_id(max_heap_size: u16, id: &[u8]) -> Result<ManagedId, FormatError>
+    ensures { result ≡ decoded_id max_heap_size id.now }
 {
-    let n = id.len();
-    if n == 0 {
-        return ManagedId::Refused(FormatError::UnexpectedEof(1, 0));
+    if id.is_empty() {
+        return Err(FormatError::UnexpectedEof {
+            expected: 1,
+            available: 0,
+        });
     }
     let kind = type_of(id[0]);
     if kind != 0 {
-        return ManagedId::Refused(FormatError::InvalidHeapIdType(kind));
+        return Err(FormatError::InvalidHeapIdType(kind));
     }
-    split_id(max_heap_size, n - 1, id_number(id))
+    Ok(split_id(max_heap_size, id.len() - 1, id_number(id)))
 }

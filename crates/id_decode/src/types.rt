@@ -1,78 +1,55 @@
-// The type of a heap ID: managed, huge or tiny. Bits 6 and 7 of the first byte, the version, are not tested, as in the
-// original.
+//! The type of a heap ID: managed, huge or tiny. Bits 6 and 7 of the first byte, the version, are not tested, as in the
+//! original.
 ghost use Rattle.std.specs.Prelude.{◌≡◌};
-ghost use Rattle.id_decode.specs.IdTypes.{type_of, typeNamed, idTypeOf, typeNumber, idTypeAnswer};
+ghost use Rattle.id_decode.specs.IdTypes.{type_of, id_type};
 
-use refusals::{Answer, FormatError, refused};
+use refusals::FormatError;
+use refusals::answer::{Answer, Reported};
 
-#[derive(Clone, Copy)]
+/// Where the object of an ID is: in a block of the heap, in the file on its own, or in the ID itself.
+#[derive(Clone, Copy, Debug, PartialEq, Eq)]
 pub enum HeapIdType {
     Managed,
     Huge,
     Tiny,
 }
 
-// The type of an ID.
-#[derive(Clone, Copy)]
-pub enum IdType {
-    Is(HeapIdType),
-    Refused(FormatError),
-}
+impl Reported for HeapIdType {
+    ghost use Rattle.id_decode.specs.IdTypes.{type_report};
 
-// The two bits that stand for a type.
-fn type_number(kind: HeapIdType) -> u64
-    ensures { result ≡ typeNumber kind }
-{
-    match kind {
-        HeapIdType::Managed => 0,
-        HeapIdType::Huge => 1,
-        HeapIdType::Tiny => 2,
-    }
-}
+    ghost report = { type_report };
 
-impl IdType {
-    // The answer in numbers: the type is the first value.
-    pub fn answer(self) -> Answer
-        ensures { result ≡ idTypeAnswer self }
-    {
-        match self {
-            IdType::Is(kind) => Answer {
-                number: 0,
-                first: type_number(kind),
-                second: 0,
-            },
-            IdType::Refused(e) => refused(e),
-        }
+    fn answer(self) -> Answer {
+        let bits = match self {
+            HeapIdType::Managed => 0,
+            HeapIdType::Huge => 1,
+            HeapIdType::Tiny => 2,
+        };
+        Answer::accepted(bits, 0)
     }
 }
 
 // Bits 4 and 5 of an ID's first byte.
-#[tactic(auto, unfolding(crate::specs::IdTypes::type_of))]
-pub fn type_of(byte: u8) -> u8
+pub(crate) fn type_of(byte: u8) -> u8
     ensures { result ≡ type_of byte }
 {
     byte / 16 % 4
 }
 
-#[tactic(auto, unfolding(crate::specs::IdTypes::typeNamed))]
-fn named(kind: u8) -> IdType
-    ensures { result ≡ typeNamed kind }
+/// The type of an ID.
+#[tactic(auto, unfolding(crate::specs::IdTypes::id_type))]
+pub fn heap_id_type(id: &[u8]) -> Result<HeapIdType, FormatError>
+    ensures { result ≡ id_type id.now }
 {
-    match kind {
-        0 => IdType::Is(HeapIdType::Managed),
-        1 => IdType::Is(HeapIdType::Huge),
-        2 => IdType::Is(HeapIdType::Tiny),
-        _ => IdType::Refused(FormatError::InvalidHeapIdType(kind)),
+    let empty = FormatError::UnexpectedEof {
+        expected: 1,
+        available: 0,
+    };
+    let byte = *id.first().ok_or(empty)?;
+    match type_of(byte) {
+        0 => Ok(HeapIdType::Managed),
+        1 => Ok(HeapIdType::Huge),
+        2 => Ok(HeapIdType::Tiny),
+        other => Err(FormatError::InvalidHeapIdType(other)),
     }
-}
-
-// The type of an ID.
-#[tactic(auto, unfolding(crate::specs::IdTypes::idTypeOf))]
-pub fn heap_id_type(id: &[u8]) -> IdType
-    ensures { result ≡ idTypeOf id.now }
-{
-    if id.len() == 0 {
-        return IdType::Refused(FormatError::UnexpectedEof(1, 0));
-    }
-    named(type_of(id[0]))
 }

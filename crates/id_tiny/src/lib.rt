@@ -1,41 +1,37 @@
-// Tiny objects: each lies in its heap ID.
+//! Tiny objects: each lies in its heap ID.
 #![tactic(auto)]
 
-ghost use Rattle.std.specs.Prelude.{◌≡◌, ◌+◌, ◌^◌, ◌<◌};
-ghost use Rattle.id_tiny.specs.Tiny.{tinyIn, tinyAt};
+ghost use Rattle.std.specs.Prelude.{◌≡◌, ◌+◌, ◌≤◌, length, IfOk};
+ghost use Rattle.id_tiny.specs.Tiny.{tiny_in, tiny_at};
 
-use read_blocks::Found;
+use fields::ensure_len;
+use read_walk::place::Place;
 use refusals::FormatError;
 
-// `length` bytes at `start` of an ID of `lent` bytes.
-#[tactic(auto, unfolding(crate::specs::Tiny::tinyIn))]
-fn tiny_in(start: u64, length: u64, lent: u64) -> Found
-    requires { start + length < 2 ^ 64 }
-    ensures { result ≡ tinyIn start length lent }
+// `len` bytes at `start` of an ID.
+#[tactic(auto, unfolding(crate::specs::Tiny::tiny_in))]
+fn tiny_in(id: &[u8], start: u16, len: u16) -> Result<Place, FormatError>
+    ensures value { result ≡ tiny_in id.now start len }
+    ensures in_id { IfOk result (λ place. place.position + place.length ≤ length id.now) }
 {
-    let end = start + length;
-    if end <= lent {
-        Found::At(start, length)
-    } else {
-        Found::Refused(FormatError::UnexpectedEof(end, lent))
-    }
+    ensure_len(id, usize::from(start), usize::from(len))?;
+    Ok(Place {
+        position: u64::from(start),
+        length: u64::from(len),
+    })
 }
 
-// The tiny object in an ID: where it lies there, and its length. The ID's type is not tested.
-#[tactic(auto, unfolding(crate::specs::Tiny::tinyAt))]
-pub fn read_tiny_object(heap_id_length: u16, id: &[u8]) -> Found
-    ensures { result ≡ tinyAt heap_id_length id.now }
+/// The tiny object in an ID: where it lies there, and its length. The ID's type is not tested.
+#[tactic(auto, unfolding(crate::specs::Tiny::tiny_at))]
+pub fn read_tiny_object(heap_id_length: u16, id: &[u8]) -> Result<Place, FormatError>
+    ensures value { result ≡ tiny_at heap_id_length id.now }
+    ensures in_id { IfOk result (λ place. place.position + place.length ≤ length id.now) }
 {
-    let n = id.len();
     if heap_id_length > 17 {
-        if n < 2 {
-            return Found::Refused(FormatError::UnexpectedEof(2, n as u64));
-        }
-        let high = (id[0] % 16) as u64;
-        return tiny_in(2, high * 256 + id[1] as u64 + 1, n as u64);
+        ensure_len(id, 0, 2)?;
+        let high = u16::from(id[0] % 16);
+        return tiny_in(id, 2, high * 256 + u16::from(id[1]) + 1);
     }
-    if n == 0 {
-        return Found::Refused(FormatError::UnexpectedEof(1, 0));
-    }
-    tiny_in(1, (id[0] % 16) as u64 + 1, n as u64)
+    ensure_len(id, 0, 1)?;
+    tiny_in(id, 1, u16::from(id[0] % 16) + 1)
 }

@@ -115,10 +115,6 @@ module _ (s : List ℕ) (p : ℕ) (bs : List ℕ) (room : p + length bs ≤ leng
   unfolding put
   put-before = rw append_assoc (take_at (take p s) (bs ++ drop (p + length bs) s) p (length-take-le p s (omega arith)))
 
-  pub put-through : take (p + length bs) (put s p bs) ≡ take p s ++ bs
-  unfolding put
-  put-through = take_at (take p s ++ bs) (drop (p + length bs) s) (p + length bs) front
-
   pub put-after : drop (p + length bs) (put s p bs) ≡ drop (p + length bs) s
   unfolding put
   put-after = drop_at (take p s ++ bs) (drop (p + length bs) s) (p + length bs) front

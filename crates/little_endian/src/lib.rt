@@ -1,12 +1,12 @@
-// Bytes as little-endian numbers: what two, four and eight bytes of a lent slice are. Public for the crates
-// above alone: the caller has tested the length.
+//! Bytes as little-endian numbers: what two, four and eight bytes of a lent slice are. Public for the crates
+//! above alone: the caller has tested the length.
 #![tactic(auto)]
 
 ghost use Rattle.std.specs.Prelude.{◌≡◌, true, ◌+◌, ◌≤◌, length};
 ghost use Rattle.little_endian.specs.LittleEndian.{leAt};
 ghost use Rattle.little_endian.specs.Widths.{legal};
 
-// The two bytes at `pos`.
+/// The two bytes at `pos`.
 pub fn read_u16_le(bytes: &[u8], pos: usize) -> u16
     requires { pos + 2 ≤ length bytes.now }
     ensures { result ≡ leAt bytes.now pos 2 }
@@ -14,7 +14,7 @@ pub fn read_u16_le(bytes: &[u8], pos: usize) -> u16
     (bytes[pos] as u16) + (bytes[pos + 1] as u16) * 0x100
 }
 
-// The four bytes at `pos`.
+/// The four bytes at `pos`.
 pub fn read_u32_le(bytes: &[u8], pos: usize) -> u32
     requires { pos + 4 ≤ length bytes.now }
     ensures { result ≡ leAt bytes.now pos 4 }
@@ -22,7 +22,7 @@ pub fn read_u32_le(bytes: &[u8], pos: usize) -> u32
     (read_u16_le(bytes, pos) as u32) + (read_u16_le(bytes, pos + 2) as u32) * 0x1_0000
 }
 
-// The eight bytes at `pos`.
+/// The eight bytes at `pos`.
 pub fn read_u64_le(bytes: &[u8], pos: usize) -> u64
     requires { pos + 8 ≤ length bytes.now }
     ensures { result ≡ leAt bytes.now pos 8 }
@@ -30,7 +30,7 @@ pub fn read_u64_le(bytes: &[u8], pos: usize) -> u64
     (read_u32_le(bytes, pos) as u64) + (read_u32_le(bytes, pos + 4) as u64) * 0x1_0000_0000
 }
 
-// The `width` bytes at `pos`, where the width is 2, 4 or 8.
+/// The `width` bytes at `pos`, where the width is 2, 4 or 8.
 pub fn read_le(bytes: &[u8], pos: usize, width: u8) -> u64
     requires width_value { legal width ≡ true }
     requires width_in_bounds { pos + width ≤ length bytes.now }

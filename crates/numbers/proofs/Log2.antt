@@ -13,9 +13,6 @@ pub log2-none : (v : ℕ) → v ≡ 0 → log2 v ≡ 0
 unfolding log2
 log2-none v e = rw (e, leading_of_zero 64)
 
-pub leading-some : (v : ℕ) → 0 < v → v < 2 ^ 64 → count_leading_zeros 64 v ≤ 63
-leading-some v p h = let t = leading_top 64 v p h in let e = t.1 in omega arith
-
 -- of every 64-bit number but 0
 pub log2-law : (x : ℕ) → 0 < x → x < 2 ^ 64 → TopExponent x (log2 x)
 unfolding log2

@@ -1,26 +1,10 @@
-// Arithmetic on 64-bit numbers that stops at their ends, 0 and 2^64 - 1, and the smaller of two numbers.
-// Public for the crates above alone.
+//! Products and shifts of 64-bit numbers that stop at 2^64 - 1, and a number's exponent. Public for the crates above alone.
 #![tactic(auto)]
 
-ghost use Rattle.std.specs.Prelude.{◌≡◌, ◌+◌, ◌-◌, ◌*◌, ◌^◌, ◌<◌, min};
-ghost use Rattle.numbers.specs.Numbers.{saturated, log2};
+ghost use Rattle.std.specs.Prelude.{◌≡◌, ◌*◌, ◌^◌, ◌<◌};
+ghost use Rattle.numbers.specs.Numbers.{saturated, log2, TopExponent};
 
-// The sum, or 2^64 - 1 where it is above.
-#[tactic(auto, unfolding(crate::specs::Numbers::saturated))]
-pub fn saturating_add(a: u64, b: u64) -> u64
-    ensures { result ≡ saturated (a + b) }
-{
-    if a <= u64::MAX - b { a + b } else { u64::MAX }
-}
-
-// The difference, 0 where it would fall below.
-pub fn saturating_sub(a: u64, b: u64) -> u64
-    ensures { result ≡ a - b }
-{
-    if b <= a { a - b } else { 0 }
-}
-
-// The product. A size below 2^48 takes no division: with a width it stays below 2^64.
+/// The product. A size below 2^48 takes no division: with a width it stays below 2^64.
 pub fn saturating_mul(size: u64, width: u16) -> u64
     ensures { result ≡ saturated (size * width) }
 {
@@ -35,7 +19,7 @@ pub fn saturating_mul(size: u64, width: u16) -> u64
     }
 }
 
-// The product with 2^bits. The caller has tested that it is a shift.
+/// The product with 2^bits. The caller has tested that it is a shift.
 pub fn saturating_shl(size: u64, bits: u64) -> u64
     requires { bits < 64 }
     ensures { result ≡ saturated (size * 2 ^ bits) }
@@ -47,19 +31,13 @@ pub fn saturating_shl(size: u64, bits: u64) -> u64
     }
 }
 
-// The exponent of the largest power of two that is at most `v`; 0 of 0.
+/// The exponent of the largest power of two that is at most `v`; 0 of 0.
 pub fn log2_floor(v: u64) -> u64
-    ensures { result ≡ log2 v }
+    ensures value { result ≡ log2 v }
+    ensures top { 0 < v → TopExponent v result }
 {
     if v == 0 {
         return 0;
     }
     (63 - u64::leading_zeros(v)) as u64
-}
-
-// The smaller one.
-pub fn least(a: usize, b: usize) -> usize
-    ensures { result ≡ min a b }
-{
-    if a <= b { a } else { b }
 }

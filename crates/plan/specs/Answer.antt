@@ -2,24 +2,21 @@
 -- HDF5 File Format Specification 3.0, III.G, 'Fractal Heap Header': root_rows is Current # of Rows in Root Indirect
 -- Block, managed_space Amount of Managed Space in Heap, allocated_space Amount of Allocated Managed Space in Heap,
 -- free_space Amount of Free Space in Managed Blocks, allocation_iterator Offset of Direct Block Allocation Iterator in
--- Managed Space. Free space and the iterator of a direct root are document 01's (docs/DIFFERENCES.md).
-use Rattle.std.specs.Prelude.{ℕ, ◌+◌, ◌-◌, ◌^◌, cond, List, [], ◌∷◌, eqb}
+-- Managed Space. Free space and the iterator of a direct root are our rules (docs/DIFFERENCES.md).
+use Rattle.std.specs.Prelude.{ℕ, ◌+◌, ◌-◌, ◌^◌, ◌==◌, if◌then◌else◌, List, [], ◌∷◌, Result, Ok, Err}
+use Rattle.refusals.specs.Steps.{◌>>=◌}
 use Rattle.refusals.specs.Refusals.{refusal}
+use Rattle.refusals.specs.declared.FormatError.{FormatError}
 use Rattle.refusals.specs.declared.FormatError.TheVariants.{HeapSpaceExhausted}
-use Rattle.fields.specs.Fields.{afterCheck}
 use Rattle.table.specs.Table.{Table, fixed, rowOffset}
 use Rattle.table.specs.Sizes.{directHeader, indirectSize}
 use Rattle.table.specs.Capacity.{capacity}
 use Rattle.plan_steps.specs.declared.State.{State}
-use Rattle.plan_steps.specs.declared.Run.{Run}
-use Rattle.plan_steps.specs.declared.Run.TheVariants.{Done, Short}
 use Rattle.plan_steps.specs.Steps.{blockEnd, run}
 use Rattle.plan_end.specs.End.{endState, rootRows}
 use Rattle.plan_checks.specs.Checks.{inputChecked}
 use Rattle.little_endian.specs.LittleEndian.{put}
 use Rattle.plan.specs.declared.ManagedPlan.{ManagedPlan}
-use Rattle.plan.specs.declared.Planned.{Planned}
-use Rattle.plan.specs.declared.Planned.TheVariants.{Accepted, Refused}
 
 -- the root is a block of the starting size at 0
 abbrev pub bareTotals : Table → ℕ → State → ManagedPlan
@@ -50,15 +47,17 @@ rowTotals t w s n = record {
 
 unfoldable pub totals : Table → ℕ → State → ManagedPlan
 totals t w s =
-    cond (eqb (rootRows t (blockEnd s)) 0) (bareTotals t w s) (rowTotals t w s (rootRows t (blockEnd s)))
+    if rootRows t (blockEnd s) == 0 then bareTotals t w s else rowTotals t w s (rootRows t (blockEnd s))
 
-abbrev pub ranPlan : ℕ → Run → Planned
-ranPlan w (Done s) = Accepted (totals fixed w (endState fixed w s))
-ranPlan w (Short i) = Refused (HeapSpaceExhausted i)
+abbrev pub ranPlan : ℕ → Result State ℕ → Result ManagedPlan FormatError
+ranPlan w (Ok s) = Ok (totals fixed w (endState fixed w s))
+ranPlan w (Err i) = Err (HeapSpaceExhausted i)
 
 -- the answer for the sizes xs, lists of o and b places and addresses of w bytes: 12 after the tests
-unfoldable pub plannedFor : List ℕ → ℕ → ℕ → ℕ → Planned
-plannedFor xs o b w = afterCheck (inputChecked xs o b w) Refused (ranPlan w (run fixed w xs))
+unfoldable pub plannedFor : List ℕ → ℕ → ℕ → ℕ → Result ManagedPlan FormatError
+plannedFor xs o b w = do
+  _ ← inputChecked xs o b w
+  ranPlan w (run fixed w xs)
 
 -- a plan's eight numbers
 abbrev pub numbers : ManagedPlan → List ℕ
@@ -67,16 +66,16 @@ numbers p =
     ∷ p.free_space ∷ p.allocation_iterator ∷ []
 
 -- the number of an answer: 0, or the refusal's
-abbrev pub plannedNumber : Planned → ℕ
-plannedNumber (Accepted p) = 0
-plannedNumber (Refused e) = (refusal e).number
+abbrev pub plannedNumber : Result ManagedPlan FormatError → ℕ
+plannedNumber (Ok p) = 0
+plannedNumber (Err e) = (refusal e).number
 
 -- its values: the plan's numbers, or the refusal's pair
-abbrev pub plannedValues : Planned → List ℕ
-plannedValues (Accepted p) = numbers p
-plannedValues (Refused e) = (refusal e).first ∷ (refusal e).second ∷ []
+abbrev pub plannedValues : Result ManagedPlan FormatError → List ℕ
+plannedValues (Ok p) = numbers p
+plannedValues (Err e) = (refusal e).first ∷ (refusal e).second ∷ []
 
 -- a lent list at the end: new numbers in front where the plan is accepted, else as it was
-abbrev pub written : Planned → List ℕ → List ℕ → List ℕ
-written (Accepted p) new old = put old 0 new
-written (Refused e) new old = old
+abbrev pub written : Result ManagedPlan FormatError → List ℕ → List ℕ → List ℕ
+written (Ok p) new old = put old 0 new
+written (Err e) new old = old

@@ -1,30 +1,37 @@
-// Planning the managed blocks of a fractal heap: where each object goes, which blocks are placed, and
-// what the heap header says of them. Functions with a `requires` serve our own crates and are no part of
-// the interface.
+//! Planning the managed blocks of a fractal heap: where each object goes, which blocks are placed, and what the heap
+//! header says of them. Functions with a `requires` serve our own crates and are no part of the interface.
 #![tactic(auto)]
 
-ghost use Rattle.std.specs.Prelude.{◌≡◌, length};
+ghost use Rattle.std.specs.Prelude.{◌≡◌, ◌≤◌, max, length};
 ghost use Rattle.table.specs.Table.{fixed};
 ghost use Rattle.plan_steps.specs.Steps.{planOffsets, planStarts};
+ghost use Rattle.little_endian.specs.LittleEndian.{put};
+ghost use Rattle.table.specs.Sizes.{maxManaged};
+ghost use Rattle.plan_steps.specs.Requires.{Small};
+ghost use Rattle.plan_end.specs.End.{endState};
 ghost use Rattle.plan_end.specs.Requires.{Totalled};
 ghost use Rattle.plan.specs.Answer.{totals, plannedFor, written};
 
-use fields::Checked;
 use plan_checks::check_input;
 use plan_end::{close, root_rows};
-use plan_lists::write_lists;
-use plan_runs::run_all;
-use plan_steps::{Run, State};
+use plan_steps::State;
+use planner::{Counted, Planner, Written};
 use refusals::FormatError;
 use table::row_offset;
 use table_capacity::{capacity_sum, rows_capacity};
 use table_sizes::{direct_block_header, indirect_block_size};
 
-#[derive(Clone, Copy)]
+/// What planning says of a heap, in bytes but for two counts. The last four are fields of the heap header (HDF5 File
+/// Format Specification 3.0, III.G, 'Fractal Heap Header').
+#[derive(Clone, Copy, Debug, PartialEq, Eq)]
 pub struct ManagedPlan {
+    /// How many direct blocks are placed.
     pub block_count: u64,
+    /// The size of the region that holds all blocks.
     pub region_size: u64,
+    /// The rows of the root indirect block; 0 where the root is a direct block.
     pub root_rows: u64,
+    /// Where in the region the root begins.
     pub root_place: u64,
     pub managed_space: u64,
     pub allocated_space: u64,
@@ -32,14 +39,8 @@ pub struct ManagedPlan {
     pub allocation_iterator: u64,
 }
 
-#[derive(Clone, Copy)]
-pub enum Planned {
-    Accepted(ManagedPlan),
-    Refused(FormatError),
-}
-
-// What the heap header says of a plan that ends in a state.
-pub fn totals(s: State, offset_size: u8) -> ManagedPlan
+// What the heap header says of a plan that ends in the state `s`.
+fn totals(s: State, offset_size: u8) -> ManagedPlan
     requires { Totalled offset_size s }
     ensures { result ≡ totals fixed offset_size s }
 {
@@ -71,34 +72,71 @@ pub fn totals(s: State, offset_size: u8) -> ManagedPlan
     }
 }
 
-// The answer for lists of so many places; nothing is written.
+/// The plan for lists of `offsets` and `blocks` places, or 2, 13, 11 or 12, in this order; nothing is written.
 #[tactic(auto, unfolding(crate::specs::Answer::plannedFor))]
-pub fn planned_for(sizes: &[u64], offsets: usize, blocks: usize, offset_size: u8) -> Planned
+pub fn planned_for(
+    sizes: &[u64],
+    offsets: usize,
+    blocks: usize,
+    offset_size: u8,
+) -> Result<ManagedPlan, FormatError>
     ensures { result ≡ plannedFor sizes.now offsets blocks offset_size }
 {
-    match check_input(sizes, offsets, blocks, offset_size) {
-        Checked::Refused(e) => Planned::Refused(e),
-        Checked::Passed => match run_all(sizes, offset_size) {
-            Run::Short(i) => Planned::Refused(FormatError::HeapSpaceExhausted(i)),
-            Run::Done(s) => Planned::Accepted(totals(close(s, offset_size), offset_size)),
-        },
+    check_input(sizes, offsets, blocks, offset_size)?;
+    let mut planner = Planner::new(offset_size);
+    match planner.extend::<Counted>(sizes, &mut [], &mut []) {
+        Ok(()) => Ok(ManagedPlan::of(&planner)),
+        Err(index) => Err(FormatError::HeapSpaceExhausted(index)),
     }
 }
 
+/// Writes both lists of an accepted plan: the objects' heap offsets, and the blocks' starts. Without objects one block
+/// stands at 0.
+pub fn write_lists(sizes: &[u64], offsets: &mut [u64], blocks: &mut [u64], offset_size: u8)
+    requires small { Small (maxManaged fixed offset_size) sizes.now }
+    requires offsets_room { length sizes.now ≤ length offsets.old }
+    requires blocks_room { max 1 (length sizes.now) ≤ length blocks.old }
+    ensures offsets_after { offsets.new
+        ≡ put offsets.old 0 (planOffsets fixed offset_size sizes.now) }
+    ensures blocks_after { blocks.new
+        ≡ put blocks.old 0 (planStarts fixed offset_size sizes.now) }
+{
+    if sizes.is_empty() {
+        blocks[0] = 0;
+    }
+    let _ = Planner::new(offset_size).extend::<Written>(sizes, offsets, blocks);
+}
+
 impl ManagedPlan {
-    // Lay out objects of the given sizes: each object's heap offset and each placed block's start go into
-    // the lent lists. A refusal leaves both as they were.
-    pub fn new(sizes: &[u64], offsets: &mut [u64], blocks: &mut [u64], offset_size: u8) -> Planned
-        ensures value { result ≡ plannedFor sizes.now (length offsets.old) (length blocks.old) offset_size }
-        ensures offsets_after { offsets.new ≡ written result (planOffsets fixed offset_size sizes.now) offsets.old }
-        ensures blocks_after { blocks.new ≡ written result (planStarts fixed offset_size sizes.now) blocks.old }
+    /// What the heap header says of the objects that were added so far.
+    pub fn of(planner: &Planner) -> ManagedPlan
+        ensures { result ≡ totals fixed planner.now.offset_size
+            (endState fixed planner.now.offset_size planner.now.state) }
     {
-        match planned_for(sizes, offsets.len(), blocks.len(), offset_size) {
-            Planned::Accepted(p) => {
-                write_lists(sizes, offsets, blocks, offset_size);
-                Planned::Accepted(p)
-            }
-            Planned::Refused(e) => Planned::Refused(e),
-        }
+        totals(
+            close(planner.state, planner.offset_size),
+            planner.offset_size,
+        )
+    }
+
+    /// Lays out objects of these sizes, in bytes, for addresses of `offset_size` bytes. Each object's heap offset and
+    /// each placed block's start go into the lent lists. A refusal, 2, 13 for `offsets`, 13 for `blocks`, 11 or 12,
+    /// the first that applies, leaves both as they were.
+    pub fn new(
+        sizes: &[u64],
+        offsets: &mut [u64],
+        blocks: &mut [u64],
+        offset_size: u8,
+    ) -> Result<ManagedPlan, FormatError>
+        ensures value { result
+            ≡ plannedFor sizes.now (length offsets.old) (length blocks.old) offset_size }
+        ensures offsets_after { offsets.new
+            ≡ written result (planOffsets fixed offset_size sizes.now) offsets.old }
+        ensures blocks_after { blocks.new
+            ≡ written result (planStarts fixed offset_size sizes.now) blocks.old }
+    {
+        let plan = planned_for(sizes, offsets.len(), blocks.len(), offset_size)?;
+        write_lists(sizes, offsets, blocks, offset_size);
+        Ok(plan)
     }
 }

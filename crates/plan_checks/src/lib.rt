@@ -1,67 +1,67 @@
-// The tests before any planning: the width of addresses, the places of both lists, the sizes.
+//! The tests before any planning: the width of addresses, the places of both lists, the sizes.
 #![tactic(auto)]
 
-ghost use Rattle.std.specs.Prelude.{◌≡◌, max};
+ghost use Rattle.std.specs.Prelude.{◌≡◌, ◌≤◌, OnOk};
 ghost use Rattle.plan_checks.specs.Checks.{sizesChecked, placesChecked, widthChecked, inputChecked};
 
-use fields::{Checked, is_width};
+use fields::is_width;
 use refusals::FormatError;
 use table_sizes::max_managed_object;
 
 // The first size above the limit is refused.
-fn check_sizes(sizes: &[u64], limit: u64) -> Checked
+#[tactic(auto, using(crate::proofs::Checking::size_large, crate::proofs::Checking::size_small, crate::proofs::Checking::sizes_passed))]
+fn check_sizes(sizes: &[u64], limit: u64) -> Result<(), FormatError>
     ensures { result ≡ sizesChecked limit 0 sizes.now }
 {
-    for i in 0..sizes.len() {
-        if sizes[i] > limit {
-            return Checked::Refused(FormatError::ObjectTooLarge(i as u64, sizes[i]));
+    for (i, size) in sizes.iter().enumerate() {
+        if *size > limit {
+            return Err(FormatError::ObjectTooLarge {
+                index: i as u64,
+                size: *size,
+            });
         }
     }
-    Checked::Passed
+    Ok(())
 }
 
 #[tactic(auto, unfolding(crate::specs::Checks::widthChecked))]
-fn check_width(offset_size: u8) -> Checked
+fn check_width(offset_size: u8) -> Result<(), FormatError>
     ensures { result ≡ widthChecked offset_size }
 {
-    if is_width(offset_size) {
-        Checked::Passed
-    } else {
-        Checked::Refused(FormatError::InvalidOffsetSize(offset_size))
+    if !is_width(offset_size) {
+        return Err(FormatError::InvalidOffsetSize(offset_size));
     }
+    Ok(())
 }
 
+/// Tests that a list of `lent` places holds `needed` numbers: else 13 with both.
 #[tactic(auto, unfolding(crate::specs::Checks::placesChecked))]
-pub fn check_places(needed: usize, lent: usize) -> Checked
-    ensures { result ≡ placesChecked needed lent }
+pub fn check_places(needed: usize, lent: usize) -> Result<(), FormatError>
+    ensures value { result ≡ placesChecked needed lent }
+    ensures room { OnOk result (needed ≤ lent) }
 {
-    if needed <= lent {
-        Checked::Passed
-    } else {
-        Checked::Refused(FormatError::SliceTooShort(needed as u64, lent as u64))
+    if needed > lent {
+        return Err(FormatError::SliceTooShort {
+            needed: needed as u64,
+            lent: lent as u64,
+        });
     }
+    Ok(())
 }
 
-// Without objects there is still one block.
-fn blocks_needed(objects: usize) -> usize
-    ensures { result ≡ max 1 objects }
-{
-    if objects == 0 { 1 } else { objects }
-}
-
-// The tests before any planning.
+/// The tests before any planning, for lists of `offsets` and `blocks` places: 2, 13 for the offsets, 13 for the blocks,
+/// 11, in this order. Without objects there is still one block, so the list of blocks has one place at least.
 #[tactic(auto, unfolding(crate::specs::Checks::inputChecked))]
-pub fn check_input(sizes: &[u64], offsets: usize, blocks: usize, offset_size: u8) -> Checked
+pub fn check_input(
+    sizes: &[u64],
+    offsets: usize,
+    blocks: usize,
+    offset_size: u8,
+) -> Result<(), FormatError>
     ensures { result ≡ inputChecked sizes.now offsets blocks offset_size }
 {
-    match check_width(offset_size) {
-        Checked::Refused(e) => Checked::Refused(e),
-        Checked::Passed => match check_places(sizes.len(), offsets) {
-            Checked::Refused(e) => Checked::Refused(e),
-            Checked::Passed => match check_places(blocks_needed(sizes.len()), blocks) {
-                Checked::Refused(e) => Checked::Refused(e),
-                Checked::Passed => check_sizes(sizes, max_managed_object(offset_size)),
-            },
-        },
-    }
+    check_width(offset_size)?;
+    check_places(sizes.len(), offsets)?;
+    check_places(sizes.len().max(1), blocks)?;
+    check_sizes(sizes, max_managed_object(offset_size))
 }

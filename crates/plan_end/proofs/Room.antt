@@ -1,7 +1,8 @@
 -- The objects of a plan fit into the bodies of the root's slots: so no total falls below zero.
+use Rattle.std.specs.Prelude.{Err, None, Ok, Option, Result, Some, unwrap_or}
 use Prim.Native.Nat.{ℕ, suc, ◌+◌, ◌-◌, ◌^◌, ◌≤◌, ◌<◌, zero-le}
 use mathlib.Core.Path.{◌≡◌, refl, sym, ap, ◌∙◌, subst}
-use mathlib.Core.Logic.{◌⊎◌, inl, inr}
+use mathlib.Core.Logic.{◌⊎◌, inl, inr, ∥∥₁_elim}
 use mathlib.Core.Bool.{Bool}
 use mathlib.Core.List.{List, [], ◌∷◌}
 use native.Mathlib.Omega.{arith}
@@ -20,13 +21,11 @@ use Rattle.table_laws.proofs.Counting.{count_add, count-all}
 use Rattle.table_laws.proofs.Format.{in_body, slot-body}
 use Rattle.table_laws.proofs.Bodies.{first-bodies, bodies}
 use Rattle.plan_steps.specs.Steps.{blockEnd, initial, step_of, run_from, run}
-use Rattle.plan_end.specs.End.{one_block, endState, rowsIn, rootRows}
+use Rattle.plan_end.specs.End.{one_block, endState, rootRows}
+use Rattle.std.proofs.Props.{props}
+use Rattle.plan_steps.specs.Requires.{IsReached}
 use Rattle.plan_end.specs.Requires.{Totalled}
 use Rattle.plan_steps.specs.declared.State.{State}
-use Rattle.plan_steps.specs.declared.Step.{Step}
-use Rattle.plan_steps.specs.declared.Step.TheVariants.{Placed, Ends}
-use Rattle.plan_steps.specs.declared.Run.{Run}
-use Rattle.plan_steps.specs.declared.Run.TheVariants.{Done, Short}
 use Rattle.plan_steps.proofs.Stepping.{Same, New, Placing}
 use Rattle.plan_steps.proofs.Running.{Sound, sound-initial, sound-bounded, sound-step, placing}
 
@@ -60,7 +59,7 @@ pub record Roomy (w : ℕ) (s : State) : Type 0 where
   pub room : s.used + (s.size - s.fill) ≤ bodiesBelow w (blockEnd s)
 
 module _ (w : ℕ) (l : w ≤ 255) where
-  roomy-step : (s : State) (x : ℕ) (s' : State) (o : ℕ) → Roomy w s → step_of fixed w s x ≡ Placed s' o → Roomy w s'
+  roomy-step : (s : State) (x : ℕ) (s' : State) (o : ℕ) → Roomy w s → step_of fixed w s x ≡ Some (s', o) → Roomy w s'
   roomy-step s x s' o R e = record { sound = sound-step w s x s' o l R.sound e; room = go P.way }
     where
       P : Placing fixed w s x s' o
@@ -78,17 +77,17 @@ module _ (w : ℕ) (l : w ≤ 255) where
           let z : bodiesBelow w (blockEnd s') ≡ bodiesBelow w (s'.start + (slot_at fixed s'.start).size) = ap (λ (y : ℕ). bodiesBelow w (s'.start + y)) f in
           omega arith
 
-  roomy-from : (xs : List ℕ) (s : State) (i : ℕ) (s' : State) → Roomy w s → run_from fixed w s xs i ≡ Done s' → Roomy w s'
+  roomy-from : (xs : List ℕ) (s : State) (i : ℕ) (s' : State) → Roomy w s → run_from fixed w s xs i ≡ Ok s' → Roomy w s'
   unfolding run_from
   roomy-from [] s i s' R e = subst (Roomy w) (let z : s ≡ s' = cc in z) R
   roomy-from (x ∷ xs) s i s' R e = go (step_of fixed w s x) refl e (λ s₁ R₁. roomy-from xs s₁ (suc i) s' R₁)
     where
-      go : (v : Step) → step_of fixed w s x ≡ v → ◌≡◌ {A = Run} (elim v [ Placed s₁ o ↦ run_from fixed w s₁ xs (suc i) | Ends ↦ Short i ]) (Done s')
-          → ((s₁ : State) → Roomy w s₁ → run_from fixed w s₁ xs (suc i) ≡ Done s' → Roomy w s') → Roomy w s'
-      go (Placed s₁ o) q e ih = ih s₁ (roomy-step s x s₁ o R q) e
-      go Ends q e ih = absurd (let z : ◌≡◌ {A = ℕ} 0 1 = cc in omega arith)
+      go : (v : Option (State × ℕ)) → step_of fixed w s x ≡ v → ◌≡◌ {A = Result State ℕ} (elim v [ Some (s₁, o) ↦ run_from fixed w s₁ xs (suc i) | None ↦ Err i ]) (Ok s')
+          → ((s₁ : State) → Roomy w s₁ → run_from fixed w s₁ xs (suc i) ≡ Ok s' → Roomy w s') → Roomy w s'
+      go (Some (s₁, o)) q e ih = ih s₁ (roomy-step s x s₁ o R q) e
+      go None q e ih = absurd cc
 
-  roomy : (xs : List ℕ) (s : State) → run fixed w xs ≡ Done s → Roomy w s
+  roomy : (xs : List ℕ) (s : State) → run fixed w xs ≡ Ok s → Roomy w s
   unfolding run
   roomy xs s e = roomy-from xs (initial fixed w) 0 s (record { sound = sound-initial w; room = omega arith }) e
 
@@ -108,7 +107,7 @@ no_rows e q = rw (eq-eqb e 1024 q)
 -- any other end: the row of its last byte is the last
 pub rows_of_end : (e : ℕ) → (e ≡ 1024 → ⊥) → 0 < e → e ≤ 2 ^ 40 → rootRows fixed e ≡ suc (row_of fixed (e - 1))
 unfolding rootRows
-rows_of_end e n p l = rw (ne_eqb e 1024 n) (ap rowsIn (covers e p l) ∙ add-one (row_of fixed (e - 1)))
+rows_of_end e n p l = rw (ne_eqb e 1024 n) (ap (λ (r : Option ℕ). unwrap_or r 0) (covers e p l) ∙ add-one (row_of fixed (e - 1)))
 
 pub reach : (e : ℕ) → 0 < e → e ≤ 2 ^ 40 → (e ≡ 1024 → ⊥) → Reach e
 reach e p l n =
@@ -149,10 +148,14 @@ module _ (w : ℕ) (l : w ≤ 255) (s : State) where
             omega arith;
       }
 
-  pub totalled : (xs : List ℕ) → run fixed w xs ≡ Done s → Totalled w (endState fixed w s)
+  pub totalled : (xs : List ℕ) → run fixed w xs ≡ Ok s → Totalled w (endState fixed w s)
   unfolding endState
   totalled xs e = go (ℕ_discrete s.count 0)
     where
       go : Dec (s.count ≡ 0) → Totalled w (endState fixed w s)
       go (yes q) = rw (eq-eqb s.count 0 q, endState) one-totalled
       go (no q) = rw (ne_eqb s.count 0 q, endState) (some-totalled q (roomy w l xs s e))
+
+-- a plan under way has totals
+pub reached-totalled : (w : ℕ) (s : State) → w ≤ 255 → IsReached w s → Totalled w (endState fixed w s)
+reached-totalled w s l R = ∥∥₁_elim R (hlevel props) (λ p. totalled w l s p.0 p.1)

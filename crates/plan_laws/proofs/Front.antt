@@ -1,22 +1,15 @@
 -- A front part of an accepted list is accepted, with the same offsets and, as far as they go, the same blocks.
+use Rattle.std.specs.Prelude.{None, Ok, Option, Some}
 use Prim.Native.Nat.{ℕ, zero, suc, ◌≤◌, ◌<◌, max}
 use mathlib.Core.Path.{◌≡◌, refl, sym, ap, ◌∙◌}
-use mathlib.Core.Bool.{Bool, true, false}
 use mathlib.Core.List.{List, [], ◌∷◌, ◌++◌}
 use native.Mathlib.Omega.{arith}
 use native.Mathlib.Decide.{dec_le}
-use lib.Dec.{leb}
 use lib.ListN.{length, take, length-take}
-use Rattle.fields.specs.declared.Checked.{Checked}
-use Rattle.fields.specs.declared.Checked.TheVariants.{Passed, Refused as NotPassed}
-use Rattle.refusals.specs.declared.FormatError.TheVariants.{ObjectTooLarge}
+use Rattle.std.proofs.lemmas.Bool.Decides.{nat_tests}
 use Rattle.table.specs.Table.{Table, fixed}
 use Rattle.plan_steps.specs.declared.State.{State}
-use Rattle.plan_steps.specs.declared.Step.{Step}
-use Rattle.plan_steps.specs.declared.Step.TheVariants.{Placed, Ends}
-use Rattle.plan_steps.specs.declared.Run.TheVariants.{Done}
 use Rattle.plan.specs.declared.ManagedPlan.{ManagedPlan}
-use Rattle.plan.specs.declared.Planned.TheVariants.{Accepted}
 use Rattle.plan_steps.specs.Steps.{initial, step_of, run_from, offsetsFrom, startsFrom, run, planOffsets, planStarts}
 use Rattle.plan_end.specs.End.{endState}
 use Rattle.plan.specs.Answer.{totals, plannedFor}
@@ -29,14 +22,14 @@ use Rattle.plan.proofs.Answering.{accepted, answers}
 -- the first k sizes from the state s on
 pub record Fronted (t : Table) (w : ℕ) (s : State) (xs : List ℕ) (k i : ℕ) : Type 0 where
   pub state : State
-  pub is : run_from t w s (take k xs) i ≡ Done state
+  pub is : run_from t w s (take k xs) i ≡ Ok state
   pub same-offsets : offsetsFrom t w s (take k xs) ≡ take k (offsetsFrom t w s xs)
   pub later : List ℕ
   pub same-starts : startsFrom t w s xs ≡ startsFrom t w s (take k xs) ++ later
 
 module _ (t : Table) (w : ℕ) where
   -- one object more before both
-  starts-front : (s s₁ : State) (x o : ℕ) → step_of t w s x ≡ Placed s₁ o → (xs ys later : List ℕ)
+  starts-front : (s s₁ : State) (x o : ℕ) → step_of t w s x ≡ Some (s₁, o) → (xs ys later : List ℕ)
       → startsFrom t w s₁ xs ≡ startsFrom t w s₁ ys ++ later → startsFrom t w s (x ∷ xs) ≡ startsFrom t w s (x ∷ ys) ++ later
   starts-front s s₁ x o q xs ys later e = go (dec_le s₁.count s.count)
     where
@@ -47,14 +40,14 @@ module _ (t : Table) (w : ℕ) where
           ∙ ap (λ (l : List ℕ). l ++ later) (sym (starts-go-new t w s x ys s₁ o q (omega arith)))
 
   -- a run that ends well has run its front part well
-  pub front : (xs : List ℕ) (k : ℕ) (s : State) (i : ℕ) (s' : State) → run_from t w s xs i ≡ Done s' → Fronted t w s xs k i
+  pub front : (xs : List ℕ) (k : ℕ) (s : State) (i : ℕ) (s' : State) → run_from t w s xs i ≡ Ok s' → Fronted t w s xs k i
   unfolding run_from offsetsFrom startsFrom
   front xs zero s i s' e = record { state = s; is = refl; same-offsets = refl; later = startsFrom t w s xs; same-starts = refl }
   front [] (suc k) s i s' e = record { state = s; is = refl; same-offsets = refl; later = []; same-starts = refl }
   front (x ∷ xs) (suc k) s i s' e = go (step_of t w s x) refl (λ s₁. front xs k s₁ (suc i) s')
     where
-      go : (v : Step) → step_of t w s x ≡ v → ((s₁ : State) → run_from t w s₁ xs (suc i) ≡ Done s' → Fronted t w s₁ xs k (suc i)) → Fronted t w s (x ∷ xs) (suc k) i
-      go (Placed s₁ o) q ih =
+      go : (v : Option (State × ℕ)) → step_of t w s x ≡ v → ((s₁ : State) → run_from t w s₁ xs (suc i) ≡ Ok s' → Fronted t w s₁ xs k (suc i)) → Fronted t w s (x ∷ xs) (suc k) i
+      go (Some (s₁, o)) q ih =
           let F = ih s₁ (sym (run-goes t w s x xs s₁ o q i) ∙ e) in
           record {
             state = F.state;
@@ -63,20 +56,14 @@ module _ (t : Table) (w : ℕ) where
             later = F.later;
             same-starts = starts-front s s₁ x o q xs (take k xs) F.later F.same-starts;
           }
-      go Ends q ih = absurd (let f = run-stops t w s x xs i q in let z : ◌≡◌ {A = ℕ} 0 1 = cc in omega arith)
+      go None q ih = absurd (let f = run-stops t w s x xs i q in cc)
 
 -- the sizes of a front part pass
-sizes-front : (limit j : ℕ) (xs : List ℕ) (k : ℕ) → sizesChecked limit j xs ≡ Passed → sizesChecked limit j (take k xs) ≡ Passed
+sizes-front : (limit j : ℕ) (xs : List ℕ) (k : ℕ) → sizesChecked limit j xs ≡ (Ok tt) → sizesChecked limit j (take k xs) ≡ (Ok tt)
 unfolding sizesChecked
 sizes-front limit j xs zero e = refl
 sizes-front limit j [] (suc k) e = refl
-sizes-front limit j (x ∷ xs) (suc k) e = go (leb x limit) (sizes-front limit (suc j) xs k) e
-  where
-    go : (u : Bool) → (sizesChecked limit (suc j) xs ≡ Passed → sizesChecked limit (suc j) (take k xs) ≡ Passed)
-        → ◌≡◌ {A = Checked} (elim u [ true ↦ sizesChecked limit (suc j) xs | false ↦ NotPassed (ObjectTooLarge j x) ]) Passed
-        → ◌≡◌ {A = Checked} (elim u [ true ↦ sizesChecked limit (suc j) (take k xs) | false ↦ NotPassed (ObjectTooLarge j x) ]) Passed
-    go true ih e = ih e
-    go false ih e = e
+sizes-front limit j (x ∷ xs) (suc k) e = grind (arith, nat_tests, sizes-front limit (suc j) xs k)
 
 -- the blocks of the whole list, where the front part has some size
 blocks-front : (w : ℕ) (xs : List ℕ) (k : ℕ) (F : Fronted fixed w (initial fixed w) xs k 0) → 0 < k → planStarts fixed w xs ≡ planStarts fixed w (take k xs) ++ F.later
@@ -86,14 +73,14 @@ blocks-front w [] (suc k) F l = ap (λ (y : List ℕ). 0 ∷ y) F.same-starts
 blocks-front w (x ∷ xs) (suc k) F l = F.same-starts
 
 -- if planning accepts a list, it accepts the first k sizes, in any lists that 13 lets pass
-pub front-part : (xs : List ℕ) (o b w : ℕ) (p : ManagedPlan) → plannedFor xs o b w ≡ Accepted p
+pub front-part : (xs : List ℕ) (o b w : ℕ) (p : ManagedPlan) → plannedFor xs o b w ≡ Ok p
     → (k o' b' : ℕ) → length (take k xs) ≤ o' → max 1 (length (take k xs)) ≤ b' → FrontPart xs w k o' b'
 front-part xs o b w p e k o' b' lo lb =
     let A = accepted xs o b w p e in
     let F : Fronted fixed w (initial fixed w) xs k 0 = front fixed w xs k (initial fixed w) 0 A.1.state (unfold run in A.1.ran) in
     record {
       plan = totals fixed w (endState fixed w F.state);
-      accepted = answers (take k xs) o' b' w (Done F.state)
+      accepted = answers (take k xs) o' b' w (Ok F.state)
           (passed (take k xs) o' b' w (record { width = A.0.width; offsets = lo; blocks = lb; sizes = sizes-front _ 0 xs k A.0.sizes }))
           (unfold run in F.is);
       same-offsets = unfold planOffsets in F.same-offsets;
@@ -102,7 +89,7 @@ front-part xs o b w p e k o' b' lo lb =
     }
 
 -- such as those of the whole list
-pub front-part-there : (xs : List ℕ) (o b w : ℕ) (p : ManagedPlan) → plannedFor xs o b w ≡ Accepted p → (k : ℕ) → FrontPart xs w k o b
+pub front-part-there : (xs : List ℕ) (o b w : ℕ) (p : ManagedPlan) → plannedFor xs o b w ≡ Ok p → (k : ℕ) → FrontPart xs w k o b
 front-part-there xs o b w p e k =
     let A = (accepted xs o b w p e).0 in
     let l = length-take k xs in

@@ -1,4 +1,5 @@
 -- Planning that goes through, object by object: where each goes, and what follows for all of them.
+use Rattle.std.specs.Prelude.{None, Ok, Option, Some}
 use Prim.Native.Nat.{ℕ, zero, suc, ◌+◌, ◌≤◌, ◌<◌}
 use mathlib.Core.Path.{◌≡◌, refl, sym, ap, ap₂, ◌∙◌, subst, subst₂}
 use mathlib.Core.Logic.{◌⊎◌, inl, inr, ⊎_elim}
@@ -10,11 +11,8 @@ use Rattle.table.specs.Table.{Table, fixed}
 use Rattle.table.specs.Sizes.{directHeader}
 use Rattle.numbers.specs.Sums.{sum}
 use Rattle.plan_steps.specs.declared.State.{State}
-use Rattle.plan_steps.specs.declared.Step.{Step}
-use Rattle.plan_steps.specs.declared.Step.TheVariants.{Placed, Ends}
-use Rattle.plan_steps.specs.declared.Run.TheVariants.{Done}
 use Rattle.plan_steps.specs.Steps.{initial, blockEnd, step_of, run_from, offsetsFrom, startsFrom, run, planOffsets, planStarts}
-use Rattle.plan_steps.proofs.Stepping.{Ok, Placing, Same, New, step-placed, ok-initial}
+use Rattle.plan_steps.proofs.Stepping.{Sane, Placing, Same, New, step-placed, ok-initial}
 use Rattle.plan_steps.proofs.Running.{run-stops, run-goes, offsets-go, starts-go-same, starts-go-new}
 use Rattle.table_laws.proofs.Format.{SlotOf}
 
@@ -26,15 +24,15 @@ pub data Laid (t : Table) (w : ℕ) : State → List ℕ → List ℕ → List �
 
 module _ (t : Table) (g : t.startBits ≤ t.directBits) (k : t.startBits ≤ t.heapBits) (w : ℕ) where
   -- a run that ends well is laid
-  pub laid : (xs : List ℕ) (s : State) (i : ℕ) (s' : State) → Ok t w s → run_from t w s xs i ≡ Done s' → Laid t w s xs (offsetsFrom t w s xs) (startsFrom t w s xs) s'
+  pub laid : (xs : List ℕ) (s : State) (i : ℕ) (s' : State) → Sane t w s → run_from t w s xs i ≡ Ok s' → Laid t w s xs (offsetsFrom t w s xs) (startsFrom t w s xs) s'
   unfolding run_from offsetsFrom startsFrom
   laid [] s i s' I e = subst (Laid t w s [] [] []) (let z : s ≡ s' = cc in z) end
   laid (x ∷ xs) s i s' I e = go (step_of t w s x) refl (λ s₁. laid xs s₁ (suc i) s')
     where
-      go : (v : Step) → step_of t w s x ≡ v
-          → ((s₁ : State) → Ok t w s₁ → run_from t w s₁ xs (suc i) ≡ Done s' → Laid t w s₁ xs (offsetsFrom t w s₁ xs) (startsFrom t w s₁ xs) s')
+      go : (v : Option (State × ℕ)) → step_of t w s x ≡ v
+          → ((s₁ : State) → Sane t w s₁ → run_from t w s₁ xs (suc i) ≡ Ok s' → Laid t w s₁ xs (offsetsFrom t w s₁ xs) (startsFrom t w s₁ xs) s')
           → Laid t w s (x ∷ xs) (offsetsFrom t w s (x ∷ xs)) (startsFrom t w s (x ∷ xs)) s'
-      go (Placed s₁ o) q ih =
+      go (Some (s₁, o)) q ih =
           let P = step-placed t g k w s x I s₁ o q in
           let L = ih s₁ P.ok (sym (run-goes t w s x xs s₁ o q i) ∙ e) in
           let eo = sym (offsets-go t w s x xs s₁ o q) in
@@ -42,7 +40,7 @@ module _ (t : Table) (g : t.startBits ≤ t.directBits) (k : t.startBits ≤ t.h
           (λ (n : Same s s₁ o). subst₂ (λ (os bs : List ℕ). Laid t w s (x ∷ xs) os bs s') eo (sym (starts-go-same t w s x xs s₁ o q (let c = n.count-is in omega arith))) (same P n L))
           (λ (n : New t w s s₁ o). subst₂ (λ (os bs : List ℕ). Laid t w s (x ∷ xs) os bs s') eo (sym (starts-go-new t w s x xs s₁ o q (let c = n.count-is in omega arith))) (new P n L))
           P.way
-      go Ends q ih = absurd (let f = run-stops t w s x xs i q in let z : ◌≡◌ {A = ℕ} 0 1 = cc in omega arith)
+      go None q ih = absurd (let f = run-stops t w s x xs i q in cc)
 
 -- ---- objects in order
 
@@ -56,7 +54,7 @@ abbrev pub filledTo : State → ℕ
 filledTo s = s.start + s.fill
 
 module _ {t : Table} {w : ℕ} where
-  pub spaced : {s s' : State} {xs os bs : List ℕ} → Ok t w s → Laid t w s xs os bs s' → Spaced (filledTo s) os xs (filledTo s')
+  pub spaced : {s s' : State} {xs os bs : List ℕ} → Sane t w s → Laid t w s xs os bs s' → Spaced (filledTo s) os xs (filledTo s')
   spaced {s} I end = none (le_refl (filledTo s))
   spaced {s} {s'} I (same {o = o} {xs = xs} {os = os} P n L) =
       let l : filledTo s ≤ o = omega (arith, n.place) in
@@ -84,7 +82,7 @@ module _ {t : Table} {w : ℕ} where
   last-start (same {bs = bs} P n L) = ap (λ (b : ℕ). get_or (b ∷ bs) (length bs) 0) (sym n.start_is) ∙ last-start L
   last-start (new P n L) = last-start L
 
-  pub still-ok : {s s' : State} {xs os bs : List ℕ} → Ok t w s → Laid t w s xs os bs s' → Ok t w s'
+  pub still-ok : {s s' : State} {xs os bs : List ℕ} → Sane t w s → Laid t w s xs os bs s' → Sane t w s'
   still-ok I end = I
   still-ok I (same P n L) = still-ok P.ok L
   still-ok I (new P n L) = still-ok P.ok L
@@ -221,10 +219,10 @@ unfolding planStarts
 starts-some w [] l = absurd (omega arith)
 starts-some w (x ∷ xs) l = refl
 
-pub ran-ok : (w : ℕ) → Ok fixed w (initial fixed w)
+pub ran-ok : (w : ℕ) → Sane fixed w (initial fixed w)
 ran-ok w = ok-initial fixed w (omega arith)
 
 -- a whole run that ends well
-pub ran-laid : (w : ℕ) (xs : List ℕ) (s : State) → run fixed w xs ≡ Done s → Laid fixed w (initial fixed w) xs (planOffsets fixed w xs) (startsFrom fixed w (initial fixed w) xs) s
+pub ran-laid : (w : ℕ) (xs : List ℕ) (s : State) → run fixed w xs ≡ Ok s → Laid fixed w (initial fixed w) xs (planOffsets fixed w xs) (startsFrom fixed w (initial fixed w) xs) s
 unfolding run planOffsets
 ran-laid w xs s e = laid fixed (omega arith) (omega arith) w xs (initial fixed w) 0 s (ran-ok w) e

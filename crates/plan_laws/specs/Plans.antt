@@ -1,13 +1,13 @@
 -- What the theorems say of a plan.
-use Rattle.std.specs.Prelude.{ℕ, ◌+◌, ◌≤◌, ◌<◌, ◌≡◌, ◌↔◌, Bool, true, List, [], ◌∷◌, ◌++◌, length, take, get_or}
+use Rattle.std.specs.Prelude.{ℕ, ◌+◌, ◌≤◌, ◌<◌, ◌≡◌, ◌↔◌, max, Bool, true, List, [], ◌∷◌, ◌++◌, length, take, slice_index, Ok, Err}
+use Rattle.refusals.specs.declared.FormatError.TheVariants.{HeapSpaceExhausted}
 use Rattle.table.specs.Table.{Table, fixed, rowOffset}
 use Rattle.table.specs.Slots.{Direct, slot_at}
 use Rattle.table.specs.Sizes.{directHeader}
 use Rattle.plan_steps.specs.declared.State.{State}
-use Rattle.plan_steps.specs.declared.Run.TheVariants.{Done}
 use Rattle.plan.specs.declared.ManagedPlan.{ManagedPlan}
-use Rattle.plan.specs.declared.Planned.TheVariants.{Accepted}
 use Rattle.plan_steps.specs.Steps.{blockEnd, run, planOffsets, planStarts}
+use Rattle.plan_checks.specs.Checks.{inputChecked}
 use Rattle.plan.specs.Answer.{plannedFor}
 use Rattle.table_laws.specs.Count.{count, InBody}
 
@@ -15,14 +15,14 @@ use Rattle.table_laws.specs.Count.{count, InBody}
 -- on, as many as its size
 pub record InObject (offsets xs : List ℕ) (i x : ℕ) : Type 0 where
   pub object : i < length xs
-  pub from : get_or offsets i 0 ≤ x
-  pub to : x < get_or offsets i 0 + get_or xs i 0
+  pub from : slice_index offsets i ≤ x
+  pub to : x < slice_index offsets i + slice_index xs i
 
 -- the first k of the sizes xs, in lists of o and b places, are accepted, with the same offsets; where there
 -- are some, the blocks too are the first of the whole's
 pub record FrontPart (xs : List ℕ) (w k o b : ℕ) : Type 0 where
   pub plan : ManagedPlan
-  pub accepted : plannedFor (take k xs) o b w ≡ Accepted plan
+  pub accepted : plannedFor (take k xs) o b w ≡ Ok plan
   pub same-offsets : planOffsets fixed w (take k xs) ≡ take k (planOffsets fixed w xs)
   pub later : List ℕ
   pub same_blocks : 0 < k → planStarts fixed w xs ≡ planStarts fixed w (take k xs) ++ later
@@ -32,9 +32,9 @@ pub record InPlacedBlock (w : ℕ) (xs : List ℕ) (i : ℕ) : Type 0 where
   pub n : ℕ
   pub placed : n < length (planStarts fixed w xs)
   pub size : ℕ
-  pub slot : Direct fixed 29 (get_or (planStarts fixed w xs) n 0) size
-  pub from : get_or (planStarts fixed w xs) n 0 + directHeader fixed w ≤ get_or (planOffsets fixed w xs) i 0
-  pub to : get_or (planOffsets fixed w xs) i 0 + get_or xs i 0 ≤ get_or (planStarts fixed w xs) n 0 + size
+  pub slot : Direct fixed 29 (slice_index (planStarts fixed w xs) n) size
+  pub from : slice_index (planStarts fixed w xs) n + directHeader fixed w ≤ slice_index (planOffsets fixed w xs) i
+  pub to : slice_index (planOffsets fixed w xs) i + slice_index xs i ≤ slice_index (planStarts fixed w xs) n + size
 
 -- x lies in the body of a direct slot of the managed space of a heap with n root rows, and in no object
 pub record FreeByte (t : Table) (h n : ℕ) (offsets xs : List ℕ) (x : ℕ) : Type 0 where
@@ -53,22 +53,50 @@ pub record FreeCounted (w : ℕ) (xs : List ℕ) (p : ManagedPlan) : Type 0 wher
   pub counted : count test p.managed_space ≡ p.free_space
   pub every : (q : ℕ → Bool) → ((x : ℕ) → (q x ≡ true) ↔ Free w xs p x) → count q p.managed_space ≡ p.free_space
 
+-- of a plan that is accepted
+pub record PlanKept (xs : List ℕ) (w : ℕ) (p : ManagedPlan) : Type 0 where
+  -- each front part plans, with the same offsets, in any lists that 13 lets pass
+  pub front-parts : (k o b : ℕ) → length (take k xs) ≤ o → max 1 (length (take k xs)) ≤ b → FrontPart xs w k o b
+  -- no heap offset is a byte of two objects
+  pub no-shared-byte : (i j x : ℕ) → InObject (planOffsets fixed w xs) xs i x → InObject (planOffsets fixed w xs) xs j x → i ≡ j
+  -- each object lies in the body of a placed block
+  pub in-a-body : (i : ℕ) → i < length xs → InPlacedBlock w xs i
+  -- none has a byte in a block header
+  pub no-header-touched : (i x : ℕ) → InObject (planOffsets fixed w xs) xs i x
+      → (s z : ℕ) → Direct fixed 29 s z → s ≤ x → x < s + directHeader fixed w → ⊥
+  -- the free space is the number of heap offsets in bodies and in no object
+  pub free-space : FreeCounted w xs p
+
+-- whatever planning accepts keeps its objects apart
+abbrev pub PlansKept : Type 0
+PlansKept = (xs : List ℕ) (o b w : ℕ) (p : ManagedPlan) → plannedFor xs o b w ≡ Ok p → PlanKept xs w p
+
+-- the lists of the whole let each front part pass
+abbrev pub FrontPartsFit : Type 0
+FrontPartsFit =
+    (xs : List ℕ) (o b w : ℕ) (p : ManagedPlan) → plannedFor xs o b w ≡ Ok p → (k : ℕ) → FrontPart xs w k o b
+
 -- after the sizes before it, the i-th fits neither the rest of the current block nor any direct slot that
 -- begins at or after that block's end
 pub record NoSlotFits (w : ℕ) (xs : List ℕ) (i : ℕ) : Type 0 where
   pub object : i < length xs
   pub state : State
-  pub before : run fixed w (take i xs) ≡ Done state
-  pub not-here : state.size < state.fill + get_or xs i 0
-  pub nowhere : (c z : ℕ) → Direct fixed 29 c z → blockEnd state ≤ c → z < directHeader fixed w + get_or xs i 0
+  pub before : run fixed w (take i xs) ≡ Ok state
+  pub not-here : state.size < state.fill + slice_index xs i
+  pub nowhere : (c z : ℕ) → Direct fixed 29 c z → blockEnd state ≤ c → z < directHeader fixed w + slice_index xs i
+
+-- the answer is 12 at the i-th object exactly if the tests before pass and no slot that is left fits it
+abbrev pub EndsIffNoneFits : Type 0
+EndsIffNoneFits =
+    (xs : List ℕ) (o b w i : ℕ) → (plannedFor xs o b w ≡ Err (HeapSpaceExhausted i)) ↔ ((inputChecked xs o b w ≡ Ok tt) × NoSlotFits w xs i)
 
 -- the root's rows reach the end of the last placed block, the n-th, which is the iterator, and fewer do not
 pub record FewestRows (w : ℕ) (xs : List ℕ) (p : ManagedPlan) : Type 0 where
   pub n : ℕ
   pub last : length (planStarts fixed w xs) ≡ n + 1
   pub size : ℕ
-  pub slot : Direct fixed 29 (get_or (planStarts fixed w xs) n 0) size
-  pub end : p.allocation_iterator ≡ get_or (planStarts fixed w xs) n 0 + size
+  pub slot : Direct fixed 29 (slice_index (planStarts fixed w xs) n) size
+  pub end : p.allocation_iterator ≡ slice_index (planStarts fixed w xs) n + size
   pub reach : p.allocation_iterator ≤ rowOffset fixed p.root_rows
   pub fewest : (m : ℕ) → m < p.root_rows → rowOffset fixed m < p.allocation_iterator
 
@@ -78,6 +106,15 @@ pub record OneBlock (w : ℕ) (xs : List ℕ) (p : ManagedPlan) : Type 0 where
   pub slot : Direct fixed 29 0 1024
   pub managed : p.managed_space ≡ 1024
   pub iterator : p.allocation_iterator ≡ 0
+
+-- a root of some rows has the fewest, one of none is the one placed block, and that block is such a root
+pub record RootFits (w : ℕ) (xs : List ℕ) (p : ManagedPlan) : Type 0 where
+  pub rows : 0 < p.root_rows → FewestRows w xs p
+  pub bare : p.root_rows ≡ 0 → OneBlock w xs p
+  pub only : planStarts fixed w xs ≡ 0 ∷ [] → p.root_rows ≡ 0
+
+abbrev pub RootsFit : Type 0
+RootsFit = (xs : List ℕ) (o b w : ℕ) (p : ManagedPlan) → plannedFor xs o b w ≡ Ok p → RootFits w xs p
 
 -- the sizes of the direct slots at these starts together
 unfoldable pub sizesAt : Table → List ℕ → ℕ
@@ -89,3 +126,6 @@ pub record Tallied (w : ℕ) (xs : List ℕ) (p : ManagedPlan) : Type 0 where
   pub offsets : length (planOffsets fixed w xs) ≡ length xs
   pub blocks : p.block_count ≡ length (planStarts fixed w xs)
   pub allocated : p.allocated_space ≡ sizesAt fixed (planStarts fixed w xs)
+
+abbrev pub PlansTallied : Type 0
+PlansTallied = (xs : List ℕ) (o b w : ℕ) (p : ManagedPlan) → plannedFor xs o b w ≡ Ok p → Tallied w xs p

@@ -1,4 +1,5 @@
 -- The search for a slot that is large enough, a slot at a time: what it finds, and when it finds nothing.
+use Rattle.std.specs.Prelude.{None, Option, Some}
 use Prim.Native.Nat.{ℕ, zero, suc, ◌+◌, ◌-◌, ◌^◌, ◌≤◌, ◌<◌}
 use mathlib.Core.Path.{◌≡◌, refl, sym, ap, ◌∙◌, subst}
 use mathlib.Core.Bool.{Bool, true, false}
@@ -11,8 +12,6 @@ use Rattle.table.specs.Slots.{slot_at, slotEnd}
 use Rattle.table.specs.declared.Slot.{Slot}
 use Rattle.table.proofs.Slots.{Start, slot-some, end-gt, end-le, apart, start-here, start-next}
 use Rattle.plan_steps.specs.Steps.{open_in, open_at}
-use Rattle.plan_steps.specs.declared.Open.{Open}
-use Rattle.plan_steps.specs.declared.Open.TheVariants.{At, Full}
 
 module _ (t : Table) where
   open-fuel : (f g n c : ℕ) → 2 ^ t.heapBits ≤ c + f → 2 ^ t.heapBits ≤ c + g → open_in t f n c ≡ open_in t g n c
@@ -23,8 +22,8 @@ module _ (t : Table) where
   open-fuel (suc f) (suc g) n c h k = let z = end-gt t c in go (ltb c (2 ^ t.heapBits)) (leb n (slot_at t c).size) (open-fuel f g n (slotEnd (slot_at t c)) (omega arith) (omega arith))
     where
       go : (u v : Bool) → open_in t f n (slotEnd (slot_at t c)) ≡ open_in t g n (slotEnd (slot_at t c))
-          → ◌≡◌ {A = Open} (elim u [ true ↦ elim v [ true ↦ At (slot_at t c) | false ↦ open_in t f n (slotEnd (slot_at t c)) ] | false ↦ Full ])
-          (elim u [ true ↦ elim v [ true ↦ At (slot_at t c) | false ↦ open_in t g n (slotEnd (slot_at t c)) ] | false ↦ Full ])
+          → ◌≡◌ {A = Option Slot} (elim u [ true ↦ elim v [ true ↦ Some (slot_at t c) | false ↦ open_in t f n (slotEnd (slot_at t c)) ] | false ↦ None ])
+          (elim u [ true ↦ elim v [ true ↦ Some (slot_at t c) | false ↦ open_in t g n (slotEnd (slot_at t c)) ] | false ↦ None ])
       go true true e = refl
       go true false e = e
       go false true e = refl
@@ -32,43 +31,43 @@ module _ (t : Table) where
 
   -- one slot of the walk
   open-one : (n c : ℕ) → c < 2 ^ t.heapBits
-      → open_at t n c ≡ elim (leb n (slot_at t c).size) [ true ↦ At (slot_at t c) | false ↦ open_at t n (slotEnd (slot_at t c)) ]
+      → open_at t n c ≡ elim (leb n (slot_at t c).size) [ true ↦ Some (slot_at t c) | false ↦ open_at t n (slotEnd (slot_at t c)) ]
   unfolding open_at open_in
   open-one n c h =
       let z = end-gt t c in
       open-fuel (2 ^ t.heapBits - c) (suc (2 ^ t.heapBits - c)) n c (omega arith) (omega arith)
       ∙ rw (lt-ltb c (2 ^ t.heapBits) h, open_in)
-      (ap (λ (o : Open). elim (leb n (slot_at t c).size) as (λ b. Open) [ true ↦ At (slot_at t c) | false ↦ o ])
+      (ap (λ (o : Option Slot). elim (leb n (slot_at t c).size) as (λ b. Option Slot) [ true ↦ Some (slot_at t c) | false ↦ o ])
       (open-fuel (2 ^ t.heapBits - c) (2 ^ t.heapBits - slotEnd (slot_at t c)) n (slotEnd (slot_at t c)) (omega arith) (omega arith)))
 
-  pub open-here : (n c : ℕ) → c < 2 ^ t.heapBits → n ≤ (slot_at t c).size → open_at t n c ≡ At (slot_at t c)
+  pub open-here : (n c : ℕ) → c < 2 ^ t.heapBits → n ≤ (slot_at t c).size → open_at t n c ≡ Some (slot_at t c)
   open-here n c h l = open-one n c h ∙ rw (le-leb n (slot_at t c).size l)
 
   pub open-pass : (n c : ℕ) → c < 2 ^ t.heapBits → (slot_at t c).size < n → open_at t n c ≡ open_at t n (slotEnd (slot_at t c))
   open-pass n c h l = open-one n c h ∙ rw (lt-leb n (slot_at t c).size l)
 
-  pub open_full : (n c : ℕ) → 2 ^ t.heapBits ≤ c → open_at t n c ≡ Full
+  pub open_full : (n c : ℕ) → 2 ^ t.heapBits ≤ c → open_at t n c ≡ None
   unfolding open_at open_in
   open_full n c h = ap (λ (f : ℕ). open_in t f n c) (let e : 2 ^ t.heapBits - c ≡ 0 = omega arith in e)
 
 module _ (t : Table) (g : t.startBits ≤ t.directBits) (k : t.startBits ≤ t.heapBits) where
   -- a slot that opens lies in the heap
-  open-in-ends : (f n c : ℕ) (b : Slot) → open_in t f n c ≡ At b → (0 < b.size) × (slotEnd b ≤ 2 ^ t.heapBits)
+  open-in-ends : (f n c : ℕ) (b : Slot) → open_in t f n c ≡ Some b → (0 < b.size) × (slotEnd b ≤ 2 ^ t.heapBits)
   unfolding open_in
-  open-in-ends zero n c b e = absurd (let z : ◌≡◌ {A = ℕ} 0 1 = cc in omega arith)
+  open-in-ends zero n c b e = absurd cc
   open-in-ends (suc f) n c b e = go (ltb c (2 ^ t.heapBits)) refl (leb n (slot_at t c).size) (open-in-ends f n (slotEnd (slot_at t c)) b) e
     where
       go : (u : Bool) → ltb c (2 ^ t.heapBits) ≡ u → (v : Bool)
-          → (open_in t f n (slotEnd (slot_at t c)) ≡ At b → (0 < b.size) × (slotEnd b ≤ 2 ^ t.heapBits))
-          → ◌≡◌ {A = Open} (elim u [ true ↦ elim v [ true ↦ At (slot_at t c) | false ↦ open_in t f n (slotEnd (slot_at t c)) ] | false ↦ Full ]) (At b)
+          → (open_in t f n (slotEnd (slot_at t c)) ≡ Some b → (0 < b.size) × (slotEnd b ≤ 2 ^ t.heapBits))
+          → ◌≡◌ {A = Option Slot} (elim u [ true ↦ elim v [ true ↦ Some (slot_at t c) | false ↦ open_in t f n (slotEnd (slot_at t c)) ] | false ↦ None ]) (Some b)
           → (0 < b.size) × (slotEnd b ≤ 2 ^ t.heapBits)
       go true p true ih e =
           subst (λ (y : Slot). (0 < y.size) × (slotEnd y ≤ 2 ^ t.heapBits)) (let z : slot_at t c ≡ b = cc in z)
           (slot-some t c, end-le t c g k (ltb-true c (2 ^ t.heapBits) p))
       go true p false ih e = ih e
-      go false p v ih e = absurd (let z : ◌≡◌ {A = ℕ} 0 1 = cc in omega arith)
+      go false p v ih e = absurd cc
 
-  pub open-ends : (n c : ℕ) (b : Slot) → open_at t n c ≡ At b → (0 < b.size) × (slotEnd b ≤ 2 ^ t.heapBits)
+  pub open-ends : (n c : ℕ) (b : Slot) → open_at t n c ≡ Some b → (0 < b.size) × (slotEnd b ≤ 2 ^ t.heapBits)
   unfolding open_at
   open-ends n c b e = open-in-ends (2 ^ t.heapBits - c) n c b e
 
@@ -80,14 +79,14 @@ module _ (t : Table) (g : t.startBits ≤ t.directBits) (k : t.startBits ≤ t.h
     pub inside : b.start < 2 ^ t.heapBits
     pub enough : n ≤ b.size
 
-  open-in-found : (f n c : ℕ) → Start t c → (b : Slot) → open_in t f n c ≡ At b → Found n c b
+  open-in-found : (f n c : ℕ) → Start t c → (b : Slot) → open_in t f n c ≡ Some b → Found n c b
   unfolding open_in
-  open-in-found zero n c s b e = absurd (let z : ◌≡◌ {A = ℕ} 0 1 = cc in omega arith)
+  open-in-found zero n c s b e = absurd cc
   open-in-found (suc f) n c s b e = go (ltb c (2 ^ t.heapBits)) refl (leb n (slot_at t c).size) refl (open-in-found f n (slotEnd (slot_at t c))) e
     where
       go : (u : Bool) → ltb c (2 ^ t.heapBits) ≡ u → (v : Bool) → leb n (slot_at t c).size ≡ v
-          → (Start t (slotEnd (slot_at t c)) → (b : Slot) → open_in t f n (slotEnd (slot_at t c)) ≡ At b → Found n (slotEnd (slot_at t c)) b)
-          → ◌≡◌ {A = Open} (elim u [ true ↦ elim v [ true ↦ At (slot_at t c) | false ↦ open_in t f n (slotEnd (slot_at t c)) ] | false ↦ Full ]) (At b)
+          → (Start t (slotEnd (slot_at t c)) → (b : Slot) → open_in t f n (slotEnd (slot_at t c)) ≡ Some b → Found n (slotEnd (slot_at t c)) b)
+          → ◌≡◌ {A = Option Slot} (elim u [ true ↦ elim v [ true ↦ Some (slot_at t c) | false ↦ open_in t f n (slotEnd (slot_at t c)) ] | false ↦ None ]) (Some b)
           → Found n c b
       go true p true q ih e =
           let h : c < 2 ^ t.heapBits = ltb-true c (2 ^ t.heapBits) p in
@@ -107,23 +106,23 @@ module _ (t : Table) (g : t.startBits ≤ t.directBits) (k : t.startBits ≤ t.h
           let z = end-gt t c in
           let a = r.after in
           record { is = r.is; starts = r.starts; after = omega arith; inside = r.inside; enough = r.enough }
-      go false p true q ih e = absurd (let z : ◌≡◌ {A = ℕ} 0 1 = cc in omega arith)
-      go false p false q ih e = absurd (let z : ◌≡◌ {A = ℕ} 0 1 = cc in omega arith)
+      go false p true q ih e = absurd cc
+      go false p false q ih e = absurd cc
 
-  pub open-found : (n c : ℕ) → Start t c → (b : Slot) → open_at t n c ≡ At b → Found n c b
+  pub open-found : (n c : ℕ) → Start t c → (b : Slot) → open_at t n c ≡ Some b → Found n c b
   unfolding open_at
   open-found n c s b e = open-in-found (2 ^ t.heapBits - c) n c s b e
 
-  full-in : (f n c : ℕ) → 2 ^ t.heapBits ≤ c + f → Start t c → open_in t f n c ≡ Full → (b : ℕ) → Start t b → c ≤ b → b < 2 ^ t.heapBits → (slot_at t b).size < n
+  full-in : (f n c : ℕ) → 2 ^ t.heapBits ≤ c + f → Start t c → open_in t f n c ≡ None → (b : ℕ) → Start t b → c ≤ b → b < 2 ^ t.heapBits → (slot_at t b).size < n
   unfolding open_in
   full-in zero n c h s e b r l u = absurd (omega arith)
   full-in (suc f) n c h s e b r l u = go (ltb c (2 ^ t.heapBits)) refl (leb n (slot_at t c).size) refl (full-in f n (slotEnd (slot_at t c))) e (dec_lt c b)
     where
       go : (a : Bool) → ltb c (2 ^ t.heapBits) ≡ a → (v : Bool) → leb n (slot_at t c).size ≡ v
-          → (2 ^ t.heapBits ≤ slotEnd (slot_at t c) + f → Start t (slotEnd (slot_at t c)) → open_in t f n (slotEnd (slot_at t c)) ≡ Full → (b : ℕ) → Start t b → slotEnd (slot_at t c) ≤ b → b < 2 ^ t.heapBits → (slot_at t b).size < n)
-          → ◌≡◌ {A = Open} (elim a [ true ↦ elim v [ true ↦ At (slot_at t c) | false ↦ open_in t f n (slotEnd (slot_at t c)) ] | false ↦ Full ]) Full
+          → (2 ^ t.heapBits ≤ slotEnd (slot_at t c) + f → Start t (slotEnd (slot_at t c)) → open_in t f n (slotEnd (slot_at t c)) ≡ None → (b : ℕ) → Start t b → slotEnd (slot_at t c) ≤ b → b < 2 ^ t.heapBits → (slot_at t b).size < n)
+          → ◌≡◌ {A = Option Slot} (elim a [ true ↦ elim v [ true ↦ Some (slot_at t c) | false ↦ open_in t f n (slotEnd (slot_at t c)) ] | false ↦ None ]) None
           → Dec (c < b) → (slot_at t b).size < n
-      go true p true q ih e d = absurd (let z : ◌≡◌ {A = ℕ} 0 1 = cc in omega arith)
+      go true p true q ih e d = absurd cc
       go true p false q ih e (yes d) =
           let hc = ltb-true c (2 ^ t.heapBits) p in
           let z = end-gt t c in
@@ -133,6 +132,6 @@ module _ (t : Table) (g : t.startBits ≤ t.directBits) (k : t.startBits ≤ t.h
       go false p false q ih e d = let z = ltb-false c (2 ^ t.heapBits) p in absurd (omega arith)
 
   -- the heap is full for n bytes only if no slot from c on has n bytes
-  pub full-none : (n c : ℕ) → Start t c → open_at t n c ≡ Full → (b : ℕ) → Start t b → c ≤ b → b < 2 ^ t.heapBits → (slot_at t b).size < n
+  pub full-none : (n c : ℕ) → Start t c → open_at t n c ≡ None → (b : ℕ) → Start t b → c ≤ b → b < 2 ^ t.heapBits → (slot_at t b).size < n
   unfolding open_at
   full-none n c s e b r l u = full-in (2 ^ t.heapBits - c) n c (omega arith) s e b r l u

@@ -1,4 +1,5 @@
 -- The loops over the sizes, a turn at a time: what is left gives the answer.
+use Rattle.std.specs.Prelude.{Err, None, Ok, Some}
 use Prim.Native.Nat.{ℕ, suc, ◌+◌, ◌*◌, ◌^◌, ◌≤◌, ◌<◌, zero-le}
 use mathlib.Core.Path.{◌≡◌, refl, sym, ap, ◌∙◌}
 use mathlib.Core.Logic.{◌⊎◌, inl, inr}
@@ -14,18 +15,24 @@ use Rattle.table.proofs.Locating.{entered-small}
 use Rattle.plan_steps.specs.Steps.{blockEnd, initial, startIfNew, step_of, run_from, offsetsFrom, startsFrom, run}
 use Rattle.plan_steps.specs.Requires.{Bounded}
 use Rattle.plan_steps.specs.declared.State.{State}
-use Rattle.plan_steps.specs.declared.Step.TheVariants.{Placed, Ends}
-use Rattle.plan_steps.specs.declared.Run.TheVariants.{Done, Short}
-use Rattle.plan_steps.proofs.Stepping.{Ok, Same, New, Placing, step-placed, ok-initial}
+use Rattle.plan_steps.proofs.Stepping.{Sane, Same, New, Placing, step-placed, ok-initial}
 
 -- ---- one object
 
 module _ (t : Table) (w : ℕ) (s : State) (x : ℕ) (xs : List ℕ) where
-  pub run-stops : (i : ℕ) → step_of t w s x ≡ Ends → run_from t w s (x ∷ xs) i ≡ Short i
+  pub run-stops : (i : ℕ) → step_of t w s x ≡ None → run_from t w s (x ∷ xs) i ≡ Err i
   unfolding run_from
   run-stops i e = rw (e, run_from)
 
-  module _ (s' : State) (o : ℕ) (e : step_of t w s x ≡ Placed s' o) where
+  pub offsets-stop-here : step_of t w s x ≡ None → offsetsFrom t w s (x ∷ xs) ≡ []
+  unfolding offsetsFrom
+  offsets-stop-here e = rw (e, offsetsFrom)
+
+  pub starts-stop-here : step_of t w s x ≡ None → startsFrom t w s (x ∷ xs) ≡ []
+  unfolding startsFrom
+  starts-stop-here e = rw (e, startsFrom)
+
+  module _ (s' : State) (o : ℕ) (e : step_of t w s x ≡ Some (s', o)) where
     pub run-goes : (i : ℕ) → run_from t w s (x ∷ xs) i ≡ run_from t w s' xs (suc i)
     unfolding run_from
     run-goes i = rw (e, run_from)
@@ -47,11 +54,17 @@ module _ (t : Table) (w : ℕ) (s : State) (x : ℕ) (xs : List ℕ) where
 -- ---- one turn of a loop
 
 module _ (t : Table) (w : ℕ) (xs : List ℕ) (s : State) (i : ℕ) (l : i < length xs) where
-  run_ends : step_of t w s (get_or xs i 0) ≡ Ends → run_from t w s (drop i xs) i ≡ Short i
+  pub run_ends : step_of t w s (get_or xs i 0) ≡ None → run_from t w s (drop i xs) i ≡ Err i
   run_ends e = ap (λ (ys : List ℕ). run_from t w s ys i) (drop-cons xs i 0 l) ∙ run-stops t w s (get_or xs i 0) (drop (suc i) xs) i e
 
-  module _ (s' : State) (o : ℕ) (e : step_of t w s (get_or xs i 0) ≡ Placed s' o) where
-    run-placed : run_from t w s (drop i xs) i ≡ run_from t w s' (drop (i + 1) xs) (i + 1)
+  pub offsets-ended : step_of t w s (get_or xs i 0) ≡ None → offsetsFrom t w s (drop i xs) ≡ []
+  offsets-ended e = ap (offsetsFrom t w s) (drop-cons xs i 0 l) ∙ offsets-stop-here t w s (get_or xs i 0) (drop (suc i) xs) e
+
+  pub starts-ended : step_of t w s (get_or xs i 0) ≡ None → startsFrom t w s (drop i xs) ≡ []
+  starts-ended e = ap (startsFrom t w s) (drop-cons xs i 0 l) ∙ starts-stop-here t w s (get_or xs i 0) (drop (suc i) xs) e
+
+  module _ (s' : State) (o : ℕ) (e : step_of t w s (get_or xs i 0) ≡ Some (s', o)) where
+    pub run-placed : run_from t w s (drop i xs) i ≡ run_from t w s' (drop (i + 1) xs) (i + 1)
     run-placed =
         ap (λ (ys : List ℕ). run_from t w s ys i) (drop-cons xs i 0 l) ∙ run-goes t w s (get_or xs i 0) (drop (suc i) xs) s' o e i
         ∙ ap (λ (j : ℕ). run_from t w s' (drop j xs) j) (sym (add-one i))
@@ -67,7 +80,7 @@ module _ (t : Table) (w : ℕ) (xs : List ℕ) (s : State) (i : ℕ) (l : i < le
         ∙ ap (λ (j : ℕ). s'.start ∷ startsFrom t w s' (drop j xs)) (sym (add-one i))
 
 module _ (t : Table) (w : ℕ) (xs : List ℕ) (s : State) (i : ℕ) (l : length xs ≤ i) where
-  pub run-done : run_from t w s (drop i xs) i ≡ Done s
+  pub run-done : run_from t w s (drop i xs) i ≡ Ok s
   unfolding run_from
   run-done = ap (λ (ys : List ℕ). run_from t w s ys i) (drop_of_length-le xs l)
 
@@ -82,7 +95,7 @@ module _ (t : Table) (w : ℕ) (xs : List ℕ) (s : State) (i : ℕ) (l : length
 -- ---- the states on the way, at the fixed table
 
 pub record Sound (w : ℕ) (s : State) : Type 0 where
-  pub ok : Ok fixed w s
+  pub ok : Sane fixed w s
   pub deep : s.indirect ≤ s.count * 2 ^ 24
 
 pub sound-initial : (w : ℕ) → Sound w (initial fixed w)
@@ -95,7 +108,7 @@ sound-bounded w s l S =
     let i1 = I.heap in let i3 = I.fits in let i4 = I.spent in let i5 = I.taken in let i6 = I.blocks in let d = S.deep in
     record { heap = i1; filling = omega arith; blocks = omega arith; spent = omega arith; objects = omega arith; between = omega arith }
 
-module _ (w : ℕ) (s : State) (x : ℕ) (s' : State) (o : ℕ) (l : w ≤ 255) (S : Sound w s) (e : step_of fixed w s x ≡ Placed s' o) where
+module _ (w : ℕ) (s : State) (x : ℕ) (s' : State) (o : ℕ) (l : w ≤ 255) (S : Sound w s) (e : step_of fixed w s x ≡ Some (s', o)) where
   pub placing : Placing fixed w s x s' o
   placing = step-placed fixed (omega arith) (omega arith) w s x S.ok s' o e
 
@@ -121,15 +134,12 @@ unfolding run
 going_start w xs = record { inside = zero-le; sound = sound-initial w; rest = refl }
 
 module _ (w : ℕ) (xs : List ℕ) (s : State) (i : ℕ) (I : Going w xs s i) where
-  pub going_on : w ≤ 255 → i < length xs → (s' : State) (o : ℕ) → step_of fixed w s (get_or xs i 0) ≡ Placed s' o → Going w xs s' (i + 1)
+  pub going_on : w ≤ 255 → i < length xs → (s' : State) (o : ℕ) → step_of fixed w s (get_or xs i 0) ≡ Some (s', o) → Going w xs s' (i + 1)
   going_on b l s' o e = record {
     inside = omega arith;
     sound = sound-step w s (get_or xs i 0) s' o b I.sound e;
     rest = I.rest ∙ run-placed fixed w xs s i l s' o e;
   }
 
-  pub going-ends : i < length xs → step_of fixed w s (get_or xs i 0) ≡ Ends → run fixed w xs ≡ Short i
+  pub going-ends : i < length xs → step_of fixed w s (get_or xs i 0) ≡ None → run fixed w xs ≡ Err i
   going-ends l e = I.rest ∙ run_ends fixed w xs s i l e
-
-  pub going_done : length xs ≤ i → run fixed w xs ≡ Done s
-  going_done l = I.rest ∙ run-done fixed w xs s i l

@@ -1,6 +1,7 @@
 -- What a step of planning keeps and does: in the same block, or in a new one after it.
+use Rattle.std.specs.Prelude.{None, Option, Some}
 use Prim.Native.Nat.{ℕ, suc, ◌+◌, ◌-◌, ◌*◌, ◌^◌, ◌≤◌, ◌<◌, zero-le}
-use mathlib.Core.Path.{◌≡◌, refl, sym, ap, ap₂, ◌∙◌, subst, subst₂}
+use mathlib.Core.Path.{◌≡◌, refl, sym, ap, ◌∙◌, subst, subst₂}
 use mathlib.Core.Logic.{◌⊎◌, inl, inr}
 use mathlib.Core.Bool.{Bool, true, false}
 use mathlib.Core.List.{List}
@@ -16,15 +17,11 @@ use Rattle.table.proofs.Slots.{Start, top_start, end-le, start-next}
 use Rattle.table_laws.proofs.Format.{slot-least}
 use Rattle.plan_steps.specs.Steps.{open_at, blockEnd, initial, filled, inNew, opened, step_of}
 use Rattle.plan_steps.specs.Requires.{InHeap, Small}
-use Rattle.plan_steps.specs.declared.Open.{Open}
-use Rattle.plan_steps.specs.declared.Open.TheVariants.{At, Full}
 use Rattle.plan_steps.specs.declared.State.{State}
-use Rattle.plan_steps.specs.declared.Step.{Step}
-use Rattle.plan_steps.specs.declared.Step.TheVariants.{Placed, Ends}
 use Rattle.plan_steps.proofs.Opening.{Found, open-found, open-ends}
 
 -- a state that planning can reach; before the first block `fill` is past the block of no bytes
-pub record Ok (t : Table) (w : ℕ) (s : State) : Type 0 where
+pub record Sane (t : Table) (w : ℕ) (s : State) : Type 0 where
   pub heap : blockEnd s ≤ 2 ^ t.heapBits
   pub next-slot : Start t (blockEnd s)
   pub fits : s.fill ≤ s.size + directHeader t w
@@ -54,15 +51,21 @@ pub record New (t : Table) (w : ℕ) (s s' : State) (o : ℕ) : Type 0 where
 
 -- an object of x bytes was placed at o
 pub record Placing (t : Table) (w : ℕ) (s : State) (x : ℕ) (s' : State) (o : ℕ) : Type 0 where
-  pub ok : Ok t w s'
+  pub ok : Sane t w s'
   pub from : s.start + s.fill ≤ o + directHeader t w
   pub to : o + x ≡ s'.start + s'.fill
   pub within : s'.fill ≤ s'.size
   pub is-used : s'.used ≡ s.used + x
   pub way : Same s s' o ⊎ New t w s s' o
 
+-- what two steps that are the same placed
+pub some-is : (s s' : State) (o o' : ℕ) → ◌≡◌ {A = Option (State × ℕ)} (Some (s, o)) (Some (s', o')) → (s ≡ s') × (o ≡ o')
+some-is s s' o o' e =
+    let p : ◌≡◌ {A = State × ℕ} (s, o) (s', o') = cc in
+    (ap (λ (y : State × ℕ). y.0) p, ap (λ (y : State × ℕ). y.1) p)
+
 module _ (t : Table) (g : t.startBits ≤ t.directBits) (k : t.startBits ≤ t.heapBits) where
-  module _ (w : ℕ) (s : State) (x : ℕ) (I : Ok t w s) where
+  module _ (w : ℕ) (s : State) (x : ℕ) (I : Sane t w s) where
     placed_same : s.fill + x ≤ s.size → Placing t w s x (filled s x) (s.start + s.fill)
     placed_same l =
         let i1 = I.fits in let i2 = I.spent in
@@ -100,20 +103,23 @@ module _ (t : Table) (g : t.startBits ≤ t.directBits) (k : t.startBits ≤ t.h
         }
 
     -- what a step that places an object does
-    pub step-placed : (s' : State) (o : ℕ) → step_of t w s x ≡ Placed s' o → Placing t w s x s' o
+    pub step-placed : (s' : State) (o : ℕ) → step_of t w s x ≡ Some (s', o) → Placing t w s x s' o
     unfolding step_of
     step-placed s' o e = go (leb (s.fill + x) s.size) refl (open_at t (directHeader t w + x) (blockEnd s)) refl e
       where
-        go : (u : Bool) → leb (s.fill + x) s.size ≡ u → (v : Open) → open_at t (directHeader t w + x) (blockEnd s) ≡ v
-            → ◌≡◌ {A = Step} (elim u [ true ↦ Placed (filled s x) (s.start + s.fill) | false ↦ opened t w s x v ]) (Placed s' o) → Placing t w s x s' o
-        go true p v q e = subst₂ (Placing t w s x) (let z : filled s x ≡ s' = cc in z) (let z : s.start + s.fill ≡ o = cc in z) (placed_same (leb-true (s.fill + x) s.size p))
-        go false p (At b) q e =
-            subst₂ (Placing t w s x) (let z : inNew t w s x b ≡ s' = cc in z) (let z : b.start + directHeader t w ≡ o = cc in z)
+        go : (u : Bool) → leb (s.fill + x) s.size ≡ u → (v : Option Slot) → open_at t (directHeader t w + x) (blockEnd s) ≡ v
+            → ◌≡◌ {A = Option (State × ℕ)} (elim u [ true ↦ Some (filled s x, s.start + s.fill) | false ↦ opened t w s x v ]) (Some (s', o)) → Placing t w s x s' o
+        go true p v q e =
+            let both = some-is (filled s x) s' (s.start + s.fill) o e in
+            subst₂ (Placing t w s x) both.0 both.1 (placed_same (leb-true (s.fill + x) s.size p))
+        go false p (Some b) q e =
+            let both = some-is (inNew t w s x b) s' (b.start + directHeader t w) o e in
+            subst₂ (Placing t w s x) both.0 both.1
             (placed-new b (open-found t g k (directHeader t w + x) (blockEnd s) I.next-slot b q))
-        go false p Full q e = absurd (let z : ◌≡◌ {A = ℕ} 0 1 = cc in omega arith)
+        go false p None q e = absurd cc
 
 module _ (t : Table) (w : ℕ) (s : State) (x : ℕ) where
-  pub step_same : s.fill + x ≤ s.size → step_of t w s x ≡ Placed (filled s x) (s.start + s.fill)
+  pub step_same : s.fill + x ≤ s.size → step_of t w s x ≡ Some (filled s x, s.start + s.fill)
   unfolding step_of
   step_same l = rw (le-leb (s.fill + x) s.size l, step_of)
 
@@ -129,7 +135,7 @@ start-zero t g =
     subst (Start t) (let z : 0 * 2 ^ t.startBits ≡ 0 = omega arith in z)
     (top_start t g 0 t.startBits (record { lo = omega arith; up = pow_pos (suc t.width_bits); hi = λ z. absurd (omega arith) }))
 
-pub ok-initial : (t : Table) (w : ℕ) → t.startBits ≤ t.directBits → Ok t w (initial t w)
+pub ok-initial : (t : Table) (w : ℕ) → t.startBits ≤ t.directBits → Sane t w (initial t w)
 ok-initial t w g = record {
   heap = zero-le;
   next-slot = start-zero t g;
@@ -145,22 +151,8 @@ pub size_fits : (w x : ℕ) → w ≤ 255 → x ≤ maxManaged fixed w → direc
 unfolding maxManaged directHeader offsetBytes
 size_fits w x l h = omega arith
 
-pub in_heap : (n c : ℕ) (v : Open) (b : Slot) → v ≡ open_at fixed n c → v ≡ At b → InHeap b
+pub in_heap : (n c : ℕ) (v : Option Slot) (b : Slot) → v ≡ open_at fixed n c → v ≡ Some b → InHeap b
 in_heap n c v b e f = let z = open-ends fixed (omega arith) (omega arith) n c b (sym e ∙ f) in record { some = z.0; ends = z.1 }
-
-module _ (w : ℕ) (s : State) (x : ℕ) where
-  pub same-is : (s' : State) → s.fill + x ≤ s.size → s' ≡ filled s x → Placed s' (s.start + s.fill) ≡ step_of fixed w s x
-  same-is s' l e = ap (λ (y : State). Placed y (s.start + s.fill)) e ∙ sym (step_same fixed w s x l)
-
-  module _ (h : ℕ) (he : h ≡ directHeader fixed w) (v : Open) (e : v ≡ open_at fixed (h + x) (blockEnd s)) where
-    opened-is : opened fixed w s x v ≡ opened fixed w s x (open_at fixed (directHeader fixed w + x) (blockEnd s))
-    opened-is = ap (opened fixed w s x) e ∙ ap (λ (y : ℕ). opened fixed w s x (open_at fixed (y + x) (blockEnd s))) he
-
-    pub new_is : (b : Slot) (s' : State) → v ≡ At b → s' ≡ inNew fixed w s x b → Placed s' (b.start + h) ≡ opened fixed w s x (open_at fixed (directHeader fixed w + x) (blockEnd s))
-    new_is b s' f n = ap₂ (λ (y : State) (z : ℕ). Placed y (b.start + z)) n he ∙ sym (ap (opened fixed w s x) f) ∙ opened-is
-
-    pub ends_is : v ≡ Full → Ends ≡ opened fixed w s x (open_at fixed (directHeader fixed w + x) (blockEnd s))
-    ends_is f = sym (ap (opened fixed w s x) f) ∙ opened-is
 
 -- sizes within the limit are below 65,536
 pub limit-small : (w : ℕ) (xs : List ℕ) → Small (maxManaged fixed w) xs → Small 65536 xs

@@ -1,9 +1,8 @@
 -- What some functions ask of their arguments, so that their sums stay within 64 bits.
-use Rattle.std.specs.Prelude.{ℕ, ◌+◌, ◌-◌, ◌^◌, ◌≤◌, ◌<◌, ◌≡◌, List, length, get_or}
+use Rattle.std.specs.Prelude.{ℕ, ◌+◌, ◌-◌, ◌^◌, ◌≤◌, ◌<◌, ◌≡◌, List, length, slice_index, Ok}
 use Rattle.table.specs.Table.{fixed}
 use Rattle.table.specs.declared.Slot.{Slot}
 use Rattle.plan_steps.specs.declared.State.{State}
-use Rattle.plan_steps.specs.declared.Run.TheVariants.{Done}
 use Rattle.plan_steps.specs.Steps.{blockEnd, run}
 
 -- a state that planning can reach: its blocks lie in the heap
@@ -22,9 +21,13 @@ pub record InHeap (b : Slot) : Type 0 where
 
 -- no size is above the limit
 pub record Small (limit : ℕ) (xs : List ℕ) : Type 0 where
-  pub small : (k : ℕ) → k < length xs → get_or xs k 0 ≤ limit
+  pub small : (k : ℕ) → k < length xs → slice_index xs k ≤ limit
 
 -- the heap space holds all objects
 pub record Runs (w : ℕ) (xs : List ℕ) : Type 0 where
   pub last : State
-  pub is : run fixed w xs ≡ Done last
+  pub is : run fixed w xs ≡ Ok last
+
+-- a state after the objects of some list: what a plan under way keeps
+abbrev pub IsReached : ℕ → State → Type 0
+IsReached w s = ∥ ((xs : List ℕ) × (run fixed w xs ≡ Ok s)) ∥₁

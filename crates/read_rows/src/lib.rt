@@ -1,15 +1,15 @@
-// The doubling table as the header of a heap gives it, whatever its numbers are: the sizes of its rows,
-// where the direct rows end, and what a nested block has and spans. A size that would pass 2^64 - 1
-// counts as that number.
+//! The doubling table as the header of a heap gives it, whatever its numbers are: the sizes of its rows,
+//! where the direct rows end, and what a nested block has and spans. A size that would pass 2^64 - 1
+//! counts as that number.
 #![tactic(auto)]
 
 ghost use Rattle.std.specs.Prelude.{◌≡◌, ◌≤◌, ◌<◌};
-ghost use Rattle.read_rows.specs.Rows.{blockSize, directRows, sizeToRows, heapSize, slotSize};
+ghost use Rattle.read_rows.specs.Rows.{blockSize, directRows, sizeToRows, heapSize, slotSize, SpansDouble};
 
-use numbers::{log2_floor, saturating_mul, saturating_shl, saturating_sub};
+use numbers::{log2_floor, saturating_mul, saturating_shl};
 
-// The header's fields that shape the heap.
-#[derive(Clone, Copy)]
+/// The header's fields that shape the heap.
+#[derive(Clone, Copy, Debug, PartialEq, Eq)]
 pub struct DoublingTable {
     pub table_width: u16,
     pub starting_block_size: u64,
@@ -18,12 +18,12 @@ pub struct DoublingTable {
 }
 
 impl DoublingTable {
-    // The size of a block in a row: the starting block's in rows 0 and 1, then twice the row before.
+    /// The size of a block in a row: the starting block's in rows 0 and 1, then twice the row before.
     #[tactic(auto, unfolding(crate::specs::Rows::blockSize))]
     pub fn block_size_for_row(self, row: u64) -> u64
         ensures { result ≡ blockSize self row }
     {
-        let doublings = saturating_sub(row, 1);
+        let doublings = row.saturating_sub(1);
         if doublings < 64 {
             saturating_shl(self.starting_block_size, doublings)
         } else {
@@ -31,17 +31,17 @@ impl DoublingTable {
         }
     }
 
-    // How many rows hold direct blocks. The field `start_root_rows` says nothing about it.
+    /// How many rows hold direct blocks. The field `start_root_rows` says nothing about it.
     #[tactic(auto, unfolding(crate::specs::Rows::directRows))]
     pub fn max_direct_rows(self) -> u64
         ensures { result ≡ directRows self }
     {
         let start = log2_floor(self.starting_block_size);
         let largest = log2_floor(self.max_direct_block_size);
-        saturating_sub(largest, start) + 2
+        largest.saturating_sub(start) + 2
     }
 
-    // How many rows a nested block has that spans `size` bytes.
+    /// How many rows a nested block has that spans `size` bytes.
     #[tactic(auto, unfolding(crate::specs::Rows::sizeToRows))]
     pub fn size_to_rows(self, size: u64) -> u64
         ensures { result ≡ sizeToRows self size }
@@ -49,10 +49,10 @@ impl DoublingTable {
         let start = log2_floor(self.starting_block_size);
         let width = log2_floor(self.table_width as u64);
         let bits = log2_floor(size);
-        saturating_sub(bits, start + width) + 1
+        bits.saturating_sub(start + width) + 1
     }
 
-    // What a block of `nrows` rows spans: row 0, doubled by each row after it.
+    /// What a block of `nrows` rows spans: row 0, doubled by each row after it.
     #[tactic(auto, using(crate::proofs::Rows::span))]
     fn indirect_block_heap_size(self, nrows: u64) -> u64
         requires { (0 < nrows) × (nrows ≤ 64) }
@@ -62,7 +62,7 @@ impl DoublingTable {
         saturating_shl(first, nrows - 1)
     }
 
-    // What a slot of a row spans: a direct block, or the nested block there.
+    /// What a slot of a row spans: a direct block, or the nested block there.
     #[tactic(auto, using(crate::proofs::Rows::rows_le), unfolding(crate::specs::Rows::slotSize))]
     pub fn slot_size(self, row: u64) -> u64
         ensures { result ≡ slotSize self row }
@@ -75,3 +75,8 @@ impl DoublingTable {
         }
     }
 }
+
+/// A law, for every header: what a nested block spans is its first row, doubled by each row after it.
+pub fn rows_double_what_is_spanned()
+    ensures { SpansDouble }
+{}

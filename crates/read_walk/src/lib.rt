@@ -1,80 +1,122 @@
-// From the root block of a heap down to an object's bytes. Block checksums are not tested.
+//! From the root block of a heap down to an object's bytes. Block checksums are not tested.
 #![tactic(auto)]
 
-mod direct;
+pub mod place;
 
-ghost use Rattle.std.specs.Prelude.{◌≡◌};
-ghost use Rattle.read_blocks.specs.Blocks.{walkFrom};
-ghost use Rattle.read_walk.specs.Root.{fromRoot};
+ghost use Rattle.std.specs.Prelude.{◌≡◌, ◌+◌, ◌≤◌, length, IfOk};
+ghost use Rattle.read_walk.specs.Walk.{direct_at, walk_from, root_walk};
 
-use crate::direct::read_from_direct_block;
-use fields::convert::is_undefined_addr;
-use numbers::saturating_add;
-use read_blocks::{Found, HeapChild};
-use read_children::child_of_block;
+use crate::place::Place;
+use fields::convert::{is_undefined_addr, to_usize};
+use fields::ensure_len;
+use read_children::{HeapChild, find_child_at};
 use read_rows::DoublingTable;
 use refusals::FormatError;
 
-// An object of `length` bytes at heap offset `target`, below the indirect root block at `addr`: child by child, through
-// at most 64 blocks.
-fn read_from_indirect_block(
-    table: DoublingTable,
+/// An object of `len` bytes at heap offset `target`, in the direct block at `addr` that begins at heap
+/// offset `start`.
+#[tactic(auto, unfolding(crate::specs::Walk::direct_at))]
+fn read_from_direct_block(
     file: &[u8],
     addr: u64,
-    nrows: u64,
+    start: u64,
     target: u64,
-    length: u64,
-    offset_size: u8,
-) -> Found
-    ensures { result ≡ walkFrom table file.now offset_size target length 64 addr nrows 0 }
+    len: u64,
+) -> Result<Place, FormatError>
+    ensures value { result ≡ direct_at file.now addr start target len }
+    ensures in_file { IfOk result (λ place. place.position + place.length ≤ length file.now) }
 {
-    let mut block = addr;
-    let mut rows = nrows;
-    let mut start: u64 = 0;
-    let mut depth: u64 = 64;
-    while depth > 0 {
-        match child_of_block(table, file, block, rows, start, target, offset_size) {
-            HeapChild::Direct(child, _, offset) => {
-                return read_from_direct_block(file, child, offset, target, length);
+    let distance = target.saturating_sub(start);
+    let overflow = FormatError::OffsetOverflow {
+        address: addr,
+        distance,
+    };
+    let position = addr.checked_add(distance).ok_or(overflow)?;
+    ensure_len(file, to_usize(position), to_usize(len))?;
+    Ok(Place {
+        position,
+        length: len,
+    })
+}
+
+// An object of `len` bytes at heap offset `target`, below the indirect root block at `root`: child by child, through
+// at most 64 blocks.
+#[tactic(auto, using(crate::proofs::Walking::walk_more, crate::proofs::Walking::walk_none), unfolding(numbers::specs::Numbers::saturated))]
+fn read_from_indirect_block(
+    table: &DoublingTable,
+    file: &[u8],
+    root: u64,
+    root_rows: u64,
+    target: u64,
+    len: u64,
+    offset_size: u8,
+) -> Result<Place, FormatError>
+    ensures value { result
+        ≡ walk_from table.now file.now offset_size target len 64 root root_rows 0 }
+    ensures in_file { IfOk result (λ place. place.position + place.length ≤ length file.now) }
+{
+    let (mut block, mut rows, mut start) = (root, root_rows, 0);
+    for _depth in 0..64u64 {
+        let found = find_child_at(table, file, block, rows, start, target, offset_size)?;
+        let Some(child) = found else {
+            return Err(FormatError::UnexpectedEof {
+                expected: target.saturating_add(len),
+                available: file.len() as u64,
+            });
+        };
+        match child {
+            HeapChild::Direct {
+                addr,
+                heap_offset,
+                ..
+            } => {
+                return read_from_direct_block(file, addr, heap_offset, target, len);
             }
-            HeapChild::Indirect(child, n, offset) => {
-                block = child;
-                rows = n;
-                start = offset;
-                depth = depth - 1;
-            }
-            HeapChild::Missing => {
-                let end = saturating_add(target, length);
-                return Found::Refused(FormatError::UnexpectedEof(end, file.len() as u64));
-            }
-            HeapChild::Refused(e) => {
-                return Found::Refused(e);
+            HeapChild::Indirect {
+                addr,
+                nrows,
+                heap_offset,
+            } => {
+                block = addr;
+                rows = nrows;
+                start = heap_offset;
             }
         }
     }
-    Found::Refused(FormatError::DepthExceeded)
+    Err(FormatError::DepthExceeded)
 }
 
-// The same from the root block at `root` on. A direct root, which has no rows, is read without a look at the
-// offset size.
-#[tactic(auto, unfolding(crate::specs::Root::fromRoot))]
+/// The same from the root block at `root` on. A direct root, which has no rows, is read without a look at the
+/// offset size.
+#[tactic(auto, unfolding(crate::specs::Walk::root_walk))]
 pub fn read_from_root(
-    table: DoublingTable,
+    table: &DoublingTable,
     file: &[u8],
     root: u64,
     nrows: u16,
     target: u64,
-    length: u64,
+    len: u64,
     offset_size: u8,
-) -> Found
-    ensures { result ≡ fromRoot table file.now root nrows target length offset_size }
+) -> Result<Place, FormatError>
+    ensures value { result ≡ root_walk table.now file.now root nrows target len offset_size }
+    ensures in_file { IfOk result (λ place. place.position + place.length ≤ length file.now) }
 {
     if is_undefined_addr(root, offset_size) {
-        return Found::Refused(FormatError::UnexpectedEof(1, 0));
+        return Err(FormatError::UnexpectedEof {
+            expected: 1,
+            available: 0,
+        });
     }
     if nrows == 0 {
-        read_from_direct_block(file, root, 0, target, length)
-    } else {
-        read_from_indirect_block(table, file, root, nrows as u64, target, length, offset_size)
+        return read_from_direct_block(file, root, 0, target, len);
     }
+    read_from_indirect_block(
+        table,
+        file,
+        root,
+        u64::from(nrows),
+        target,
+        len,
+        offset_size,
+    )
 }

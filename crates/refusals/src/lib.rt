@@ -1,75 +1,46 @@
-// Why a call is refused: the causes, and the number and two values that each is reported by.
+//! Why a call is refused: the causes, and the number and two values that each is reported by.
 #![tactic(auto)]
 
-ghost use Rattle.std.specs.Prelude.{◌≡◌};
-ghost use Rattle.refusals.specs.Refusals.{answer, refusal};
+pub mod answer;
 
-// The causes, named as in the Rust where it has them, with the values that are reported.
-#[derive(Clone, Copy)]
+pub use answer::{Answer, Reported};
+use thiserror::Error;
+
+/// Why a heap is not read or not written. A cause that the Rust crate has, too, has its name.
+#[derive(Clone, Copy, Debug, PartialEq, Eq, Error)]
 pub enum FormatError {
-    UnexpectedEof(u64, u64), // expected, available
-    InvalidOffsetSize(u8), // size
-    InvalidLengthSize(u8), // size
+    #[error("the bytes end too early: the end expected is {expected}, and {available} bytes are there")]
+    UnexpectedEof { expected: u64, available: u64 },
+    #[error("the offset size is {0}, not 2, 4 or 8")]
+    InvalidOffsetSize(u8),
+    #[error("the length size is {0}, not 2, 4 or 8")]
+    InvalidLengthSize(u8),
+    #[error("no signature: FRHP has to begin the heap's header, FHIB an indirect block")]
     InvalidFractalHeapSignature,
-    InvalidFractalHeapVersion(u8), // version
-    InvalidHeapIdType(u8), // type
-    ChecksumMismatch(u32, u32), // stored, computed
+    #[error("the header's version is {0}, not 0")]
+    InvalidFractalHeapVersion(u8),
+    #[error("the ID is of type {0}, not a managed object's, which is 0")]
+    InvalidHeapIdType(u8),
+    #[error("the header's checksum differs: {stored} is stored, {computed} computed")]
+    ChecksumMismatch { stored: u32, computed: u32 },
+    #[error("the heap is filtered, and objects of a filtered heap are not read")]
     UnsupportedFilteredHeapObject,
-    OffsetOverflow(u64, u64), // address, distance
+    #[error("a block's address {address} plus a distance of {distance} is past 2^64 - 1")]
+    OffsetOverflow { address: u64, distance: u64 },
+    #[error("the depth is used up: 64 blocks down and still no object")]
     DepthExceeded,
-    ObjectTooLarge(u64, u64), // index, size
-    HeapSpaceExhausted(u64), // index
-    SliceTooShort(u64, u64), // needed, lent
-    ObjectBytesMismatch(u64, u64), // sum of the sizes, bytes given
-    HeaderAddressTooLarge(u64), // address
-    RegionAddressTooLarge(u64, u64), // address, region size
-    HeapIdTooLarge(u64, u64), // offset, length
-}
-
-// An answer in numbers: the refusal's number, 0 where there is none, and the two values.
-#[derive(Clone, Copy)]
-pub struct Answer {
-    pub number: u32,
-    pub first: u64,
-    pub second: u64,
-}
-
-// An answer of this number with these values.
-fn numbered(number: u32, first: u64, second: u64) -> Answer
-    ensures { result ≡ answer number first second }
-{
-    Answer {
-        number,
-        first,
-        second,
-    }
-}
-
-// The number and the values of a refusal.
-pub fn refused(e: FormatError) -> Answer
-    ensures { result ≡ refusal e }
-{
-    match e {
-        FormatError::UnexpectedEof(expected, available) => numbered(1, expected, available),
-        FormatError::InvalidOffsetSize(size) => numbered(2, size as u64, 0),
-        FormatError::InvalidLengthSize(size) => numbered(3, size as u64, 0),
-        FormatError::InvalidFractalHeapSignature => numbered(4, 0, 0),
-        FormatError::InvalidFractalHeapVersion(version) => numbered(5, version as u64, 0),
-        FormatError::InvalidHeapIdType(kind) => numbered(6, kind as u64, 0),
-        FormatError::ChecksumMismatch(stored, computed) => numbered(
-            7,
-            stored as u64,
-            computed as u64,
-        ),
-        FormatError::UnsupportedFilteredHeapObject => numbered(8, 0, 0),
-        FormatError::OffsetOverflow(address, distance) => numbered(9, address, distance),
-        FormatError::DepthExceeded => numbered(10, 64, 0),
-        FormatError::ObjectTooLarge(index, size) => numbered(11, index, size),
-        FormatError::HeapSpaceExhausted(index) => numbered(12, index, 0),
-        FormatError::SliceTooShort(needed, lent) => numbered(13, needed, lent),
-        FormatError::ObjectBytesMismatch(sum, given) => numbered(14, sum, given),
-        FormatError::HeaderAddressTooLarge(address) => numbered(15, address, 0),
-        FormatError::RegionAddressTooLarge(address, size) => numbered(15, address, size),
-        FormatError::HeapIdTooLarge(offset, length) => numbered(16, offset, length),
-    }
+    #[error("object {index} has {size} bytes, more than a managed object can have")]
+    ObjectTooLarge { index: u64, size: u64 },
+    #[error("the heap space ends at object {0}: no slot is left that holds it")]
+    HeapSpaceExhausted(u64),
+    #[error("a list, region or slice is too short: {needed} needed, {lent} lent")]
+    SliceTooShort { needed: u64, lent: u64 },
+    #[error("the objects' sizes add up to {sum} bytes, and {given} were given")]
+    ObjectBytesMismatch { sum: u64, given: u64 },
+    #[error("the header's address {0} is too large for the offset size")]
+    HeaderAddressTooLarge(u64),
+    #[error("the region at {address} of {size} bytes ends past the offset size's largest address")]
+    RegionAddressTooLarge { address: u64, size: u64 },
+    #[error("no ID holds offset {offset} and length {length}: they must be below 2^40 and below 2^16")]
+    HeapIdTooLarge { offset: u64, length: u64 },
 }

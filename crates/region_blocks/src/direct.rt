@@ -1,40 +1,45 @@
-// A direct block as bytes in a lent slice. The function has a `requires`, since its callers know the room that there
-// is; it serves our own crates and is no part of the interface.
-ghost use Rattle.std.specs.Prelude.{◌≡◌, ◌+◌, ◌≤◌, length};
+//! A direct block.
+ghost use Rattle.std.specs.Prelude.{◌≡◌, ◌+◌, ◌++◌, ◌≤◌, length, replicate};
+ghost use Rattle.fields.specs.Signatures.{directSignature};
 ghost use Rattle.table.specs.Table.{fixed};
 ghost use Rattle.table.specs.Sizes.{directHeader};
-ghost use Rattle.region_blocks.specs.Blocks.{directBlock};
-ghost use Rattle.region_blocks.specs.Storing.{stored};
+ghost use Rattle.region_blocks.specs.Blocks.{blockHead, directBody, directBlock};
 
-use crate::{Site, put_bytes, put_head, put_number, put_run};
+use crate::{Site, put_head};
 use checksum::jenkins_lookup3;
+use stores::Writer;
 use table_sizes::direct_block_header;
 
-// FHDB as a number, the version 0 behind it.
-const DIRECT: u64 = 0x4244_4846;
-
-// A direct block of `size` bytes at `at`: head, objects and zeros, then the checksum of it all, taken while
-// its own field is zero.
-#[tactic(auto, using(table::proofs::Sizes::header_is))]
-pub fn write_direct_block(
-    region: &mut [u8],
-    at: usize,
-    offset: u64,
-    size: usize,
-    objects: &[u8],
-    site: Site,
-)
-    requires size_in_bounds { at + size ≤ length region.old }
-    requires objects_bound { directHeader fixed site.offset_size + length objects.now ≤ size }
-    ensures { region.new ≡ stored region.old at (directBlock fixed site.offset_size site.heap_header_address offset size objects.now) }
+// All but the checksum, whose field is zero.
+#[tactic(auto, unfolding(fields::specs::Signatures::directSignature), using(table::proofs::Sizes::header_is))]
+fn write_unsummed(block: &mut [u8], offset: u64, objects: &[u8], site: Site)
+    requires narrow { site.offset_size ≤ 8 }
+    requires room { directHeader fixed site.offset_size + length objects.now ≤ length block.old }
+    ensures { block.new
+        ≡ blockHead fixed site.offset_size directSignature site.heap_header_address offset
+        ++ (replicate 4 0 ++ directBody fixed site.offset_size (length block.old) objects.now) }
 {
     let header = direct_block_header(site.offset_size) as usize;
-    let end = at + size;
-    let body = at + header;
-    put_head(region, at, DIRECT, offset, site);
-    put_number(region, body - 4, 0, 4);
-    put_bytes(region, body, objects);
-    put_run(region, body + objects.len(), end, 0);
-    let sum = jenkins_lookup3(&region[at..end]);
-    put_number(region, body - 4, sum as u64, 4);
+    let padding = block.len() - header - objects.len();
+    let mut writer = Writer::new(block);
+    put_head(&mut writer, b"FHDB", offset, site);
+    writer.put_u32(0);
+    writer.put(objects);
+    writer.fill(0, padding);
+}
+
+/// Writes a direct block over all of `block`: head, objects and zeros, then the checksum of it all, taken while its own
+/// field is zero. `offset` is the block's heap offset, `objects` the bytes of its objects.
+#[tactic(auto, using(table::proofs::Sizes::header_is))]
+pub fn write_direct_block(block: &mut [u8], offset: u64, objects: &[u8], site: Site)
+    requires narrow { site.offset_size ≤ 8 }
+    requires room { directHeader fixed site.offset_size + length objects.now ≤ length block.old }
+    ensures { block.new
+        ≡ directBlock fixed site.offset_size site.heap_header_address offset
+        (length block.old) objects.now }
+{
+    write_unsummed(block, offset, objects, site);
+    let header = direct_block_header(site.offset_size) as usize;
+    let sum = jenkins_lookup3(block);
+    block[header - 4..header].copy_from_slice(&sum.to_le_bytes());
 }

@@ -1,24 +1,22 @@
-// An indirect block as bytes in a lent slice, around its entries. The function has a `requires`, since its callers
-// know the room that there is; it serves our own crates and is no part of the interface.
-ghost use Rattle.std.specs.Prelude.{◌≡◌, ◌+◌, ◌≤◌, length, take, drop};
+//! An indirect block around its entries.
+ghost use Rattle.std.specs.Prelude.{◌≡◌, ◌+◌, ◌≤◌, length};
 ghost use Rattle.table.specs.Table.{fixed};
 ghost use Rattle.region_blocks.specs.Blocks.{indirectBlock};
-ghost use Rattle.region_blocks.specs.Storing.{stored};
+ghost use Rattle.region_blocks.specs.Entries.{entries_in};
 
-use crate::{Site, put_head, put_number};
+use crate::{Site, write_head};
 use checksum::jenkins_lookup3;
 
-// FHIB as a number, the version 0 behind it.
-const INDIRECT: u64 = 0x4249_4846;
-
-// The head of an indirect block whose entries of `entries` bytes stand in their place, and the checksum of
-// head and entries after them.
-pub fn seal_indirect(region: &mut [u8], at: usize, entries: usize, offset: u64, site: Site)
-    requires { at + (14 + site.offset_size + entries) ≤ length region.old }
-    ensures { region.new ≡ stored region.old at (indirectBlock fixed site.offset_size site.heap_header_address offset (take entries (drop (at + (10 + site.offset_size)) region.old))) }
+/// Writes the head of an indirect block at the heap offset `offset`, whose entries stand in their place in `block`, and
+/// behind them the checksum of head and entries.
+#[tactic(auto, unfolding(crate::specs::Blocks::indirectBlock, fields::specs::Signatures::indirectSignature), using(stores::proofs::Writing::le_four))]
+pub fn seal_indirect(block: &mut [u8], offset: u64, site: Site)
+    requires narrow { site.offset_size ≤ 8 }
+    requires room { 14 + site.offset_size ≤ length block.old }
+    ensures { block.new ≡ indirectBlock fixed site.offset_size site.heap_header_address offset
+        (entries_in site.offset_size block.old) }
 {
-    let end = at + (10 + site.offset_size as usize + entries);
-    put_head(region, at, INDIRECT, offset, site);
-    let sum = jenkins_lookup3(&region[at..end]);
-    put_number(region, end, sum as u64, 4);
+    let (summed, seal) = block.split_at_mut(block.len() - 4);
+    write_head(summed, b"FHIB", offset, site);
+    seal.copy_from_slice(&jenkins_lookup3(summed).to_le_bytes());
 }

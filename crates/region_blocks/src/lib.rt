@@ -1,65 +1,53 @@
-// What the blocks of a fractal heap are stored with: numbers, runs, copies, and the head that both kinds begin with.
-// The functions have a `requires`, since their callers know the room that there is; they serve our own crates and
-// are no part of the interface.
+//! The blocks of a fractal heap as bytes: each is written over all of a lent slice.
 #![tactic(auto)]
 
 pub mod direct;
 pub mod indirect;
 
-ghost use Rattle.std.specs.Prelude.{◌≡◌, ◌++◌, ◌+◌, ◌-◌, ◌≤◌, length, replicate};
+ghost use Rattle.std.specs.Prelude.{◌≡◌, ◌+◌, ◌++◌, ◌≤◌, ◌∷◌, [], length, drop};
 ghost use Rattle.little_endian.specs.LittleEndian.{le};
-ghost use Rattle.region_blocks.specs.Storing.{stored};
+ghost use Rattle.table.specs.Table.{fixed};
+ghost use Rattle.stores.specs.Writing.{written, behind};
+ghost use Rattle.region_blocks.specs.Blocks.{blockHead};
 
-use stores::store_le;
+use stores::Writer;
 
-// What all blocks of a region share: the width of addresses, and where the heap's header and the region
-// stand in the file.
-#[derive(Clone, Copy)]
+/// What all blocks of a region share: the width of addresses in bytes, and where the heap's header and the region
+/// stand in the file.
+#[derive(Clone, Copy, Debug, PartialEq, Eq)]
 pub struct Site {
     pub offset_size: u8,
     pub heap_header_address: u64,
     pub region_address: u64,
 }
 
-// The `width` low bytes of a number.
-pub fn put_number(region: &mut [u8], at: usize, value: u64, width: usize)
-    requires { at + width ≤ length region.old }
-    ensures { region.new ≡ stored region.old at (le width value) }
+// How both kinds begin: signature, version 0, the heap header's address, the block's heap offset.
+#[tactic(auto, unfolding(crate::specs::Blocks::blockHead, table::specs::Sizes::offsetBytes))]
+fn put_head(writer: &mut Writer<'_>, signature: &[u8; 4], offset: u64, site: Site)
+    requires narrow { site.offset_size ≤ 8 }
+    requires room { writer.old.at + 10 + site.offset_size ≤ length writer.old.bytes.now }
+    ensures same_reference { writer.new.bytes.ghost_name ≡ writer.old.bytes.ghost_name }
+    ensures at { writer.new.at ≡ writer.old.at + 10 + site.offset_size }
+    ensures len { length writer.new.bytes.now ≡ length writer.old.bytes.now }
+    ensures written { written writer.new
+        ≡ written writer.old ++ blockHead fixed site.offset_size signature.now
+        site.heap_header_address offset }
+    ensures behind { behind writer.new ≡ drop (10 + site.offset_size) (behind writer.old) }
 {
-    store_le(region, at, value, width);
+    writer.put(signature);
+    writer.fill(0, 1); // Version
+    writer.put_number(site.heap_header_address, site.offset_size);
+    writer.put_number(offset, 5);
 }
 
-// Signature and version, then the heap header's address and the block's heap offset.
-pub fn put_head(region: &mut [u8], at: usize, signature: u64, offset: u64, site: Site)
-    requires { at + 10 + site.offset_size ≤ length region.old }
-    ensures { region.new ≡ stored region.old at (le 5 signature ++ (le site.offset_size site.heap_header_address ++ le 5 offset)) }
+// The head over the front of a block, whose other bytes are left.
+#[tactic(auto, using(crate::proofs::Writing::front_written))]
+fn write_head(block: &mut [u8], signature: &[u8; 4], offset: u64, site: Site)
+    requires narrow { site.offset_size ≤ 8 }
+    requires room { 10 + site.offset_size ≤ length block.old }
+    ensures { block.new
+        ≡ blockHead fixed site.offset_size signature.now site.heap_header_address offset
+        ++ drop (10 + site.offset_size) block.old }
 {
-    let width = site.offset_size as usize;
-    put_number(region, at, signature, 5);
-    put_number(region, at + 5, site.heap_header_address, width);
-    put_number(region, at + 5 + width, offset, 5);
-}
-
-// The same byte from `at` up to `end`.
-pub fn put_run(region: &mut [u8], at: usize, end: usize, byte: u8)
-    requires { (at ≤ end) × (end ≤ length region.old) }
-    ensures { region.new ≡ stored region.old at (replicate (end - at) byte) }
-{
-    let mut i = at;
-    while i < end {
-        region[i] = byte;
-        i += 1;
-    }
-}
-
-// A copy of all of `bytes`.
-pub fn put_bytes(region: &mut [u8], at: usize, bytes: &[u8])
-    requires { at + length bytes.now ≤ length region.old }
-    ensures { region.new ≡ stored region.old at bytes.now }
-{
-    let mut i: usize = 0;
-    while i < bytes.len() {
-        region[at + i] = bytes[i];
-        i += 1;
-    }
+    put_head(&mut Writer::new(block), signature, offset, site);
 }

@@ -24,13 +24,13 @@ use Rattle.region_indirects.specs.Requires.{rowsLeft}
 
 -- ---- the next placed block
 
-pub begins-some : (ss : List ℕ) (i end : ℕ) → i < length ss → ltb (get_or ss i 0) end ≡ beginsBefore (drop i ss) end
+pub begins_some : (ss : List ℕ) (i end : ℕ) → i < length ss → ltb (get_or ss i 0) end ≡ beginsBefore (drop i ss) end
 unfolding beginsBefore
-begins-some ss i end h = rw (drop-cons ss i 0 h)
+begins_some ss i end h = rw (drop-cons ss i 0 h)
 
-pub begins-none : (ss : List ℕ) (i end : ℕ) → length ss ≤ i → false ≡ beginsBefore (drop i ss) end
+pub begins_none : (ss : List ℕ) (i end : ℕ) → length ss ≤ i → false ≡ beginsBefore (drop i ss) end
 unfolding beginsBefore
-begins-none ss i end h = rw (drop_of_length-le ss {i = i} h)
+begins_none ss i end h = rw (drop_of_length-le ss {i = i} h)
 
 -- ---- the definition's equations, at any table
 
@@ -256,9 +256,6 @@ size_small {row} {size} h e = let m : 2 ^ (10 + (row - 1)) ≤ 2 ^ 38 = pow_mono
 -- some slots of one of these rows, and the entries of some slots
 pub row_small : {row size left : ℕ} → row < 29 → size ≡ 2 ^ rowBits fixed row → left ≤ 4 → left * size ≤ left * 2 ^ 38
 row_small {row} {size} {left} h e l = mul-le-mul_left left (size_small {row = row} {size = size} h e)
-
-pub entries-small : {left w : ℕ} → left ≤ 4 → w ≤ 8 → left * w ≤ 32
-entries-small {left} {w} l n = let m : left * w ≤ 4 * w = mul-le-mul_right w l in omega arith
 
 -- an indirect slot's row
 pub row-high : {row : ℕ} → leb (rowBits fixed row) 16 ≡ false → 8 ≤ row

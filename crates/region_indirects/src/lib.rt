@@ -1,135 +1,137 @@
-// The indirect blocks of a region: a block walks its slots, and an indirect slot opens a block, which is written
-// before the walk goes on. The entries of a block are written on the way back, when its place is known. The
-// functions have a `requires` and serve our own crates; they are no part of the interface.
+//! The indirect blocks of a region: a block walks its slots, and an indirect slot opens a block, which is written
+//! before the walk goes on. The entries of a block are written on the way back, when its place is known.
 #![tactic(auto)]
 
 pub mod cursor;
 
-ghost use Rattle.std.specs.Prelude.{◌+◌, ◌-◌, ◌*◌, ◌^◌, ◌<◌, ◌≤◌, length};
-ghost use Rattle.region_indirects.specs.Requires.{block_of, slots_of, slot_of, Fits, Wrote, WroteSlots};
+ghost use Rattle.std.specs.Prelude.{◌≡◌, ◌+◌, ◌-◌, ◌*◌, ◌^◌, ◌<◌, ◌≤◌, length};
+ghost use Rattle.region_indirects.specs.Requires.{entry_bytes, BlockFits, BlockWritten, SlotsFit, SlotsWritten, SlotFits, SlotWritten};
 
-use crate::cursor::{Child, Cursor, begins_before, next_left, next_row};
+use crate::cursor::{Cursor, begins_before, next_left, next_row};
+use region_blocks::Site;
 use region_blocks::indirect::seal_indirect;
-use region_blocks::{Site, put_number, put_run};
 use table::{is_direct, row_block_size};
 
-// A block of `rows` rows at a heap offset: the blocks in its slots, then the block itself.
-#[cycle(walk)]
-pub fn block_walk(
-    region: &mut [u8],
-    starts: &[u64],
-    site: Site,
-    rows: u64,
-    offset: u64,
-    from: Cursor,
-) -> Child
-    requires rows_bound { (rows ≤ 29) × (offset + rows * 2 ^ 45 + 2 ^ 45 ≤ 2 ^ 62) }
-    requires fits { Fits site starts.now region.old from (block_of site starts.now rows offset from) 0 }
-    ensures { Wrote site.offset_size starts.now region.old region.new from (block_of site starts.now rows offset from) result }
-{
-    let width = site.offset_size as usize;
-    let end = slot_walk(region, starts, site, rows, 0, 4, offset, 10 + width, from);
-    let place = end.place;
-    let entries = 4 * rows as usize * width;
-    seal_indirect(region, place, entries, offset, site);
-    Child {
-        entry: site.region_address + place as u64,
-        cursor: Cursor {
-            index: end.index,
-            place: place + (14 + width + entries),
-            next: end.next,
-        },
-    }
+/// What a walk goes by: where the placed direct blocks begin in the heap, and where all stands in the file.
+#[derive(Clone, Copy)]
+pub struct Walk<'a> {
+    pub starts: &'a [u64],
+    pub site: Site,
 }
 
-// The slots of a block of `rows` rows, from one on that begins the last `left` of its row. Their entries stand
-// from `at` on in the block, whose place is known once the blocks of all of them are written. The slots of a row
-// behind its last block are passed at once.
-#[cycle(walk)]
-fn slot_walk(
-    region: &mut [u8],
-    starts: &[u64],
-    site: Site,
-    rows: u64,
-    row: u64,
-    left: u64,
-    offset: u64,
-    at: usize,
-    from: Cursor,
-) -> Cursor
-    requires rows_bound { (rows ≤ 29) × (row ≤ rows) × (0 < left) × (left ≤ 4) × (offset + (4 * (rows - row) + left) * 2 ^ 38 + rows * 2 ^ 45 ≤ 2 ^ 62) }
-    requires fits { Fits site starts.now region.old from (slots_of site starts.now rows row left offset from) (at + length (slots_of site starts.now rows row left offset from).entries) }
-    ensures { WroteSlots starts.now region.old region.new at from (slots_of site starts.now rows row left offset from) result }
-{
-    if row >= rows {
-        return from;
-    }
-    let width = site.offset_size as usize;
-    let size = row_block_size(row);
-    let row_end = offset + left * size;
-    if !begins_before(starts, from.index, row_end) {
-        let entries = left as usize * width;
-        let end = slot_walk(
+/// What it writes to, and where it stands.
+#[derive(Drop)]
+pub struct Output<'a> {
+    pub region: &'a mut [u8],
+    pub cursor: Cursor,
+}
+
+impl<'a> Output<'a> {
+    /// At the front of a region, the first direct block being at the address `next`.
+    pub fn new(region: &'a mut [u8], next: u64) -> Output<'a>
+        ensures same_reference { result.region.ghost_name ≡ region.entry.ghost_name }
+        ensures region { result.region.now ≡ region.old }
+        ensures cursor { result.cursor ≡ record { index = 0; place = 0; next = next } }
+    {
+        Output {
             region,
-            starts,
-            site,
-            rows,
-            row + 1,
-            4,
-            row_end,
-            at + entries,
-            from,
-        );
-        let first = end.place + at;
-        put_run(region, first, first + entries, 0xFF);
-        return end;
+            cursor: Cursor {
+                index: 0,
+                place: 0,
+                next,
+            },
+        }
     }
-    let child = slot_child(region, starts, site, row, offset, from);
-    let end = slot_walk(
-        region,
-        starts,
-        site,
-        rows,
-        next_row(row, left),
-        next_left(left),
-        offset + size,
-        at + width,
-        child.cursor,
-    );
-    put_number(region, end.place + at, child.entry, width);
-    end
 }
 
-// One slot: without a block, with a direct one, or with a block that is walked in turn.
-#[cycle(walk)]
-fn slot_child(
-    region: &mut [u8],
-    starts: &[u64],
-    site: Site,
-    row: u64,
-    offset: u64,
-    from: Cursor,
-) -> Child
-    requires row_bound { (row < 29) × (offset + row * 2 ^ 45 + 2 ^ 45 ≤ 2 ^ 62) }
-    requires fits { Fits site starts.now region.old from (slot_of site starts.now row offset from) 0 }
-    ensures { Wrote site.offset_size starts.now region.old region.new from (slot_of site starts.now row offset from) result }
+// An address, or the undefined one, over all of a slot.
+fn put_entry(slot: &mut [u8], entry: Option<u64>)
+    requires { length slot.old ≤ 8 }
+    ensures { slot.new ≡ entry_bytes (length slot.old) entry }
 {
-    let size = row_block_size(row);
-    if !begins_before(starts, from.index, offset + size) {
-        return Child {
-            entry: u64::MAX,
-            cursor: from,
-        };
+    match entry {
+        Some(address) => {
+            let bytes = address.to_le_bytes();
+            slot.copy_from_slice(&bytes[..slot.len()]);
+        }
+        None => slot.fill(0xFF),
     }
-    if is_direct(row) {
-        return Child {
-            entry: from.next,
-            cursor: Cursor {
-                index: from.index + 1,
-                place: from.place,
-                next: from.next + size,
-            },
-        };
+}
+
+impl Walk<'_> {
+    /// Writes a block of `rows` rows at a heap offset: the blocks in its slots, then the block itself, whose address is
+    /// given.
+    #[cycle(walk)]
+    pub fn block(&self, out: &mut Output<'_>, rows: u64, offset: u64) -> u64
+        requires rows_bound { (rows ≤ 29) × (offset + rows * 2 ^ 45 + 2 ^ 45 ≤ 2 ^ 62) }
+        requires fits { BlockFits self.now out.old rows offset }
+        ensures same_reference { out.new.region.ghost_name ≡ out.old.region.ghost_name }
+        ensures wrote { BlockWritten self.now out.old rows offset result out.new }
+    {
+        let width = self.site.offset_size as usize;
+        self.slots(out, rows, 0, 4, offset, 10 + width);
+        let place = out.cursor.place;
+        let end = place + (14 + width + 4 * rows as usize * width);
+        seal_indirect(&mut out.region[place..end], offset, self.site);
+        out.cursor.place = end;
+        self.site.region_address + place as u64
     }
-    block_walk(region, starts, site, row - 2, offset, from)
+
+    // The slots of a block of `rows` rows, from one on that begins the last `left` of its row. Their entries stand
+    // from `at` on in the block, whose place is known once the blocks of all of them are written. The slots of a
+    // row behind its last block are passed at once.
+    #[cycle(walk)]
+    fn slots(&self, out: &mut Output<'_>, rows: u64, row: u64, left: u64, offset: u64, at: usize)
+        requires rows_bound { (rows ≤ 29) × (row ≤ rows) × (0 < left) × (left ≤ 4)
+            × (offset + (4 * (rows - row) + left) * 2 ^ 38 + rows * 2 ^ 45 ≤ 2 ^ 62) }
+        requires fits { SlotsFit self.now out.old rows row left offset at }
+        ensures same_reference { out.new.region.ghost_name ≡ out.old.region.ghost_name }
+        ensures wrote { SlotsWritten self.now out.old rows row left offset at out.new }
+    {
+        if row >= rows {
+            return;
+        }
+        let width = self.site.offset_size as usize;
+        let size = row_block_size(row);
+        let row_end = offset + left * size;
+        if !begins_before(self.starts, out.cursor.index, row_end) {
+            let entries = left as usize * width;
+            self.slots(out, rows, row + 1, 4, row_end, at + entries);
+            let first = out.cursor.place + at;
+            out.region[first..first + entries].fill(0xFF);
+            return;
+        }
+        let entry = self.slot(out, row, offset);
+        self.slots(
+            out,
+            rows,
+            next_row(row, left),
+            next_left(left),
+            offset + size,
+            at + width,
+        );
+        let first = out.cursor.place + at;
+        put_entry(&mut out.region[first..first + width], entry);
+    }
+
+    // One slot: without a block, with a direct one, or with a block that is walked in turn.
+    #[cycle(walk)]
+    fn slot(&self, out: &mut Output<'_>, row: u64, offset: u64) -> Option<u64>
+        requires row_bound { (row < 29) × (offset + row * 2 ^ 45 + 2 ^ 45 ≤ 2 ^ 62) }
+        requires fits { SlotFits self.now out.old row offset }
+        ensures same_reference { out.new.region.ghost_name ≡ out.old.region.ghost_name }
+        ensures wrote { SlotWritten self.now out.old row offset result out.new }
+    {
+        let size = row_block_size(row);
+        if !begins_before(self.starts, out.cursor.index, offset + size) {
+            return None;
+        }
+        if is_direct(row) {
+            let address = out.cursor.next;
+            out.cursor.index += 1;
+            out.cursor.next += size;
+            return Some(address);
+        }
+        Some(self.block(out, row - 2, offset))
+    }
 }

@@ -10,9 +10,8 @@ use Rattle.table.specs.Table.{Table, fixed, rowOffset}
 use Rattle.table.specs.Sizes.{indirectSize}
 use Rattle.table_laws.proofs.Format.{slot-least}
 use Rattle.plan_steps.specs.declared.State.{State}
-use Rattle.plan_steps.specs.declared.Run.TheVariants.{Done}
+use Rattle.std.specs.Prelude.{Ok}
 use Rattle.plan.specs.declared.ManagedPlan.{ManagedPlan}
-use Rattle.plan.specs.declared.Planned.TheVariants.{Accepted}
 use Rattle.plan_steps.specs.Steps.{initial, blockEnd, run, planOffsets, planStarts}
 use Rattle.plan_end.specs.End.{endState, rootRows}
 use Rattle.plan.specs.Answer.{bareTotals, rowTotals, totals, plannedFor}
@@ -92,7 +91,7 @@ pub record Rooted (w : ℕ) (xs : List ℕ) (p : ManagedPlan) : Type 0 where
   pub reaches : last_end fixed 0 (planStarts fixed w xs) ≤ rowOffset fixed p.root_rows
   pub opened : state.indirect ≡ openedBy fixed w 0 (planStarts fixed w xs)
 
-module _ (w x : ℕ) (xs : List ℕ) (p : ManagedPlan) (s : State) (ran : run fixed w (x ∷ xs) ≡ Done s) (is : p ≡ totals fixed w (endState fixed w s)) (some : 0 < p.root_rows) where
+module _ (w x : ℕ) (xs : List ℕ) (p : ManagedPlan) (s : State) (ran : run fixed w (x ∷ xs) ≡ Ok s) (is : p ≡ totals fixed w (endState fixed w s)) (some : 0 < p.root_rows) where
   laid-all : Laid fixed w (initial fixed w) (x ∷ xs) (planOffsets fixed w (x ∷ xs)) (planStarts fixed w (x ∷ xs)) s
   laid-all = subst (λ (bs : List ℕ). Laid fixed w (initial fixed w) (x ∷ xs) (planOffsets fixed w (x ∷ xs)) bs s) (sym (starts-some w (x ∷ xs) (omega arith))) (ran-laid w (x ∷ xs) s ran)
 
@@ -130,13 +129,13 @@ module _ (w x : ℕ) (xs : List ℕ) (p : ManagedPlan) (s : State) (ran : run fi
             opened = laid-opened laid-all ∙ zero-add _;
           }
 
-pub rooted : (xs : List ℕ) (o b w : ℕ) (p : ManagedPlan) → plannedFor xs o b w ≡ Accepted p → 0 < p.root_rows → Rooted w xs p
+pub rooted : (xs : List ℕ) (o b w : ℕ) (p : ManagedPlan) → plannedFor xs o b w ≡ Ok p → 0 < p.root_rows → Rooted w xs p
 rooted [] o b w p e l = absurd (let z = one-block [] o b w p e (starts_none w) in omega arith)
 rooted (x ∷ xs) o b w p e l = let G = (accepted (x ∷ xs) o b w p e).1 in rooted-some w x xs p G.state G.ran G.totals-is l
 
 -- ---- the theorems
 
-module _ (xs : List ℕ) (o b w : ℕ) (p : ManagedPlan) (e : plannedFor xs o b w ≡ Accepted p) where
+module _ (xs : List ℕ) (o b w : ℕ) (p : ManagedPlan) (e : plannedFor xs o b w ≡ Ok p) where
   -- the root's place is the length of the indirect blocks before it
   pub indirect-planned : 0 < p.root_rows → (header first directs : ℕ) → IndirectPlanned w xs p header first directs
   indirect-planned l header first directs =

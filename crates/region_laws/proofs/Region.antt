@@ -11,7 +11,7 @@ use Rattle.table.specs.Table.{fixed}
 use Rattle.plan_steps.specs.Steps.{planOffsets, planStarts}
 use Rattle.plan_steps.specs.declared.State.{State}
 use Rattle.plan.specs.declared.ManagedPlan.{ManagedPlan}
-use Rattle.plan.specs.declared.Planned.TheVariants.{Accepted}
+use Rattle.std.specs.Prelude.{Ok}
 use Rattle.plan_end.specs.End.{one_block, endState}
 use Rattle.plan.specs.Answer.{plannedFor}
 use Rattle.plan.proofs.Answering.{accepted}
@@ -32,7 +32,7 @@ closed-space w s = go (eqb s.count 0)
     go true = refl
     go false = refl
 
-module _ (xs : List ℕ) (o b w : ℕ) (p : ManagedPlan) (e : plannedFor xs o b w ≡ Accepted p) where
+module _ (xs : List ℕ) (o b w : ℕ) (p : ManagedPlan) (e : plannedFor xs o b w ≡ Ok p) where
   abbrev n : ℕ
   n = p.root_rows
 

@@ -1,38 +1,36 @@
 -- Whatever the writer accepts comes back, all of it: the count of what comes back is that of the nonempty objects.
-use Prim.Native.Nat.{ℕ, suc, ◌+◌, ◌^◌, ◌≤◌, ◌<◌}
+use Prim.Native.Nat.{ℕ, suc, ◌+◌, ◌-◌, ◌^◌, ◌≤◌, ◌<◌}
 use mathlib.Core.Path.{◌≡◌, refl, sym, ap, ap₂, ◌∙◌, subst}
 use mathlib.Core.Bool.{true}
 use mathlib.Core.List.{List, [], ◌∷◌, ◌++◌}
 use native.Mathlib.Omega.{arith}
 use native.Mathlib.Decide.{ℕ_discrete, dec_le}
-use lib.ListN.{length, take, drop, get_or, replicate, length-append, length-drop, get_or-append}
-use lib.Seq.{drop_at, drop-drop, length-take-le}
+use lib.ListN.{length, take, drop, get_or, length-append, length-drop, get_or-append}
+use lib.Seq.{drop-drop}
 use lib.Dec.{ltb}
-use borrow.Author.Tests.{lt-ltb, le-ltb, le-leb}
+use borrow.Author.Tests.{lt-ltb, le-ltb, le-leb, eq-eqb}
 use Rattle.table.specs.Table.{fixed}
 use Rattle.numbers.specs.Sums.{sum, bit}
 use Rattle.plan_steps.specs.Steps.{planOffsets}
 use Rattle.little_endian.specs.LittleEndian.{put}
-use Rattle.little_endian.proofs.LittleEndian.{put_front}
+use Rattle.little_endian.proofs.LittleEndian.{put_front, put-here}
 use Rattle.plan.specs.declared.ManagedPlan.{ManagedPlan}
-use Rattle.plan.specs.declared.Planned.TheVariants.{Accepted}
 use Rattle.plan_laws.proofs.Tally.{tallied}
 use Rattle.region_laws.proofs.Indirect.{rooted, region-planned, bare-planned}
-use Rattle.fractal_heap_write.specs.Serialize.{Call, Written, regionWritten}
+use Rattle.region_write.specs.Region.{region}
+use Rattle.region_laws.proofs.Region.{region-length}
 use Rattle.write_checks.proofs.Answering.{below-undefined}
-use Rattle.read_blocks.specs.declared.Found.TheVariants.{At}
 use Rattle.fractal_heap.specs.declared.header.FractalHeapHeader.{FractalHeapHeader}
-use Rattle.fractal_heap.specs.Read.{managedAt}
 use Rattle.read_laws.proofs.Reading.{read-in-file}
 use Rattle.id_write.specs.Ids.{managedId}
-use Rattle.id_write.proofs.Checking.{held}
-use Rattle.round_trip_object.specs.Back.{holdsAt}
+use Rattle.round_trip_object.specs.Back.{holds_at, comes_back}
 use Rattle.round_trip_objects.specs.Backs.{backOne, backs}
-use Rattle.round_trip_object.proofs.Back.{same_refl, back_found}
-use Rattle.round_trip_read.proofs.Objects.{object-read}
+use Rattle.round_trip_read.specs.Objects.{object_at}
+use Rattle.id_write.specs.Checks.{idLength}
+use Rattle.table.specs.Sizes.{offsetBytes}
+use Rattle.std.proofs.lemmas.Slice.Eq.{bytes_eq-Decides}
 use Rattle.round_trip_objects.proofs.Backs.{one-empty, one-nonempty}
-use Rattle.heap_kept.specs.HeapKept.{HoldsRegion, HeaderOf, ComesBack, part_of}
-use Rattle.heap_kept.proofs.Ids.{id-is}
+use Rattle.heap_kept.specs.HeapKept.{Call, Written, HoldsRegion, HeaderOf, ComesBack, part_of}
 use Rattle.heap_kept.proofs.FromRoot.{planned, tests, width-legal}
 use Rattle.heap_kept.proofs.Theorem.{heap-kept}
 use Rattle.round_trip.specs.RoundTrip.{nonempty}
@@ -40,20 +38,13 @@ use Rattle.round_trip.specs.RoundTrip.{nonempty}
 -- ---- one object
 
 module _ (h : FractalHeapHeader) (F : List ℕ) (w o x : ℕ) (bs : List ℕ) (C : ComesBack F h w o x bs) where
-  abbrev zeros : List ℕ
-  zeros = replicate 8 0
-
-  by-id : managedAt h F (managedId fixed o x) w ≡ At C.position x
-  by-id =
-      let H = held o x 8 (C.id-accepted zeros (omega arith)) in
-      ap (λ (id : List ℕ). managedAt h F id w) (sym (id-is o x H.offset H.size zeros (omega arith))) ∙ C.read zeros (omega arith)
-
-  same-there : holdsAt F C.position x bs ≡ true
-  unfolding holdsAt
-  same-there = rw (le-leb (C.position + x) (length F) (read-in-file h F (managedId fixed o x) w C.position x by-id), C.same, same_refl bs)
+  came : comes_back h F w o x bs ≡ true
+  unfolding comes_back holds_at object_at idLength offsetBytes
+  came =
+      rw (C.id-accepted 8 (omega arith), C.read, eq-eqb x x refl, le-leb (C.position + x) (length F) (read-in-file h F (managedId fixed o x) w C.position x C.read), C.same, (bytes_eq-Decides bs bs).1 refl)
 
   one-back : 0 < x → backOne h F w o x bs ≡ 1
-  one-back s = one-nonempty h F w o x bs true (λ e. omega arith) (back_found h F w o x bs C.position x (object-read h F w o x (C.id-accepted zeros (omega arith)) ∙ by-id) refl ∙ same-there)
+  one-back s = one-nonempty h F w o x bs true (λ e. omega arith) came
 
 -- ---- all of them
 
@@ -86,7 +77,7 @@ module _ (c : Call) (p : ManagedPlan) (W : Written c p) where
       → backs h F c.site.offset_size c.sizes (put old 0 (planOffsets fixed c.site.offset_size c.sizes)) c.objects ≡ nonempty c.sizes
   written_back F H h T old =
       let os : List ℕ = planOffsets fixed c.site.offset_size c.sizes in
-      let n : length os ≡ length c.sizes = (tallied c.sizes (length c.lent.offsets) (length c.lent.blocks) c.site.offset_size p (planned c p W)).offsets in
+      let n : length os ≡ length c.sizes = (tallied c.sizes c.offset_places c.block_places c.site.offset_size p (planned c p W)).offsets in
       let m = length-append os (drop (length os) old) in
       ap (λ (v : List ℕ). backs h F c.site.offset_size c.sizes v c.objects) (put_front old os)
       ∙ all_back h F c.site.offset_size c.sizes (os ++ drop (length os) old) c.objects (omega arith)
@@ -97,8 +88,8 @@ module _ (c : Call) (p : ManagedPlan) (W : Written c p) where
   root-inside = go (ℕ_discrete p.root_rows 0)
     where
       go : Dec (p.root_rows ≡ 0) → p.root_place ≤ p.region_size
-      go (yes z) = let e = (bare-planned c.sizes (length c.lent.offsets) (length c.lent.blocks) c.site.offset_size p (planned c p W) z).place in omega arith
-      go (no z) = let e = region-planned c.sizes (length c.lent.offsets) (length c.lent.blocks) c.site.offset_size p (planned c p W) (omega arith) in omega arith
+      go (yes z) = let e = (bare-planned c.sizes c.offset_places c.block_places c.site.offset_size p (planned c p W) z).place in omega arith
+      go (no z) = let e = region-planned c.sizes c.offset_places c.block_places c.site.offset_size p (planned c p W) (omega arith) in omega arith
 
   pub root-fits : c.site.region_address + p.root_place < 2 ^ 64
   root-fits =
@@ -111,20 +102,26 @@ module _ (c : Call) (p : ManagedPlan) (W : Written c p) where
     where
       go : Dec (p.root_rows ≡ 0) → p.root_rows < 2 ^ 16
       go (yes z) = omega arith
-      go (no z) = let e = (rooted c.sizes (length c.lent.offsets) (length c.lent.blocks) c.site.offset_size p (planned c p W) (omega arith)).few in omega arith
+      go (no z) = let e = (rooted c.sizes c.offset_places c.block_places c.site.offset_size p (planned c p W) (omega arith)).few in omega arith
 
-  -- a file whose part from the region's address on was lent
-  pub holds-there : (F : List ℕ) → c.lent.bytes ≡ drop c.site.region_address F
-      → HoldsRegion (take c.site.region_address F ++ regionWritten (Accepted p) c) c p
+  -- the region is put into a file at its address
+  pub holds-there : (F : List ℕ) → c.region_bytes ≡ length (drop c.site.region_address F)
+      → HoldsRegion (put F c.site.region_address (region c.site p.root_rows c.sizes c.objects)) c p
   holds-there F e = record { holds = go (dec_le c.site.region_address (length F)) }
     where
-      X : List ℕ
-      X = regionWritten (Accepted p) c
+      R : List ℕ
+      R = region c.site p.root_rows c.sizes c.objects
 
-      go : Dec (c.site.region_address ≤ length F) → take p.region_size (drop c.site.region_address (take c.site.region_address F ++ X)) ≡ take p.region_size X
-      go (yes l) = ap (take p.region_size) (drop_at (take c.site.region_address F) X c.site.region_address (length-take-le c.site.region_address F l))
-      go (no l) =
-          let r = (tests c p W).room in
-          let n = ap length e ∙ length-drop c.site.region_address F in
-          let z : p.region_size ≡ 0 = omega arith in
-          ap (λ (m : ℕ). take m (drop c.site.region_address (take c.site.region_address F ++ X))) z ∙ sym (ap (λ (m : ℕ). take m X) z)
+      size : length R ≡ p.region_size
+      size = region-length c.sizes c.offset_places c.block_places c.site.offset_size p (planned c p W) c.site.heap_header_address c.site.region_address c.objects
+
+      room : p.region_size ≤ length F - c.site.region_address
+      room = omega (arith, (tests c p W).room, e, length-drop c.site.region_address F)
+
+      go : Dec (c.site.region_address ≤ length F) → take p.region_size (drop c.site.region_address (put F c.site.region_address R)) ≡ R
+      go (yes l) = ap (λ (n : ℕ). take n (drop c.site.region_address (put F c.site.region_address R))) (sym size) ∙ put-here F c.site.region_address R (omega (arith, room, size, l))
+      go (no l) = none p.region_size R (omega (arith, room, l)) (omega (arith, size, room, l))
+        where
+          none : (n : ℕ) (bs : List ℕ) → n ≡ 0 → length bs ≡ 0 → take n (drop c.site.region_address (put F c.site.region_address R)) ≡ bs
+          none n [] z k = rw z refl
+          none n (b ∷ bs) z k = absurd (omega (arith, k))

@@ -14,7 +14,7 @@ use borrow.Author.Tests.{lt-ltb, le-ltb}
 use Rattle.numbers.specs.Sums.{bit}
 use Rattle.table.proofs.Lists.{take_min, drop_min}
 use Rattle.fractal_heap.specs.declared.header.FractalHeapHeader.{FractalHeapHeader}
-use Rattle.round_trip_object.specs.Back.{comesBack}
+use Rattle.round_trip_object.specs.Back.{comes_back}
 use Rattle.round_trip_objects.specs.Backs.{backOne, backs}
 
 module _ (h : FractalHeapHeader) (s : List ℕ) (w o n : ℕ) (bs : List ℕ) where
@@ -23,13 +23,13 @@ module _ (h : FractalHeapHeader) (s : List ℕ) (w o n : ℕ) (bs : List ℕ) wh
   unfolding backOne
   one-empty e = rw (le-ltb 0 n (omega arith))
 
-  pub one-nonempty : (t : Bool) → (n ≡ 0 → ⊥) → comesBack h s w o n bs ≡ t → backOne h s w o n bs ≡ bit t
+  pub one-nonempty : (t : Bool) → (n ≡ 0 → ⊥) → comes_back h s w o n bs ≡ t → backOne h s w o n bs ≡ bit t
   unfolding backOne
   one-nonempty t e k = rw (lt-ltb 0 n (omega arith)) (ap bit k)
 
 back-most : (h : FractalHeapHeader) (s : List ℕ) (w o n : ℕ) (bs : List ℕ) → backOne h s w o n bs ≤ 1
 unfolding backOne
-back-most h s w o n bs = by (ltb 0 n && comesBack h s w o n bs)
+back-most h s w o n bs = by (ltb 0 n && comes_back h s w o n bs)
   where
     by : (b : Bool) → bit b ≤ 1
     by true = omega arith
@@ -62,44 +62,28 @@ module _ (h : FractalHeapHeader) (s : List ℕ) (w : ℕ) where
 
 -- ---- the loop over the objects
 
--- before the i-th of count objects, whose bytes begin at from: back are counted, and those left give the rest
-pub record Counting (h : FractalHeapHeader) (s : List ℕ) (w : ℕ) (xs os js : List ℕ) (count back from i : ℕ) : Type 0 where
-  pub inside : i ≤ count
-  pub both : count ≡ min (length xs) (length os)
+-- before the i-th object, whose bytes begin at from: back are counted, and those left give the rest
+pub record Counting (h : FractalHeapHeader) (s : List ℕ) (w : ℕ) (xs os js : List ℕ) (back from i : ℕ) : Type 0 where
   pub few : back ≤ i
   pub here : from ≤ length js
   pub rest : back + backs h s w (drop i xs) (drop i os) (drop from js) ≡ backs h s w xs os js
 
-module _ (h : FractalHeapHeader) (s : List ℕ) (w : ℕ) (xs os js : List ℕ) (count : ℕ) where
-  module _ (back from i : ℕ) (I : Counting h s w xs os js count back from i) where
-    pub counting-end : count ≤ i → back ≡ backs h s w xs os js
-    counting-end l =
-        let b = I.both in
-        let none = back_end h s w xs os (drop from js) i (omega arith) in
-        let all = I.rest in
+module _ (h : FractalHeapHeader) (s : List ℕ) (w : ℕ) (xs os js : List ℕ) (back from i : ℕ) (I : Counting h s w xs os js back from i) where
+  pub counting-end : min (length xs) (length os) ≤ i → back ≡ backs h s w xs os js
+  counting-end l =
+      let none = back_end h s w xs os (drop from js) i l in
+      let all = I.rest in
+      omega arith
+
+  module _ (l : i < min (length xs) (length os)) (e : ℕ) (d : e ≡ min (from + get_or xs i 0) (length js)) (n : ℕ) (q : n ≡ backOne h s w (get_or os i 0) (get_or xs i 0) (take (e - from) (drop from js))) where
+    pub one_more : back + n ≤ i + 1
+    one_more =
+        let a = I.few in
+        let m : backOne h s w (get_or os i 0) (get_or xs i 0) (take (e - from) (drop from js)) ≤ 1 = back-most h s w (get_or os i 0) (get_or xs i 0) (take (e - from) (drop from js)) in
         omega arith
 
-    module _ (l : i < count) where
-      pub size-there : i < length xs
-      size-there = let b = I.both in omega arith
-
-      pub offset-there : i < length os
-      offset-there = let b = I.both in omega arith
-
-      -- its bytes end at e
-      module _ (e : ℕ) (d : e ≡ min (from + get_or xs i 0) (length js)) where
-        pub end-inside : e ≤ length js
-        end-inside = omega arith
-
-        module _ (n : ℕ) (q : n ≡ backOne h s w (get_or os i 0) (get_or xs i 0) (take (e - from) (drop from js))) where
-          pub one_more : back + n ≤ i + 1
-          one_more =
-              let a = I.few in
-              let m : backOne h s w (get_or os i 0) (get_or xs i 0) (take (e - from) (drop from js)) ≤ 1 = back-most h s w (get_or os i 0) (get_or xs i 0) (take (e - from) (drop from js)) in
-              omega arith
-
-          pub counting-next : Counting h s w xs os js count (back + n) e (i + 1)
-          counting-next =
-              let next = back-next h s w xs os js i from e size-there offset-there I.here d in
-              let all = I.rest in
-              record { inside = omega arith; both = I.both; few = one_more; here = end-inside; rest = omega arith }
+    pub counting-next : Counting h s w xs os js (back + n) e (i + 1)
+    counting-next =
+        let next = back-next h s w xs os js i from e (omega (arith, l)) (omega (arith, l)) I.here d in
+        let all = I.rest in
+        record { few = one_more; here = omega arith; rest = omega arith }

@@ -1,12 +1,12 @@
 -- The objects of a heap, read back one after another: how many come back.
-use Rattle.std.specs.Prelude.{ℕ, ◌+◌, ◌&&◌, List, [], ◌∷◌, take, drop, ltb}
+use Rattle.std.specs.Prelude.{ℕ, ◌+◌, ◌&&◌, List, [], ◌∷◌, take, drop, nat_lt}
 use Rattle.numbers.specs.Sums.{bit}
 use Rattle.fractal_heap.specs.declared.header.FractalHeapHeader.{FractalHeapHeader}
-use Rattle.round_trip_object.specs.Back.{comesBack}
+use Rattle.round_trip_object.specs.Back.{comes_back}
 
 -- 1 for a nonempty object that comes back
 unfoldable pub backOne : FractalHeapHeader → List ℕ → ℕ → ℕ → ℕ → List ℕ → ℕ
-backOne h s w o n bs = bit (ltb 0 n && comesBack h s w o n bs)
+backOne h s w o n bs = bit (nat_lt 0 n && comes_back h s w o n bs)
 
 -- how many nonempty objects of the sizes xs come back, with these heap offsets and the joined bytes js
 unfoldable pub backs : FractalHeapHeader → List ℕ → ℕ → List ℕ → List ℕ → List ℕ → ℕ

@@ -1,11 +1,11 @@
 -- Reading an object of a heap by the ID that the writer gives it.
-use Rattle.std.specs.Prelude.{ℕ, List}
-use Rattle.fields.specs.Fields.{afterCheck}
+use Rattle.std.specs.Prelude.{ℕ, List, Result}
+use Rattle.refusals.specs.Steps.{◌>>=◌}
+use Rattle.refusals.specs.declared.FormatError.{FormatError}
 use Rattle.table.specs.Table.{fixed}
-use Rattle.read_blocks.specs.declared.Found.{Found}
-use Rattle.read_blocks.specs.declared.Found.TheVariants.{Refused}
+use Rattle.read_walk.specs.declared.place.Place.{Place}
 use Rattle.fractal_heap.specs.declared.header.FractalHeapHeader.{FractalHeapHeader}
-use Rattle.fractal_heap.specs.Read.{managedAt}
+use Rattle.fractal_heap.specs.Read.{managed_at}
 use Rattle.id_write.specs.Ids.{managedId}
 use Rattle.id_write.specs.Checks.{idLength, idChecked}
 
@@ -17,17 +17,16 @@ fixedHeader root rows = record {
   io_filter_encoded_length = 0;
   max_managed_object_size = 7;
   btree_huge_objects_address = 0x123456789ABCDEF;
-  table_width = 4;
-  starting_block_size = 1024;
-  max_direct_block_size = 65536;
-  max_heap_size = 40;
+  managed_objects_count = 77777;
+  table = record { table_width = 4; starting_block_size = 1024; max_direct_block_size = 65536; max_heap_size = 40 };
   start_root_rows = 999;
   root_block_address = root;
   current_rows_in_root_indirect_block = rows;
-  managed_objects_count = 77777;
 }
 
--- what the file s answers for the object of n bytes at the heap offset o, by its ID
-unfoldable pub objectAt : FractalHeapHeader → List ℕ → ℕ → ℕ → ℕ → Found
-objectAt h s w o n =
-    afterCheck (idChecked fixed o n (idLength fixed)) Refused (managedAt h s (managedId fixed o n) w)
+-- what the file s answers for the object of n bytes at the heap offset o, by its ID; in eight bytes an ID is refused
+-- by 16 alone
+unfoldable pub object_at : FractalHeapHeader → List ℕ → ℕ → ℕ → ℕ → Result Place FormatError
+object_at h s w o n = do
+  _ ← idChecked fixed o n (idLength fixed)
+  managed_at h s (managedId fixed o n) w

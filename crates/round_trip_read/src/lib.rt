@@ -1,15 +1,16 @@
-// One object of a written heap, read by the ID that the ID writer gives it.
+//! One object of a written heap, read by the ID that the ID writer gives it.
 #![tactic(auto)]
 
 ghost use Rattle.std.specs.Prelude.{◌≡◌};
-ghost use Rattle.round_trip_read.specs.Objects.{fixedHeader, objectAt};
+ghost use Rattle.round_trip_read.specs.Objects.{fixedHeader, object_at};
 
-use fields::Checked;
 use fractal_heap::header::FractalHeapHeader;
 use id_write::write_managed_id;
-use read_blocks::Found;
+use read_rows::DoublingTable;
+use read_walk::place::Place;
+use refusals::FormatError;
 
-// The header of a heap with the fixed geometry; the reader does not heed the odd numbers.
+/// The header of a heap with the fixed geometry; the reader does not heed the odd numbers.
 pub fn fixed_header(root: u64, rows: u16) -> FractalHeapHeader
     ensures { result ≡ fixedHeader root rows }
 {
@@ -18,30 +19,31 @@ pub fn fixed_header(root: u64, rows: u16) -> FractalHeapHeader
         io_filter_encoded_length: 0,
         max_managed_object_size: 7,
         btree_huge_objects_address: 0x0123_4567_89AB_CDEF,
-        table_width: 4,
-        starting_block_size: 1_024,
-        max_direct_block_size: 65_536,
-        max_heap_size: 40,
+        managed_objects_count: 77_777,
+        table: DoublingTable {
+            table_width: 4,
+            starting_block_size: 1_024,
+            max_direct_block_size: 65_536,
+            max_heap_size: 40,
+        },
         start_root_rows: 999,
         root_block_address: root,
         current_rows_in_root_indirect_block: rows,
-        managed_objects_count: 77_777,
     }
 }
 
-// Writes the ID of the object of `size` bytes at the heap offset `offset`, and reads by it.
+/// Writes the ID of the object of `size` bytes at the heap offset `offset`, and reads by it.
+#[tactic(auto, using(crate::proofs::Objects::id_written), unfolding(crate::specs::Objects::object_at, id_write::specs::Checks::idLength, table::specs::Sizes::offsetBytes))]
 pub fn read_object(
     file: &[u8],
-    header: FractalHeapHeader,
+    header: &FractalHeapHeader,
     offset: u64,
     size: u64,
     offset_size: u8,
-) -> Found
-    ensures { result ≡ objectAt header file.now offset_size offset size }
+) -> Result<Place, FormatError>
+    ensures { result ≡ object_at header.now file.now offset_size offset size }
 {
     let mut id = [0u8; 8];
-    match write_managed_id(offset, size, &mut id) {
-        Checked::Refused(e) => Found::Refused(e),
-        Checked::Passed => header.read_managed_object(file, &id, offset_size),
-    }
+    write_managed_id(offset, size, &mut id)?;
+    header.read_managed_object(file, &id, offset_size)
 }

@@ -1,11 +1,11 @@
-// Plans the scope's worked heaps, lists at every width, lists that are refused and pseudo-random ones,
-// and prints a line for each: its width and sizes, then the eight totals or the refusal, then what the
-// two lists hold. The file stdout beside src/ holds what the original answers.
+//! Plans the worked heaps, lists at every width, lists that are refused and pseudo-random ones, and prints a line for
+//! each: its width and sizes, then the eight totals or the refusal, then what the two lists hold. The file stdout
+//! beside src/ holds what the original answers.
 #![tactic(auto)]
 
 ghost use Rattle.std.specs.Prelude.{◌<◌, ◌≤◌};
 
-use plan::{ManagedPlan, Planned};
+use plan::ManagedPlan;
 use plan_numbers::put_planned;
 use run_report::{Answered, Heading, List, Lists, following};
 use std::io;
@@ -25,8 +25,8 @@ fn case_in(
     print!(rt; "{name}: {}", Heading { sizes, width })?;
     let planned = ManagedPlan::new(sizes, offsets, blocks, width);
     let (objects, placed) = match &planned {
-        Planned::Accepted(p) => (sizes.len(), p.block_count as usize),
-        Planned::Refused(_) => (0, 0),
+        Ok(p) => (sizes.len(), p.block_count as usize),
+        Err(_) => (0, 0),
     };
     let mut numbers = [0u64; 8];
     let refusal = put_planned(&mut numbers, planned);
@@ -56,7 +56,7 @@ fn case(rt: &impl Print, name: &str, sizes: &[u64], width: u8) -> io::Result<()>
     case_in(rt, name, sizes, &mut offsets, &mut blocks, width)
 }
 
-// The scope's worked heaps 1 to 7 and its wrong turn.
+// The worked heaps 1 to 7, and the slot that a planner passes wrongly.
 fn worked(rt: &impl Print) -> io::Result<()> {
     case(rt, "heap 1", &[], 8)?;
     case(rt, "heap 2", &[1_002], 8)?;

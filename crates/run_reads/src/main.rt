@@ -1,6 +1,6 @@
-// Replays recorded answers of the original for headers, IDs and reading: runs each case of the list that
-// it reads, and prints for each kind how many cases there are and how many are answered otherwise than
-// recorded. The file stdin beside src/ is the list, stdout holds what the original's own answers give.
+//! Replays recorded answers of the original for headers, IDs and reading: runs each case of the list that
+//! it reads, and prints for each kind how many cases there are and how many are answered otherwise than
+//! recorded. The file stdin beside src/ is the list, stdout holds what the original's own answers give.
 //
 // A case, all numbers little-endian: kind (1 byte: 0 parse, 1 decode, 2 read, 3 tiny, 4 ID type), offset
 // size (1), length size (1), offset size of the read (1), heap ID length (2), bytes of the file (4), bytes
@@ -12,10 +12,12 @@ ghost use Rattle.std.specs.Prelude.{◌≡◌, ◌+◌, ◌^◌, ◌<◌, ◌≤
 ghost use Rattle.run_reads.specs.Case.{Whole};
 
 use fields::convert::to_usize;
-use fractal_heap::header::{FractalHeapHeader, Parsed};
+use fractal_heap::header::FractalHeapHeader;
+use id_decode::ManagedId;
 use id_tiny::read_tiny_object;
 use little_endian::{read_u16_le, read_u32_le, read_u64_le};
-use refusals::{Answer, refused};
+use read_walk::place::Place;
+use refusals::{Answer, FormatError, Reported};
 use std::io::{self, Read};
 
 // A list of this many bytes is too long.
@@ -92,35 +94,47 @@ fn is_answer(head: &[u8], a: Answer) -> bool {
 }
 
 // The same of an accepted header: its fields in the struct's order.
-fn is_header(head: &[u8], h: FractalHeapHeader) -> bool {
+fn is_header(head: &[u8], h: &FractalHeapHeader) -> bool {
     let words = [
-        h.heap_id_length as u64,
-        h.io_filter_encoded_length as u64,
-        h.max_managed_object_size as u64,
+        u64::from(h.heap_id_length),
+        u64::from(h.io_filter_encoded_length),
+        u64::from(h.max_managed_object_size),
         h.btree_huge_objects_address,
-        h.table_width as u64,
-        h.starting_block_size,
-        h.max_direct_block_size,
-        h.max_heap_size as u64,
-        h.start_root_rows as u64,
+        u64::from(h.table.table_width),
+        h.table.starting_block_size,
+        h.table.max_direct_block_size,
+        u64::from(h.table.max_heap_size),
+        u64::from(h.start_root_rows),
         h.root_block_address,
-        h.current_rows_in_root_indirect_block as u64,
+        u64::from(h.current_rows_in_root_indirect_block),
         h.managed_objects_count,
     ];
     is_recorded(head, 0, &words)
 }
 
 // The header, with which the first three kinds begin: its refusal is the answer to each of them.
-fn parse(head: &[u8], file: &[u8]) -> Parsed
+fn parse(head: &[u8], file: &[u8]) -> Result<FractalHeapHeader, FormatError>
     requires { 27 ≤ length head.now }
 {
     FractalHeapHeader::parse(file, to_usize(read_u64_le(head, 14)), head[1], head[2])
 }
 
-fn is_parsed(head: &[u8], parsed: Parsed) -> bool {
+fn decode(head: &[u8], file: &[u8], id: &[u8]) -> Result<ManagedId, FormatError>
+    requires { 27 ≤ length head.now }
+{
+    parse(head, file)?.decode_managed_id(id)
+}
+
+fn read(head: &[u8], file: &[u8], id: &[u8]) -> Result<Place, FormatError>
+    requires { 27 ≤ length head.now }
+{
+    parse(head, file)?.read_managed_object(file, id, head[3])
+}
+
+fn is_parsed(head: &[u8], parsed: Result<FractalHeapHeader, FormatError>) -> bool {
     match parsed {
-        Parsed::Header(h) => is_header(head, h),
-        Parsed::Refused(e) => is_answer(head, refused(e)),
+        Ok(h) => is_header(head, &h),
+        Err(e) => is_answer(head, e.answer()),
     }
 }
 
@@ -130,11 +144,8 @@ fn is_same(head: &[u8], file: &[u8], id: &[u8]) -> bool
 {
     match head[0] {
         0 => is_parsed(head, parse(head, file)),
-        1 => is_answer(head, parse(head, file).decode_managed_id(id).answer()),
-        2 => {
-            let found = parse(head, file).read_managed_object(file, id, head[3]);
-            is_answer(head, found.answer())
-        },
+        1 => is_answer(head, decode(head, file, id).answer()),
+        2 => is_answer(head, read(head, file, id).answer()),
         3 => is_answer(head, read_tiny_object(read_u16_le(head, 4), id).answer()),
         _ => is_answer(head, FractalHeapHeader::heap_id_type(id).answer()),
     }

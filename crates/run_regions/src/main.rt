@@ -1,15 +1,17 @@
-// Writes the regions of the scope's worked heaps, of lists at every width and of one with nested indirect
-// blocks, and makes calls that are refused. It prints for each what is given, the eight totals or the refusal,
-// what the two lists hold, and the lookup3 of the lent bytes that are not written; then of a region its lookup3,
-// its first bytes and its root. The file stdout beside src/ holds what the original answers.
+//! Writes the regions of the worked heaps, of lists at every width and of one with nested indirect
+//! blocks, and makes calls that are refused. It prints for each what is given, the eight totals or the refusal,
+//! what the two lists hold, and the lookup3 of the lent bytes that are not written; then of a region its lookup3,
+//! its first bytes and its root. The file stdout beside src/ holds what the original answers.
 #![tactic(auto)]
 
 ghost use Rattle.std.specs.Prelude.{◌≤◌};
 
 use checksum::jenkins_lookup3;
 use fractal_heap_write::serialize;
-use plan::{ManagedPlan, Planned};
+use plan::ManagedPlan;
 use plan_numbers::put_planned;
+use refusals::FormatError;
+use region_blocks::Site;
 use run_report::{Answered, Heading, Hex, List, Lists, fill, following, joined};
 use std::io;
 
@@ -26,20 +28,18 @@ const REGION_BYTES: usize = 350_000;
 // The undefined address of width 8.
 const UNDEFINED: u64 = 0xFFFF_FFFF_FFFF_FFFF;
 
-// What a call is given besides the sizes: how many places and bytes, two addresses, their width.
+// What a call is given besides the sizes: how many places and bytes, and where all stands in the file.
 #[derive(Clone, Copy)]
 struct Call {
     offset_places: usize,
     block_places: usize,
     object_bytes: usize,
     region_bytes: usize,
-    region_address: u64,
-    header_address: u64,
-    width: u8,
+    site: Site,
 }
 
 fn heading(rt: &impl Print, name: &str, sizes: &[u64], call: Call) -> io::Result<()> {
-    let width = call.width;
+    let width = call.site.offset_size;
     print!(rt; "{name}: {}", Heading { sizes, width })?;
     print!(rt;
         ", object bytes {}, region bytes {}",
@@ -47,7 +47,7 @@ fn heading(rt: &impl Print, name: &str, sizes: &[u64], call: Call) -> io::Result
     )?;
     print!(rt;
         " at 0x{:x}, header at 0x{:x}",
-        call.region_address, call.header_address
+        call.site.region_address, call.site.heap_header_address
     )
 }
 
@@ -89,15 +89,15 @@ fn root(rt: &impl Print, region: &[u8], p: ManagedPlan) -> io::Result<()> {
 // What the lists and the region hold after a call.
 fn left(
     rt: &impl Print,
-    planned: Planned,
+    planned: Result<ManagedPlan, FormatError>,
     objects: usize,
     offsets: &[u64],
     blocks: &[u64],
     region: &[u8],
 ) -> io::Result<()> {
     let (known, placed, size) = match planned {
-        Planned::Accepted(p) => (objects, p.block_count as usize, p.region_size as usize),
-        Planned::Refused(_) => (0, 0, 0),
+        Ok(p) => (objects, p.block_count as usize, p.region_size as usize),
+        Err(_) => (0, 0, 0),
     };
     let offsets = List {
         numbers: offsets,
@@ -110,11 +110,11 @@ fn left(
     print!(rt; "{}", Lists { offsets, blocks })?;
     untouched(rt, region, size)?;
     match planned {
-        Planned::Accepted(p) => {
+        Ok(p) => {
             written(rt, region, size)?;
             root(rt, region, p)
         }
-        Planned::Refused(_) => Ok(()),
+        Err(_) => Ok(()),
     }
 }
 
@@ -128,16 +128,7 @@ fn write(
     region: &mut [u8],
     call: Call,
 ) -> io::Result<()> {
-    let planned = serialize(
-        sizes,
-        offsets,
-        blocks,
-        objects,
-        region,
-        call.region_address,
-        call.header_address,
-        call.width,
-    );
+    let planned = serialize(sizes, objects, call.site, offsets, blocks, region);
     let mut numbers = [0u64; 8];
     let refusal = put_planned(&mut numbers, planned);
     print!(rt;
@@ -194,9 +185,11 @@ fn usual(object_bytes: usize, width: u8) -> Call {
         block_places: PLACES,
         object_bytes,
         region_bytes: REGION_BYTES,
-        region_address: low(0x0102_0304_0506_0708, width),
-        header_address: low(0x1122_3344_5566_7788, width),
-        width,
+        site: Site {
+            offset_size: width,
+            heap_header_address: low(0x1122_3344_5566_7788, width),
+            region_address: low(0x0102_0304_0506_0708, width),
+        },
     }
 }
 
@@ -219,7 +212,7 @@ fn whole(
     )
 }
 
-// The scope's worked heaps 1 to 7 and its wrong turn.
+// The worked heaps 1 to 7 and one whose small object would fit a slot that is passed.
 fn worked(rt: &impl Print, objects: &[u8], region: &mut [u8]) -> io::Result<()> {
     whole(rt, "heap 1", &[], objects, region, 8)?;
     whole(rt, "heap 2", &[1_002], objects, region, 8)?;
@@ -377,8 +370,8 @@ fn at(
 ) -> io::Result<()> {
     let mut call = usual(1_011 - usize::from(width), width);
     call.region_bytes = 2_102;
-    call.region_address = region_address;
-    call.header_address = header_address;
+    call.site.region_address = region_address;
+    call.site.heap_header_address = header_address;
     case(
         rt,
         name,
@@ -455,12 +448,14 @@ fn order(rt: &impl Print, objects: &[u8], region: &mut [u8]) -> io::Result<()> {
         block_places: 1,
         object_bytes: 1_002,
         region_bytes: 2_101,
-        region_address: UNDEFINED,
-        header_address: UNDEFINED,
-        width: 3,
+        site: Site {
+            offset_size: 3,
+            heap_header_address: UNDEFINED,
+            region_address: UNDEFINED,
+        },
     };
     case(rt, "all wrong", &large, objects, region, call)?;
-    call.width = 8;
+    call.site.offset_size = 8;
     case(rt, "right width", &large, objects, region, call)?;
     call.offset_places = 2;
     case(rt, "right offsets", &large, objects, region, call)?;
@@ -483,9 +478,9 @@ fn order_of_writing(
     case(rt, "right objects", &sizes, objects, region, call)?;
     call.region_bytes = 2_102;
     case(rt, "right region bytes", &sizes, objects, region, call)?;
-    call.header_address = 0;
+    call.site.heap_header_address = 0;
     case(rt, "right header address", &sizes, objects, region, call)?;
-    call.region_address = 0;
+    call.site.region_address = 0;
     case(rt, "all right", &sizes, objects, region, call)
 }
 

@@ -1,5 +1,5 @@
 -- The bytes that are left to store, stored from here, are all of them.
-use Prim.Native.Nat.{ℕ, zero, suc, ◌+◌, ◌-◌, ◌*◌, ◌/◌, ◌%◌, ◌≤◌, ◌<◌}
+use Prim.Native.Nat.{ℕ, zero, suc, ◌+◌, ◌-◌, ◌/◌, ◌%◌, ◌≤◌, ◌<◌}
 use mathlib.Core.Path.{◌≡◌, refl, sym, ap, ◌∙◌}
 use mathlib.Core.List.{List, [], ◌++◌, append-nil}
 use native.Mathlib.Omega.{arith}
@@ -7,10 +7,6 @@ use native.Mathlib.Numerals.{add-one}
 use lib.ListN.{length, set, drop, drop_of_length-le}
 use lib.Seq.{sets, sets-eq}
 use Rattle.run_report.specs.Sequence.{next, bytesAfter}
-
-pub next-is : (x : ℕ) → (x * 1103515245 + 12345) % 4294967296 ≡ next x
-unfolding next
-next-is x = refl
 
 length-bytes : (x n : ℕ) → length (bytesAfter x n) ≡ n
 unfolding bytesAfter

@@ -1,5 +1,5 @@
-// What the programs print, as values that write themselves: bytes, lists and answers; and the pseudo-random bytes that
-// they work on. It serves the programs alone: what is printed is held to a recorded file.
+//! What the programs print, as values that write themselves: bytes, lists and answers; and the pseudo-random bytes that
+//! they work on. It serves the programs alone: what is printed is held to a recorded file.
 #![tactic(auto)]
 
 ghost use Rattle.std.specs.Prelude.{◌≡◌, ◌%◌, ◌^◌, length, sum};
@@ -7,7 +7,7 @@ ghost use Rattle.run_report.specs.Sequence.{next, bytesAfter};
 
 use std::fmt;
 
-// Bytes in hexadecimal.
+/// Bytes in hexadecimal.
 #[derive(Clone, Copy)]
 pub struct Hex<'a> {
     pub bytes: &'a [u8],
@@ -22,7 +22,7 @@ impl<'a> fmt::Display for Hex<'a> {
     }
 }
 
-// Numbers, each after a space.
+/// Numbers, each after a space.
 #[derive(Clone, Copy)]
 pub struct Spaced<'a> {
     pub numbers: &'a [u64],
@@ -37,7 +37,7 @@ impl<'a> fmt::Display for Spaced<'a> {
     }
 }
 
-// A list of which the first `known` numbers are written, at most six, and then the sum of all its places.
+/// A list of which the first `known` numbers are written, at most six, and then the sum of all its places.
 #[derive(Clone, Copy)]
 pub struct List<'a> {
     pub numbers: &'a [u64],
@@ -55,7 +55,7 @@ impl<'a> fmt::Display for List<'a> {
     }
 }
 
-// The start of a case's line: its width and sizes.
+/// The start of a case's line: its width and sizes.
 #[derive(Clone, Copy)]
 pub struct Heading<'a> {
     pub sizes: &'a [u64],
@@ -73,7 +73,7 @@ impl<'a> fmt::Display for Heading<'a> {
     }
 }
 
-// Both lists of a plan: the objects' offsets and the blocks' starts.
+/// Both lists of a plan: the objects' offsets and the blocks' starts.
 #[derive(Clone, Copy)]
 pub struct Lists<'a> {
     pub offsets: List<'a>,
@@ -88,7 +88,7 @@ impl<'a> fmt::Display for Lists<'a> {
     }
 }
 
-// An answer by number: the numbers of what was accepted, or a refusal's number and its pair.
+/// An answer by number: the numbers of what was accepted, or a refusal's number and its pair.
 #[derive(Clone, Copy)]
 pub struct Answered<'a> {
     pub refusal: u32,
@@ -121,7 +121,7 @@ fn sum_in_order(numbers: &[u64]) -> u64 {
     s
 }
 
-// How many bytes objects of these sizes have together, modulo 2^32.
+/// How many bytes objects of these sizes have together, modulo 2^32.
 pub fn joined(sizes: &[u64]) -> usize
     ensures { result ≡ sum sizes.now % 2 ^ 32 }
 {
@@ -132,14 +132,15 @@ pub fn joined(sizes: &[u64]) -> usize
     total as usize
 }
 
-// The number after `x` in the pseudo-random sequence.
+/// The number after `x` in the pseudo-random sequence.
+#[tactic(auto, unfolding(crate::specs::Sequence::next))]
 pub fn following(x: u32) -> u32
     ensures { result ≡ next x }
 {
     x.wrapping_mul(1_103_515_245).wrapping_add(12_345)
 }
 
-// Pseudo-random bytes: bits 16 to 23 of each number of the sequence, from 1 on.
+/// Pseudo-random bytes: bits 16 to 23 of each number of the sequence, from 1 on.
 pub fn fill(bytes: &mut [u8])
     ensures { bytes.new ≡ bytesAfter 1 (length bytes.old) }
 {

@@ -1,16 +1,17 @@
-// Goes the whole way of a heap: plans a list of sizes, writes the region into a file, and reads every object back by
-// its written ID (`round_trip`, whose contract says that all nonempty ones come back). The file's other bytes are
-// marks, or what an earlier list left there. It prints for each list what is given; the number of objects, how many
-// nonempty ones come back with all their bytes, the lookup3 of the joined IDs and of the file; and for each empty
-// object what reading answers. The file stdout beside src/ holds what the original answers.
+//! Goes the whole way of a heap: plans a list of sizes, writes the region into a file, and reads every object back by
+//! its written ID (`round_trip`), once more one by one (`write_and_fetch`, whose contract says that the bytes fetched are the
+//! object's). The file's other bytes are marks, or what an earlier list left there. It prints for each list what is given;
+//! the number of objects, how many nonempty ones come back with all their bytes, the lookup3 of the joined IDs and of the
+//! file; and for each empty object what reading answers. The file stdout beside src/ holds what the original answers.
 #![tactic(auto)]
 
 use checksum::jenkins_lookup3;
 use fractal_heap::header::FractalHeapHeader;
 use id_write::write_managed_id;
-use plan::{ManagedPlan, Planned};
-use refusals::{Answer, refused};
-use round_trip::round_trip;
+use plan::ManagedPlan;
+use refusals::{Answer, Reported};
+use region_blocks::Site;
+use round_trip::{round_trip, write_and_fetch};
 use round_trip_read::{fixed_header, read_object};
 use run_report::{Answered, Heading, fill, following, joined};
 use std::io;
@@ -19,6 +20,9 @@ use std::io;
 const PLACES: usize = 64;
 
 const FILE: usize = 360_000;
+
+// Room for the largest object of a list.
+const LARGEST: usize = 65_536;
 
 // Where the region begins in the file, and where the heap's header is said to be.
 const REGION: u64 = 4_321;
@@ -42,7 +46,7 @@ fn empty(rt: &impl Print, i: usize, a: Answer) -> io::Result<()> {
 fn empties(
     rt: &impl Print,
     file: &[u8],
-    header: FractalHeapHeader,
+    header: &FractalHeapHeader,
     sizes: &[u64],
     offsets: &[u64],
     width: u8,
@@ -61,7 +65,8 @@ fn sum_ids(sizes: &[u64], offsets: &[u64]) -> u32 {
     let mut end: usize = 0;
     for (size, offset) in sizes.iter().zip(offsets) {
         if end + 8 <= ids.len() {
-            write_managed_id(*offset, *size, &mut ids[end..]);
+            // an offset that has no ID leaves zeros
+            let _ = write_managed_id(*offset, *size, &mut ids[end..]);
             end += 8;
         }
     }
@@ -89,6 +94,31 @@ fn refusal(rt: &impl Print, a: Answer) -> io::Result<()> {
     )
 }
 
+// How many nonempty objects are fetched with all their bytes, each written and fetched by its ID anew.
+fn fetched(
+    sizes: &[u64],
+    objects: &[u8],
+    site: Site,
+    offsets: &mut [u64],
+    blocks: &mut [u64],
+    file: &mut [u8],
+) -> u64 {
+    let mut found = [0u8; LARGEST];
+    let mut count: u64 = 0;
+    let mut rest = objects;
+    for i in 0..sizes.len() {
+        let size = sizes[i] as usize;
+        let (part, others) = rest.split_at(size.min(rest.len()));
+        if size > 0 && size <= LARGEST {
+            let got = write_and_fetch(sizes, objects, site, offsets, blocks, file, i, &mut found);
+            let same = got == Ok(size) && &found[..size] == part;
+            count = count.saturating_add(u64::from(same));
+        }
+        rest = others;
+    }
+    count
+}
+
 // Writes the region of a plan and reads it back; the empty objects are read with the header that the plan gives.
 fn go(
     rt: &impl Print,
@@ -100,14 +130,21 @@ fn go(
     file: &mut [u8],
     width: u8,
 ) -> io::Result<()> {
-    let a = round_trip(sizes, offsets, blocks, objects, file, REGION, HEADER, width).answer();
-    if a.number != 0 {
-        return refusal(rt, a);
+    let site = Site {
+        offset_size: width,
+        heap_header_address: HEADER,
+        region_address: REGION,
+    };
+    match round_trip(sizes, objects, site, offsets, blocks, file) {
+        Err(e) => refusal(rt, e.answer()),
+        Ok(back) => {
+            let root = REGION.saturating_add(plan.root_place);
+            let header = fixed_header(root, (plan.root_rows % 0x1_0000) as u16);
+            let fetched = fetched(sizes, objects, site, offsets, blocks, file);
+            came(rt, back.min(fetched), file, sizes, offsets)?;
+            empties(rt, file, &header, sizes, offsets, width)
+        }
     }
-    let root = REGION.saturating_add(plan.root_place);
-    let header = fixed_header(root, (plan.root_rows % 0x1_0000) as u16);
-    came(rt, a.first, file, sizes, offsets)?;
-    empties(rt, file, header, sizes, offsets, width)
 }
 
 fn trip(
@@ -120,8 +157,8 @@ fn trip(
     let mut offsets = [0u64; PLACES];
     let mut blocks = [0u64; PLACES];
     match ManagedPlan::new(sizes, &mut offsets, &mut blocks, width) {
-        Planned::Refused(e) => refusal(rt, refused(e)),
-        Planned::Accepted(plan) => go(
+        Err(e) => refusal(rt, e.answer()),
+        Ok(plan) => go(
             rt,
             plan,
             sizes,

@@ -1,12 +1,12 @@
-// Runs the published vectors of lookup3.c and the recorded answers of the original Rust: checksums of
-// every length from 0 to 200 and of some long ones, fields read and stored at every kind of place and
-// width. The file stdout beside src/ holds what the original answers.
+//! Runs the published vectors of lookup3.c and the recorded answers of the original Rust: checksums of
+//! every length from 0 to 200 and of some long ones, fields read and stored at every kind of place and
+//! width. The file stdout beside src/ holds what the original answers.
 #![tactic(auto)]
 
 use checksum::jenkins_lookup3;
 use fields::convert::is_undefined_addr;
 use fields::{read_length, read_offset};
-use refusals::Answer;
+use refusals::{Answer, Reported};
 use run_report::{Hex, fill};
 use std::io;
 use stores::{write_offset, write_undef_offset};
@@ -101,7 +101,7 @@ fn fields(rt: &impl Print, bytes: &[u8]) -> io::Result<()> {
 fn undefined(rt: &impl Print) -> io::Result<()> {
     for addr in ADDRESSES {
         for width in WIDTHS {
-            let said = if is_undefined_addr(addr, width) { 1 } else { 0 };
+            let said = u32::from(is_undefined_addr(addr, width));
             println!(rt; "is undefined {addr:x} {width} {said}")?;
         }
     }

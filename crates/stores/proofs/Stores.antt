@@ -1,81 +1,53 @@
--- Laws of stores, for every width: byte by byte, what is refused, and what reads back.
-use mathlib.Core.Path.{◌≡◌, refl, ap, ap₂, ◌∙◌}
-use mathlib.Core.List.{List}
-use mathlib.Core.Bool.{Bool, true, false}
-use Prim.Native.Nat.{ℕ, suc, ◌+◌, ◌-◌, ◌/◌, ◌%◌, ◌*◌, ◌^◌, ◌≤◌, ◌<◌}
-use native.Mathlib.Omega.{arith}
-use lib.ListN.{length, take, drop, set, replicate}
-use lib.Seq.{sets}
-use lib.Dec.{leb}
-use borrow.Author.Tests.{le-leb, leb-true}
+-- What is stored reads back, at every width.
+use Rattle.std.proofs.Common.{◌≡◌, refl, ap, ◌∙◌, ℕ, zero, suc, ◌+◌, ◌*◌, ◌%◌, ◌^◌, ◌≤◌, List, length, replicate, arith}
+use Rattle.std.proofs.lemmas.List.{length-replicate}
+use Rattle.std.specs.Prelude.{true, Ok}
 use Rattle.little_endian.specs.LittleEndian.{le, value, leAt, put}
 use Rattle.little_endian.specs.Widths.{legal}
-use Rattle.little_endian.proofs.LittleEndian.{length-le, value-le, le-undefined, length-put, put-before, put-after, put-here}
-use Rattle.little_endian.proofs.Widths.{legal-small}
-use Rattle.fields.specs.Fields.{lenChecked, field_at, offsetAt}
-use Rattle.fields.specs.declared.Checked.{Checked}
-use Rattle.fields.specs.declared.Checked.TheVariants.{Passed, Refused as NotPassed}
-use Rattle.fields.specs.declared.Field.TheVariants.{Value}
-use Rattle.fields.proofs.Fields.{passed}
-use Rattle.stores.specs.Stores.{storeChecked, putIf, offsetStored, undefStored}
+use Rattle.little_endian.proofs.LittleEndian.{length-le, value-le, le-undefined, length-put, put-here, put-before, put-after}
+use lib.Pow.{pow_pos}
+use Rattle.little_endian.proofs.LittleEndian.{pow-byte}
+use Rattle.fields.specs.Fields.{offset_at}
+use Rattle.fields.specs.Undefined.{undefinedAddress}
+use Rattle.fields.proofs.Fields.{offset_read}
+use Rattle.stores.specs.Laws.{StoresReadBack, OnesUndefined}
 
--- the loop of `store_le`: the bytes of x that are left, stored from where it stands
-module _ (s : List ℕ) (p w x : ℕ) where
-  pub sets_more : (i : ℕ) → i < w → sets s (p + i) (le (w - i) x) ≡ sets (set s (p + i) (x % 256)) (p + (i + 1)) (le (w - (i + 1)) (x / 256))
-  unfolding le
-  sets_more i h =
-      let e : w - i ≡ suc (w - (i + 1)) = omega arith in
-      let f : p + (i + 1) ≡ suc (p + i) = omega arith in
-      rw (e, f)
-
-  pub sets-done : (i : ℕ) → w ≤ i → sets s (p + i) (le (w - i) x) ≡ s
-  unfolding le
-  sets-done i h =
-      let e : w - i ≡ 0 = omega arith in
-      rw e
-
--- t is s with the w low bytes of x at p, and they read back
-pub record Stored (s t : List ℕ) (p w x : ℕ) : Type 0 where
-  pub reads : leAt t p w ≡ x % 2 ^ (8 * w)
-  pub same_length : length t ≡ length s
-  pub before : take p t ≡ take p s
-  pub after : drop (p + w) t ≡ drop (p + w) s
-
--- what is stored reads back, at every width, and everything else is as it was
-pub round_trip : (s : List ℕ) (p w x : ℕ) → p + w ≤ length s → Stored s (put s p (le w x)) p w x
+-- the bytes of a number, stored, are the number cut to the width
+pub stored-reads_back : (s : List ℕ) (p w x : ℕ) → p + w ≤ length s → leAt (put s p (le w x)) p w ≡ x % 2 ^ (8 * w)
 unfolding leAt
-round_trip s p w x room =
-    record { reads = ap value (rw (length-le w x) at (put-here s p (le w x) fits)) ∙ value-le w x; same_length = length-put s p (le w x) fits; before = put-before s p (le w x) fits; after = rw (length-le w x) at (put-after s p (le w x) fits) }
-  where
-    fits : p + length (le w x) ≤ length s
-    fits = rw (length-le w x) room
+stored-reads_back s p w x room =
+    ap value (rw (length-le w x) at (put-here s p (le w x) (rw (length-le w x) room))) ∙ value-le w x
 
--- what is known where a store is not refused
-pub record Storable (n p w : ℕ) : Type 0 where
-  pub width : legal w ≡ true
-  pub room : p + w ≤ n
+-- and all else is as it was
+pub stores-read-back : StoresReadBack
+stores-read-back s p w x room =
+    let fits : p + length (le w x) ≤ length s = rw (length-le w x) room in
+    record {
+      reads = stored-reads_back s p w x room;
+      same_length = length-put s p (le w x) fits;
+      before = put-before s p (le w x) fits;
+      after = rw (length-le w x) at (put-after s p (le w x) fits);
+    }
 
-pub store-within : (n p w : ℕ) → storeChecked n p w ≡ Passed → Storable n p w
-unfolding storeChecked
-store-within n p w h = by (legal w) refl
-  where
-    by : (t : Bool) → legal w ≡ t → Storable n p w
-    by true e = record { width = e; room = leb-true (p + w) n (passed (leb (p + w) n) _ (rw e at h)) }
-    by false e = let z : ◌≡◌ {A = ℕ} 0 1 = cc (rw e at h) in absurd (omega arith)
+pub ones-undefined : OnesUndefined
+ones-undefined w h = le-undefined w h
 
--- all ones, cut to the width, are the undefined address
-pub undef-stored : (s : List ℕ) (p w : ℕ) → offsetStored s p (2 ^ 64 - 1) w ≡ undefStored s p w
-unfolding offsetStored undefStored
-undef-stored s p w = by (storeChecked (length s) p w) refl
-  where
-    by : (t : Checked) → storeChecked (length s) p w ≡ t → putIf t s p (le w (2 ^ 64 - 1)) ≡ putIf t s p (replicate w 255)
-    by Passed e = ap (put s p) (le-undefined w (legal-small w (store-within (length s) p w e).width))
-    by (NotPassed f) e = refl
+-- an address that was stored is read back, cut to its width
+pub address_reads_back : (s : List ℕ) (p a w : ℕ) → legal w ≡ true → p + w ≤ length s → offset_at (put s p (le w a)) p w ≡ Ok (a % 2 ^ (8 * w))
+address_reads_back s p a w l room =
+    offset_read (put s p (le w a)) p w l (rw (length-put s p (le w a) (rw (length-le w a) room)) room) ∙ ap Ok (stored-reads_back s p w a room)
 
--- an address that was stored reads back, cut to its width
-pub offset-round-trip : (s : List ℕ) (p a w : ℕ) → storeChecked (length s) p w ≡ Passed → offsetAt (offsetStored s p a w) p w ≡ Value (a % 2 ^ (8 * w))
-unfolding offsetAt offsetStored field_at lenChecked
-offset-round-trip s p a w h =
-    let k : Storable (length s) p w = store-within (length s) p w h in
-    let r : Stored s (put s p (le w a)) p w a = round_trip s p w a k.room in
-    rw (h, k.width, le-leb (p + w) (length (put s p (le w a))) (rw r.same_length k.room), r.reads)
+-- bytes of ones are the undefined address
+value-ones : (w : ℕ) → value (replicate w 255) ≡ undefinedAddress w
+unfolding value
+value-ones zero = refl
+value-ones (suc w) = let a = value-ones w in let p = pow_pos (8 * w) in let e = pow-byte w in omega arith
+
+-- so is the undefined address
+pub undefined_reads_back : (s : List ℕ) (p w : ℕ) → legal w ≡ true → p + w ≤ length s → offset_at (put s p (replicate w 255)) p w ≡ Ok (undefinedAddress w)
+unfolding leAt
+undefined_reads_back s p w l room =
+    let here : p + length (replicate w 255) ≤ length s = rw (length-replicate {A = ℕ} w 255) room in
+    let still : p + w ≤ length (put s p (replicate w 255)) = omega (arith, length-put s p (replicate w 255) here) in
+    let e : leAt (put s p (replicate w 255)) p w ≡ undefinedAddress w = ap value (rw (length-replicate {A = ℕ} w 255) at (put-here s p (replicate w 255) here)) ∙ value-ones w in
+    offset_read (put s p (replicate w 255)) p w l still ∙ ap Ok e

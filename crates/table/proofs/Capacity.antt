@@ -185,6 +185,3 @@ module _ (l : List ℕ) (n total r : ℕ) (I : Adding l n total r) where
 
   pub adding-more : r < n → n ≤ 29 → Adding l n (total + get_or l r 0) (r + 1)
   adding-more u v = let e = I.so_far in let p = I.places in let z = sum-take-suc l r (omega arith) in record { inside = omega arith; places = p; so_far = omega arith }
-
-  pub adding-done : n ≤ r → total ≡ sum (take n l)
-  adding-done u = I.so_far ∙ (let a = I.inside in ap (λ (j : ℕ). sum (take j l)) (let e : r ≡ n = omega arith in e))

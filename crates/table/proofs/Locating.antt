@@ -91,8 +91,8 @@ module _ (x row size within : ℕ) (v : Level x row size within) where
       omega arith
 
   -- below an indirect slot the rest of the offset is smaller than the slot, and so than what holds f bits
-  pub rest-small : leb (rowBits fixed row) 16 ≡ false → x < 2 ^ 40 → (x - within ≡ x % 2 ^ rowBits fixed (row_of fixed x)) × (0 < within) × ((f : ℕ) → x < 2 ^ suc f → x - within < 2 ^ f)
-  rest-small l h =
+  pub rest_small : leb (rowBits fixed row) 16 ≡ false → x < 2 ^ 40 → (x - within ≡ x % 2 ^ rowBits fixed (row_of fixed x)) × (0 < within) × ((f : ℕ) → x < 2 ^ suc f → x - within < 2 ^ f)
+  rest_small l h =
       let b = rowBits fixed (row_of fixed x) in
       let d = bits-deep l in
       let T = top-row fixed x (heap-rows fixed x h) in
@@ -120,13 +120,13 @@ pub record Loc (offset base x : ℕ) : Type 0 where
   pub nth : ℕ
   pub mult : base ≡ nth * 2 ^ slotBits fixed offset
 
-pub loc-start : (offset : ℕ) → offset < 2 ^ 40 → Loc offset 0 offset
-loc-start o h = record { heap = h; sum = omega arith; slotted = slot-bits-is fixed o (omega arith) h; nth = 0; mult = omega arith }
+pub loc_start : (offset : ℕ) → offset < 2 ^ 40 → Loc offset 0 offset
+loc_start o h = record { heap = h; sum = omega arith; slotted = slot-bits-is fixed o (omega arith) h; nth = 0; mult = omega arith }
 
-module _ (o base x row size within : ℕ) (L : Loc o base x) (h : x < 2 ^ 40) (v : Level x row size within) where
-  pub loc-direct : leb (rowBits fixed row) 16 ≡ true → ◌≡◌ {A = Slot} (record { start = base + within; size = size }) (slot_at fixed o)
+module _ {o base x row size within : ℕ} (L : Loc o base x) (h : x < 2 ^ 40) (v : Level x row size within) where
+  pub loc_direct : leb (rowBits fixed row) 16 ≡ true → ◌≡◌ {A = Slot} (record { start = base + within; size = size }) (slot_at fixed o)
   unfolding slot_at slotStart
-  loc-direct l =
+  loc_direct l =
       let b = rowBits fixed (row_of fixed x) in
       let c = slotBits fixed o in
       let e : c ≡ b = inv-direct fixed (x / 2 ^ b) b (x % 2 ^ b) L.slotted (top-row fixed x (heap-rows fixed x h)) (bits-direct x row size within v l) (mod-lt x (pow_pos b)) (sym (split x b)) in
@@ -139,11 +139,11 @@ module _ (o base x row size within : ℕ) (L : Loc o base x) (h : x < 2 ^ 40) (v
       let e2 : base + within ≡ o / 2 ^ c * 2 ^ c = omega arith in
       λ i. record { start = e2 i; size = e1 i }
 
-  pub loc-deeper : leb (rowBits fixed row) 16 ≡ false → Loc o (base + within) (x - within)
-  loc-deeper l =
+  pub loc_deeper : leb (rowBits fixed row) 16 ≡ false → Loc o (base + within) (x - within)
+  loc_deeper l =
       let b = rowBits fixed (row_of fixed x) in
       let c = slotBits fixed o in
-      let sm = rest-small x row size within v l h in
+      let sm = rest_small x row size within v l h in
       let T = top-row fixed x (heap-rows fixed x h) in
       let m : x % 2 ^ b < 2 ^ b = mod-lt x (pow_pos b) in
       let s : Slotted fixed (x % 2 ^ b) c = inv-sub fixed (x / 2 ^ b) b (x % 2 ^ b) L.slotted T (bits-deep x row size within v l) m (sym (split x b)) in
@@ -236,9 +236,9 @@ module _ (w e s total base x row size within : ℕ) (I : Entering w e s total ba
     entering-more = go I.fuel I.enough I.rest
       where
         go : (f : ℕ) → x < 2 ^ f → enteredBytes fixed w e s ≡ total + enteredBytesIn fixed w f e base x → Entering w e s (total + here) (base + within) (x - within)
-        go zero b r = absurd (let z = (rest-small x row size within v l h).1 in let k = v.below in omega arith)
+        go zero b r = absurd (let z = (rest_small x row size within v l h).1 in let k = v.below in omega arith)
         go (suc f) b r =
-            let sm = rest-small x row size within v l h in
+            let sm = rest_small x row size within v l h in
             let wb = v.below in
             let i = I.sum in
             let d = one-entered f in

@@ -2,12 +2,12 @@
 use Prim.Native.Nat.{ℕ, suc, ◌+◌, ◌-◌, ◌*◌, ◌/◌, ◌%◌, ◌^◌, ◌≤◌, ◌<◌}
 use mathlib.Core.Path.{◌≡◌, sym, ap, ◌∙◌}
 use native.Mathlib.Omega.{arith}
-use native.Mathlib.Nat.{mul-le-mul_right, lt_of_not-le, mod-eq_of_lt, mod-lt}
+use native.Mathlib.Nat.{mul-le-mul_right, mod-eq_of_lt, mod-lt}
 use lib.Pow.{pow_pos, pow_mono, pow-lt, pow-add, high, low, split}
 
 -- of two powers, the smaller has the smaller exponent
 pub pow_lt_cancel : {a b : ℕ} → 2 ^ a < 2 ^ b → a < b
-pow_lt_cancel h = lt_of_not-le (λ g. let m = pow_mono g in omega arith)
+pow_lt_cancel h = grind (arith, pow_mono)
 
 pub le_of_not_lt : {a b : ℕ} → (b < a → ⊥) → a ≤ b
 le_of_not_lt h = omega arith
@@ -18,10 +18,10 @@ digits-unique q q' b r r' h h' e = (sym (high q b h) ∙ ap (λ (y : ℕ). y / 2
 
 -- 2 ^ b as a multiple of a smaller power
 pub pow-split : {b c : ℕ} → c ≤ b → 2 ^ b ≡ 2 ^ (b - c) * 2 ^ c
-pow-split {b} {c} l = ap (λ (k : ℕ). 2 ^ k) (omega arith) ∙ pow-add 2 (b - c) c
+pow-split {b} {c} l = grind (arith, pow-add)
 
 pub join : (q b c k : ℕ) → c ≤ b → q * 2 ^ b + k * 2 ^ c ≡ (q * 2 ^ (b - c) + k) * 2 ^ c
-join q b c k l = let e = ap (λ (y : ℕ). q * y) (pow-split l) in omega arith
+join q b c k l = grind (arith, pow-split l)
 
 -- a multiple less a multiple is a multiple
 pub part : (m k c r : ℕ) → m * 2 ^ c + r ≡ k * 2 ^ c → (d : ℕ) × (r ≡ d * 2 ^ c)

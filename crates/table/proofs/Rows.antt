@@ -1,14 +1,12 @@
 -- The rows of the table: they begin in order, and an offset has one row and one block in it.
 use Prim.Native.Nat.{ℕ, zero, suc, ◌+◌, ◌-◌, ◌*◌, ◌/◌, ◌^◌, ◌≤◌, ◌<◌, zero-le}
-use mathlib.Core.Path.{◌≡◌, refl, sym, ap, ◌∙◌, subst}
-use mathlib.Core.Bool.{Bool, true, false, cond}
+use mathlib.Core.Path.{◌≡◌, sym, ap, ◌∙◌, subst}
 use native.Mathlib.Omega.{arith}
 use native.Mathlib.Nat.{lt_of_lt_of_le, lt_of_le_of_lt, le-div_iff_mul-le, mul-add-div_right}
-use native.Mathlib.Decide.{dec_lt}
 use lib.Dec.{leb, ltb}
+use Rattle.std.proofs.lemmas.Bool.Decides.{nat_tests}
 use lib.Count.{count_leading_zeros, leading_top}
 use lib.Pow.{pow_pos, pow_mono, pow-lt, pow-add, shr_lt}
-use borrow.Author.Tests.{leb-true, leb-false, le-leb, lt-leb, lt-ltb, le-ltb}
 use Rattle.table.specs.Table.{Table, fixed, rowBits, rowOffset, row_in, row_of, place_of}
 use Rattle.table.specs.declared.RowCol.{RowCol}
 use Rattle.table.specs.Slots.{slotStart}
@@ -18,29 +16,17 @@ module _ (t : Table) where
   row-in-le : (n x : ℕ) → rowOffset t (row_in t n x) ≤ x
   unfolding rowOffset row_in
   row-in-le zero x = zero-le
-  row-in-le (suc n) x = go (leb (rowOffset t (suc n)) x) refl (row-in-le n x)
-    where
-      go : (b : Bool) → leb (rowOffset t (suc n)) x ≡ b → rowOffset t (row_in t n x) ≤ x → rowOffset t (cond b (suc n) (row_in t n x)) ≤ x
-      go true e h = leb-true _ _ e
-      go false e h = h
+  row-in-le (suc n) x = grind (arith, nat_tests, row-in-le n x)
 
   row-in-lt : (n x : ℕ) → x < rowOffset t (suc n) → x < rowOffset t (suc (row_in t n x))
   unfolding rowOffset row_in
   row-in-lt zero x h = h
-  row-in-lt (suc n) x h = go (leb (rowOffset t (suc n)) x) refl (row-in-lt n x)
-    where
-      go : (b : Bool) → leb (rowOffset t (suc n)) x ≡ b → (x < rowOffset t (suc n) → x < rowOffset t (suc (row_in t n x))) → x < rowOffset t (suc (cond b (suc n) (row_in t n x)))
-      go true e g = h
-      go false e g = g (leb-false _ _ e)
+  row-in-lt (suc n) x h = grind (arith, nat_tests, row-in-lt n x)
 
   row-in-most : (n x : ℕ) → row_in t n x ≤ n
   unfolding row_in
   row-in-most zero x = zero-le
-  row-in-most (suc n) x = go (leb (rowOffset t (suc n)) x) (row-in-most n x)
-    where
-      go : (b : Bool) → row_in t n x ≤ n → cond b (suc n) (row_in t n x) ≤ suc n
-      go true h = omega arith
-      go false h = omega arith
+  row-in-most (suc n) x = grind (arith, nat_tests, row-in-most n x)
 
   pub row-mono : (r s : ℕ) → r ≤ s → rowOffset t r ≤ rowOffset t s
   unfolding rowOffset
@@ -199,8 +185,4 @@ place_is x r start size e f g =
 -- eight rows are direct
 pub direct-rows : (r : ℕ) → ltb r 8 ≡ leb (rowBits fixed r) 16
 unfolding rowBits
-direct-rows r = go (dec_lt r 8)
-  where
-    go : Dec (r < 8) → ltb r 8 ≡ leb (10 + (r - 1)) 16
-    go (yes l) = lt-ltb r 8 l ∙ sym (le-leb (10 + (r - 1)) 16 (omega arith))
-    go (no l) = le-ltb r 8 (omega arith) ∙ sym (lt-leb (10 + (r - 1)) 16 (omega arith))
+direct-rows r = grind (arith, nat_tests)

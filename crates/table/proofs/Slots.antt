@@ -253,6 +253,25 @@ module _ (t : Table) (g : t.startBits ≤ t.directBits) (k : t.startBits ≤ t.h
       let e : c + 2 ^ s.bits ≡ slotEnd (slot_at t c) = ap (λ (y : ℕ). c + 2 ^ y) (start-bits c s h) ∙ ap (λ (y : ℕ). y + 2 ^ slotBits t c) (sym (start-here c s h)) in
       subst (Start t) e (next t g s.slotted s.nth s.here)
 
+  -- the slot of any offset begins where a slot begins, and it is the slot that is found there
+  pub slot-start : (c : ℕ) → c < 2 ^ t.heapBits → Start t (slot_at t c).start
+  unfolding slot_at
+  slot-start c h =
+      let b = slotBits t c in
+      record {
+        bits = b;
+        slotted = down t (slot-bits-is t c g h) (c / 2 ^ b) (c % 2 ^ b) (sym (split c b)) (mod-lt c (pow_pos b));
+        nth = c / 2 ^ b;
+        here = refl;
+      }
+
+  pub slot-again : (c : ℕ) → c < 2 ^ t.heapBits → slotBits t (slot_at t c).start ≡ slotBits t c
+  unfolding slot_at slot-start
+  slot-again c h =
+      let b = slotBits t c in
+      let lo : c / 2 ^ b * 2 ^ b ≤ c = div-mul-le_self c (2 ^ b) in
+      sym (start-bits (c / 2 ^ b * 2 ^ b) (slot-start c h) (omega (arith, lo, h)))
+
   -- where the slot of any offset ends, the next begins
   pub end-start : (c : ℕ) → c < 2 ^ t.heapBits → Start t (slotEnd (slot_at t c))
   unfolding slot_at

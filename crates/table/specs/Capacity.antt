@@ -1,6 +1,6 @@
 -- How many object bytes the blocks of a table can hold: HDF5 File Format Specification 3.0, III.G, 'Fractal Heap Direct
 -- Block', Object Data.
-use Rattle.std.specs.Prelude.{ℕ, zero, suc, ◌-◌, ◌*◌, ◌^◌, cond, List, [], ◌∷◌, ◌++◌, take, leb}
+use Rattle.std.specs.Prelude.{ℕ, zero, suc, ◌-◌, ◌*◌, ◌^◌, nat_le, if◌then◌else◌, List, [], ◌∷◌, ◌++◌, take}
 use Rattle.numbers.specs.Sums.{sum}
 use Rattle.table.specs.Table.{Table, rowBits}
 
@@ -8,7 +8,7 @@ use Rattle.table.specs.Table.{Table, rowBits}
 -- hold, whose capacities stand in front in l
 unfoldable pub blockCapacity : Table → ℕ → ℕ → List ℕ → ℕ
 blockCapacity t h r l =
-    cond (leb (rowBits t r) t.directBits) (2 ^ rowBits t r - h) (2 ^ t.width_bits * sum (take (r - t.width_bits) l))
+    if nat_le (rowBits t r) t.directBits then 2 ^ rowBits t r - h else 2 ^ t.width_bits * sum (take (r - t.width_bits) l)
 
 -- the capacities of a block of each of the rows before n
 unfoldable pub capacities : Table → ℕ → ℕ → List ℕ

@@ -1,8 +1,8 @@
 -- The direct slots of the doubling table. A slot of a row whose blocks are no larger than the largest
 -- direct block is direct; a slot of a later row is an indirect block, a table in turn, whose rows fill it.
--- HDF5 File Format Specification 3.0, III.G, before its tables; but how many rows fill a slot is document 01's, since
--- the text's nrows leaves out the width (docs/DIFFERENCES.md).
-use Rattle.std.specs.Prelude.{ℕ, zero, suc, ◌+◌, ◌-◌, ◌*◌, ◌/◌, ◌%◌, ◌^◌, ◌≤◌, ◌<◌, ◌≡◌, true, false, cond, leb}
+-- HDF5 File Format Specification 3.0, III.G, before its tables; but how many rows fill a slot is our rule, since the
+-- text's nrows leaves out the width (docs/DIFFERENCES.md).
+use Rattle.std.specs.Prelude.{ℕ, zero, suc, ◌+◌, ◌-◌, ◌*◌, ◌/◌, ◌%◌, ◌^◌, ◌≤◌, ◌<◌, ◌≡◌, true, false, nat_le, if◌then◌else◌}
 use Rattle.table.specs.Table.{Table, rowBits, rowOffset, row_of}
 use Rattle.table.specs.Sizes.{indirectSize}
 use Rattle.table.specs.declared.Slot.{Slot}
@@ -27,7 +27,7 @@ tableSlot t x = record { row = row_of t x; start = slotStart t x; size = 2 ^ row
 unfoldable pub slotBitsIn : Table → ℕ → ℕ → ℕ
 slotBitsIn t zero x = t.startBits
 slotBitsIn t (suc f) x =
-    elim (leb (rowBits t (row_of t x)) t.directBits)
+    elim (nat_le (rowBits t (row_of t x)) t.directBits)
     [ true ↦ rowBits t (row_of t x) | false ↦ slotBitsIn t f (x % 2 ^ rowBits t (row_of t x)) ]
 
 unfoldable pub slotBits : Table → ℕ → ℕ
@@ -45,10 +45,10 @@ slotEnd s = s.start + s.size
 unfoldable pub enteredBytesIn : Table → ℕ → ℕ → ℕ → ℕ → ℕ → ℕ
 enteredBytesIn t w zero e a x = 0
 enteredBytesIn t w (suc f) e a x =
-    elim (leb (rowBits t (row_of t x)) t.directBits) [
+    elim (nat_le (rowBits t (row_of t x)) t.directBits) [
       | true ↦ 0
       | false ↦
-          cond (leb e (a + slotStart t x)) (indirectSize t w (row_of t x - t.width_bits)) 0
+          (if nat_le e (a + slotStart t x) then indirectSize t w (row_of t x - t.width_bits) else 0)
           + enteredBytesIn t w f e (a + slotStart t x) (x - slotStart t x)
     ]
 

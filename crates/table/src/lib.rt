@@ -1,26 +1,27 @@
-// The doubling table of a fractal heap at the fixed geometry: width 4, starting block 1,024, largest
-// direct block 65,536, heap space 2^40. The definitions in specs/ have the table as a parameter; they also serve the
-// functions of table_rows, table_sizes, table_slots and table_capacity.
-// Functions with a `requires` serve our own crates and are no part of the interface.
+//! The doubling table of a fractal heap at the fixed geometry: width 4, starting block 1,024, largest
+//! direct block 65,536, heap space 2^40. The definitions in specs/ have the table as a parameter; they also serve the
+//! functions of table_rows, table_sizes, table_slots and table_capacity.
+//! Functions with a `requires` serve our own crates and are no part of the interface.
 #![tactic(auto)]
 
-ghost use Rattle.std.specs.Prelude.{◌≡◌, ◌^◌, ◌<◌, ◌≤◌, leb};
+ghost use Rattle.std.specs.Prelude.{◌≡◌, ◌^◌, ◌<◌, ◌≤◌, nat_le};
 ghost use Rattle.table.specs.Table.{fixed, rowBits, rowOffset, row_of, place_of};
 
+/// Row and column of a slot.
 #[derive(Clone, Copy)]
 pub struct RowCol {
     pub row: u64,
     pub col: u64,
 }
 
-// A direct slot of the heap.
+/// A direct slot of the heap.
 #[derive(Clone, Copy)]
 pub struct Slot {
     pub start: u64,
     pub size: u64,
 }
 
-// A slot of one indirect block's table: its row, and its place from the block's own offset on.
+/// A slot of one indirect block's table: its row, and its place from the block's own offset on.
 #[derive(Clone, Copy)]
 pub struct TableSlot {
     pub row: u64,
@@ -28,14 +29,7 @@ pub struct TableSlot {
     pub size: u64,
 }
 
-// The rows that a root needs, or none where the table has too few.
-#[derive(Clone, Copy)]
-pub enum Covering {
-    Rows(u64),
-    Beyond,
-}
-
-// The size of a block of a row.
+/// The size of a block of a row.
 pub fn row_block_size(row: u64) -> u64
     requires { row < 30 }
     ensures { result ≡ 2 ^ rowBits fixed row }
@@ -43,14 +37,14 @@ pub fn row_block_size(row: u64) -> u64
     if row <= 1 { 1024 } else { 1024 << (row - 1) }
 }
 
-// Whether a row's slots are direct blocks; those of later rows are indirect.
+/// Whether a row's slots are direct blocks; those of later rows are indirect.
 pub fn is_direct(row: u64) -> bool
-    ensures { result ≡ leb (rowBits fixed row) fixed.directBits }
+    ensures { result ≡ nat_le (rowBits fixed row) fixed.directBits }
 {
     row < 8
 }
 
-// Where a row begins, from its indirect block's own offset on.
+/// Where a row begins, from its indirect block's own offset on.
 pub fn row_offset(row: u64) -> u64
     requires { row < 30 }
     ensures { result ≡ rowOffset fixed row }
@@ -58,7 +52,7 @@ pub fn row_offset(row: u64) -> u64
     if row == 0 { 0 } else { 4096 << (row - 1) }
 }
 
-// The row of an offset.
+/// The row of an offset.
 pub fn row_of(offset: u64) -> u64
     requires { offset ≤ 2 ^ 40 }
     ensures { result ≡ row_of fixed offset }
@@ -70,7 +64,7 @@ pub fn row_of(offset: u64) -> u64
     high_bit as u64 - 11
 }
 
-// Row and column of an offset.
+/// Row and column of an offset.
 pub fn lookup(offset: u64) -> RowCol
     requires { offset < 2 ^ 40 }
     ensures { result ≡ place_of fixed offset }

@@ -1,8 +1,8 @@
-// How many object bytes the rows of the table hold. Functions with a `requires` serve our own crates and are
-// no part of the interface.
+//! How many object bytes the rows of the table hold. Functions with a `requires` serve our own crates and are
+//! no part of the interface.
 #![tactic(auto)]
 
-ghost use Rattle.std.specs.Prelude.{◌≡◌, ◌-◌, ◌*◌, ◌^◌, ◌<◌, ◌≤◌, cond, leb, take};
+ghost use Rattle.std.specs.Prelude.{◌≡◌, ◌-◌, ◌*◌, ◌^◌, ◌<◌, ◌≤◌, nat_le, if◌then◌else◌, take};
 ghost use Rattle.table.specs.Table.{fixed, rowBits};
 ghost use Rattle.table.specs.Sizes.{directHeader};
 ghost use Rattle.numbers.specs.Sums.{sum};
@@ -14,8 +14,11 @@ use table_sizes::direct_block_header;
 // What a block of a row holds, `below` being what the blocks of the rows that fill an indirect one hold,
 // one of each row.
 fn block_capacity(row: u64, below: u64, header: u64) -> u64
-    requires { (row < 29) × (below ≤ 2 ^ 40) × (header ≤ 1024) }
-    ensures { result ≡ cond (leb (rowBits fixed row) 16) (2 ^ rowBits fixed row - header) (4 * below) }
+    requires row_of_root { row < 29 }
+    requires below_in_heap { below ≤ 2 ^ 40 }
+    requires header_in_block { header ≤ 1024 }
+    ensures { result
+        ≡ if nat_le (rowBits fixed row) 16 then 2 ^ rowBits fixed row - header else 4 * below }
 {
     if is_direct(row) {
         row_block_size(row) - header
@@ -24,8 +27,8 @@ fn block_capacity(row: u64, below: u64, header: u64) -> u64
     }
 }
 
-// What a block of each row holds, upward: an indirect row's blocks hold what the rows below that fill
-// them hold. Rows 0 and 1 are alike and filled at once.
+/// What a block of each row holds, upward: an indirect row's blocks hold what the rows below that fill
+/// them hold. Rows 0 and 1 are alike and filled at once.
 pub fn rows_capacity(offset_size: u8) -> [u64; 29]
     ensures { result ≡ capacities fixed (directHeader fixed offset_size) 29 }
 {
@@ -39,9 +42,10 @@ pub fn rows_capacity(offset_size: u8) -> [u64; 29]
     per_block
 }
 
-// What `nrows` rows hold, from the capacities of their blocks.
+/// What `nrows` rows hold, from the capacities of their blocks.
 pub fn capacity_sum(per_block: [u64; 29], nrows: usize) -> u64
-    requires { (nrows ≤ 29) × (4 * sum (take nrows per_block) ≤ 2 ^ 40) }
+    requires rows_of_root { nrows ≤ 29 }
+    requires sum_in_heap { 4 * sum (take nrows per_block) ≤ 2 ^ 40 }
     ensures { result ≡ 4 * sum (take nrows per_block) }
 {
     let mut total = 0;

@@ -16,7 +16,7 @@ use Rattle.table.proofs.Slots.{Slotted, top, sub, Start, slotted-unique, slotted
 use Rattle.table_laws.specs.Count.{InBody}
 
 -- the rows of the largest root span the heap
-heap-span : (t : Table) → t.startBits + t.width_bits ≤ t.heapBits → rowOffset t (maxRows t) ≡ 2 ^ t.heapBits
+pub heap-span : (t : Table) → t.startBits + t.width_bits ≤ t.heapBits → rowOffset t (maxRows t) ≡ 2 ^ t.heapBits
 unfolding rowOffset maxRows
 heap-span t k =
     let a = t.startBits + t.width_bits in

@@ -6,22 +6,22 @@ use native.Mathlib.Decide.{ℕ_discrete}
 use native.Mathlib.Numerals.{add-one}
 use borrow.Author.Tests.{le-leb, lt-leb}
 use Rattle.table.specs.Table.{Table, fixed, rowOffset, row_of, maxRows, coveringIn, covering}
-use Rattle.table.specs.declared.Covering.TheVariants.{Rows, Beyond}
+use Rattle.std.specs.Prelude.{Some, None}
 use Rattle.table.proofs.Rows.{row-mono, row-lo, row_up, row-29, heap-rows}
 
 module _ (t : Table) (x : ℕ) where
   -- n rows reach x and no fewer do
-  covering-is : (f m n : ℕ) → m ≤ n → n < m + f → ((j : ℕ) → m ≤ j → j < n → rowOffset t j < x) → x ≤ rowOffset t n → coveringIn t f m x ≡ Rows n
+  covering-is : (f m n : ℕ) → m ≤ n → n < m + f → ((j : ℕ) → m ≤ j → j < n → rowOffset t j < x) → x ≤ rowOffset t n → coveringIn t f m x ≡ Some n
   unfolding coveringIn
   covering-is zero m n l u less enough = absurd (omega arith)
   covering-is (suc f) m n l u less enough = go (ℕ_discrete m n) (λ v. covering-is f (suc m) n v (omega arith) (λ j a b. less j (omega arith) b) enough)
     where
-      go : Dec (m ≡ n) → (suc m ≤ n → coveringIn t f (suc m) x ≡ Rows n) → coveringIn t (suc f) m x ≡ Rows n
-      go (yes e) ih = rw (le-leb x (rowOffset t m) (subst (λ (k : ℕ). x ≤ rowOffset t k) (sym e) enough), coveringIn) (ap Rows e)
+      go : Dec (m ≡ n) → (suc m ≤ n → coveringIn t f (suc m) x ≡ Some n) → coveringIn t (suc f) m x ≡ Some n
+      go (yes e) ih = rw (le-leb x (rowOffset t m) (subst (λ (k : ℕ). x ≤ rowOffset t k) (sym e) enough), coveringIn) (ap Some e)
       go (no e) ih = rw (lt-leb x (rowOffset t m) (less m (omega arith) (omega arith)), coveringIn) (ih (omega arith))
 
   -- no row count reaches x
-  covering-none : (f m : ℕ) → ((j : ℕ) → j < m + f → rowOffset t j < x) → coveringIn t f m x ≡ Beyond
+  covering-none : (f m : ℕ) → ((j : ℕ) → j < m + f → rowOffset t j < x) → coveringIn t f m x ≡ None
   unfolding coveringIn
   covering-none zero m less = refl
   covering-none (suc f) m less =
@@ -29,16 +29,16 @@ module _ (t : Table) (x : ℕ) where
 
 -- ---- the fixed table
 
-pub covers-zero : covering fixed 0 ≡ Rows 1
+pub covers-zero : covering fixed 0 ≡ Some 1
 unfolding covering maxRows
 covers-zero = covering-is fixed 0 29 1 1 (omega arith) (omega arith) (λ j a b. absurd (omega arith)) zero-le
 
-pub covers-not : (x : ℕ) → 2 ^ 40 < x → covering fixed x ≡ Beyond
+pub covers-not : (x : ℕ) → 2 ^ 40 < x → covering fixed x ≡ None
 unfolding covering maxRows
 covers-not x h = covering-none fixed x 29 1 (λ j l. (let m = row-mono fixed j 29 (omega arith) in let e : rowOffset fixed 29 ≡ 2 ^ 40 = unfold rowOffset in refl in omega arith))
 
 -- the row of the last byte is the last row
-pub covers : (x : ℕ) → 0 < x → x ≤ 2 ^ 40 → covering fixed x ≡ Rows (row_of fixed (x - 1) + 1)
+pub covers : (x : ℕ) → 0 < x → x ≤ 2 ^ 40 → covering fixed x ≡ Some (row_of fixed (x - 1) + 1)
 unfolding covering maxRows
 covers x p h =
     let r = row_of fixed (x - 1) in

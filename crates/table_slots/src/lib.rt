@@ -1,8 +1,8 @@
-// The slots of the table: the one that holds an offset, and the indirect blocks that a direct block opens.
-// The functions have a `requires`; they serve our own crates and are no part of the interface.
+//! The slots of the table: the one that holds an offset, and the indirect blocks that a direct block opens.
+//! The functions have a `requires`; they serve our own crates and are no part of the interface.
 #![tactic(auto)]
 
-ghost use Rattle.std.specs.Prelude.{◌≡◌, ◌^◌, ◌<◌, ◌≤◌, cond, leb};
+ghost use Rattle.std.specs.Prelude.{◌≡◌, ◌^◌, ◌<◌, ◌≤◌, nat_le, if◌then◌else◌};
 ghost use Rattle.table.specs.Table.{fixed, row_of};
 ghost use Rattle.table.specs.Sizes.{indirectSize};
 ghost use Rattle.table.specs.Slots.{tableSlot, slot_at, enteredBytes};
@@ -11,7 +11,7 @@ use table::{Slot, TableSlot, is_direct, lookup, row_block_size, row_offset};
 use table_rows::size_to_rows;
 use table_sizes::indirect_block_size;
 
-// The table's own slot that holds an offset.
+/// The table's own slot that holds an offset.
 pub fn table_slot(offset: u64) -> TableSlot
     requires { offset < 2 ^ 40 }
     ensures { result ≡ tableSlot fixed offset }
@@ -25,7 +25,7 @@ pub fn table_slot(offset: u64) -> TableSlot
     }
 }
 
-// The direct slot that holds an offset.
+/// The direct slot that holds an offset.
 pub fn locate(offset: u64) -> Slot
     requires { offset < 2 ^ 40 }
     ensures { result ≡ slot_at fixed offset }
@@ -49,7 +49,8 @@ pub fn locate(offset: u64) -> Slot
 // before, which ended at `end`, lies in it too.
 fn entered_here(end: u64, start: u64, size: u64, offset_size: u8) -> u64
     requires { size ≤ 2 ^ 40 }
-    ensures { result ≡ cond (leb end start) (indirectSize fixed offset_size (row_of fixed size)) 0 }
+    ensures { result
+        ≡ if nat_le end start then indirectSize fixed offset_size (row_of fixed size) else 0 }
 {
     if end <= start {
         indirect_block_size(size_to_rows(size), offset_size)
@@ -58,8 +59,8 @@ fn entered_here(end: u64, start: u64, size: u64, offset_size: u8) -> u64
     }
 }
 
-// The bytes of the indirect blocks that a direct block at `start` opens, where the one before ended at
-// `end`.
+/// The bytes of the indirect blocks that a direct block at `start` opens, where the one before ended at
+/// `end`.
 pub fn entered_blocks(end: u64, start: u64, offset_size: u8) -> u64
     requires { start < 2 ^ 40 }
     ensures { result ≡ enteredBytes fixed offset_size end start }

@@ -1,4 +1,4 @@
-// The checksum as a C function, for tests, comparisons and tools. The loader's functions are apart from these.
+//! The checksum as a C function, for tests, comparisons and tools. The loader's functions are apart from these.
 #![tactic(auto)]
 
 ghost use Rattle.std.specs.Prelude.{◌≡◌};
@@ -6,6 +6,7 @@ ghost use Rattle.checksum.specs.Lookup3.{hashlittle};
 
 use checksum::jenkins_lookup3;
 
+/// The lookup3 checksum of the bytes.
 #[unsafe(no_mangle)]
 pub extern "C" fn tools_jenkins_lookup3(bytes: &[u8]) -> u32
     ensures { result ≡ hashlittle bytes.now }

@@ -1,23 +1,26 @@
-// C functions over the fields of a file, for tests, comparisons and tools. Each read returns the refusal's number, 0
-// where there is none, and puts the two values into the first 16 bytes of the slot; a shorter slot gives 13 before all
-// else.
+//! C functions over the fields of a file, for tests, comparisons and tools. Each read returns the refusal's number, 0
+//! where there is none, and puts the two values into the first 16 bytes of the slot; a shorter slot gives 13 before all
+//! else.
 #![tactic(auto)]
 
-ghost use Rattle.std.specs.Prelude.{◌≡◌};
-ghost use Rattle.numbers.specs.Sums.{bit};
+ghost use Rattle.std.specs.Prelude.{◌≡◌, if◌then◌else◌};
 ghost use Rattle.fields.specs.Undefined.{isUndefinedAddr};
-ghost use Rattle.fields.specs.Fields.{lenChecked, offsetAt, length_at};
-ghost use Rattle.fields.specs.Answers.{checkedAnswer, fieldAnswer};
-ghost use Rattle.c_slot.specs.Slot.{slotNumber, slotBytes};
+ghost use Rattle.fields.specs.Fields.{len_ensured, offset_at, length_at};
+ghost use Rattle.c_slot.specs.Slot.{slot_number, slot_bytes};
+ghost use Rattle.tools_fields.specs.Reports.{test_report, number_report};
 
 use c_slot::put_answer;
 use fields::convert::{is_undefined_addr, to_usize};
 use fields::{ensure_len, read_length, read_offset};
+use refusals::Reported;
 
+/// Tests that `needed` bytes stand at `offset`; the end that they would have and the number of bytes where not.
 #[unsafe(no_mangle)]
 pub extern "C" fn tools_ensure_len(bytes: &[u8], offset: u64, needed: u64, slot: &mut [u8]) -> u32
-    ensures value { result ≡ slotNumber slot.old (checkedAnswer (lenChecked bytes.now offset needed)) }
-    ensures slot_after { slot.new ≡ slotBytes slot.old (checkedAnswer (lenChecked bytes.now offset needed)) }
+    ensures number { result ≡ slot_number slot.old
+        (test_report (len_ensured bytes.now offset needed)) }
+    ensures slot_after { slot.new ≡ slot_bytes slot.old
+        (test_report (len_ensured bytes.now offset needed)) }
 {
     put_answer(
         slot,
@@ -25,10 +28,13 @@ pub extern "C" fn tools_ensure_len(bytes: &[u8], offset: u64, needed: u64, slot:
     )
 }
 
+/// The address of `offset_size` bytes at `pos`.
 #[unsafe(no_mangle)]
 pub extern "C" fn tools_read_offset(bytes: &[u8], pos: u64, offset_size: u8, slot: &mut [u8]) -> u32
-    ensures value { result ≡ slotNumber slot.old (fieldAnswer (offsetAt bytes.now pos offset_size)) }
-    ensures slot_after { slot.new ≡ slotBytes slot.old (fieldAnswer (offsetAt bytes.now pos offset_size)) }
+    ensures number { result ≡ slot_number slot.old
+        (number_report (offset_at bytes.now pos offset_size)) }
+    ensures slot_after { slot.new ≡ slot_bytes slot.old
+        (number_report (offset_at bytes.now pos offset_size)) }
 {
     put_answer(
         slot,
@@ -36,10 +42,13 @@ pub extern "C" fn tools_read_offset(bytes: &[u8], pos: u64, offset_size: u8, slo
     )
 }
 
+/// The length of `length_size` bytes at `pos`.
 #[unsafe(no_mangle)]
 pub extern "C" fn tools_read_length(bytes: &[u8], pos: u64, length_size: u8, slot: &mut [u8]) -> u32
-    ensures value { result ≡ slotNumber slot.old (fieldAnswer (length_at bytes.now pos length_size)) }
-    ensures slot_after { slot.new ≡ slotBytes slot.old (fieldAnswer (length_at bytes.now pos length_size)) }
+    ensures number { result ≡ slot_number slot.old
+        (number_report (length_at bytes.now pos length_size)) }
+    ensures slot_after { slot.new ≡ slot_bytes slot.old
+        (number_report (length_at bytes.now pos length_size)) }
 {
     put_answer(
         slot,
@@ -47,7 +56,7 @@ pub extern "C" fn tools_read_length(bytes: &[u8], pos: u64, length_size: u8, slo
     )
 }
 
-// The value; the host's indices have 64 bits.
+/// The value; the host's indices have 64 bits.
 #[unsafe(no_mangle)]
 pub extern "C" fn tools_to_usize(value: u64) -> u64
     ensures { result ≡ value }
@@ -55,14 +64,10 @@ pub extern "C" fn tools_to_usize(value: u64) -> u64
     to_usize(value) as u64
 }
 
-// 1 for the undefined address, 0 for any other.
+/// 1 for the undefined address, 0 for any other.
 #[unsafe(no_mangle)]
 pub extern "C" fn tools_is_undefined_addr(addr: u64, offset_size: u8) -> u32
-    ensures { result ≡ bit (isUndefinedAddr addr offset_size) }
+    ensures { result ≡ if isUndefinedAddr addr offset_size then 1 else 0 }
 {
-    if is_undefined_addr(addr, offset_size) {
-        1
-    } else {
-        0
-    }
+    u32::from(is_undefined_addr(addr, offset_size))
 }

@@ -1,6 +1,9 @@
--- What the C functions over stores leave in the bytes that they are lent.
-use Rattle.std.specs.Prelude.{ℕ, cond, List, length, ltb}
+-- What the C functions over stores report.
+use Rattle.std.specs.Prelude.{ℕ}
+use Rattle.refusals.specs.Refusals.{answer, report_of}
+use Rattle.refusals.specs.declared.answer.Answer.{Answer}
+use Rattle.stores.specs.Stores.{store_ensured}
 
--- a slot shorter than 16 bytes is refused before anything is stored: what was lent, or what it became
-unfoldable pub afterSlot : List ℕ → List ℕ → List ℕ → List ℕ
-afterSlot slot before after = cond (ltb (length slot) 16) before after
+-- an address of w bytes stored at p of n lent bytes: 0 and two zeros, or the refusal
+abbrev pub store_report : ℕ → ℕ → ℕ → Answer
+store_report n p w = report_of (λ _. answer 0 0 0) (store_ensured n p w)

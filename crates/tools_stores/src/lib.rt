@@ -1,18 +1,19 @@
-// C functions over stores, for tests, comparisons and tools. Each returns the refusal's number, 0 where there is none,
-// and puts the two values into the first 16 bytes of the slot; a shorter slot gives 13 before anything is stored.
+//! C functions over stores, for tests, comparisons and tools. Each returns the refusal's number, 0 where there is none,
+//! and puts the two values into the first 16 bytes of the slot; a shorter slot gives 13 before anything is stored.
 #![tactic(auto)]
 
-ghost use Rattle.std.specs.Prelude.{◌≡◌, length};
-ghost use Rattle.stores.specs.Stores.{storeChecked, offsetStored, undefStored};
-ghost use Rattle.fields.specs.Answers.{checkedAnswer};
-ghost use Rattle.c_slot.specs.Slot.{slotNumber, slotBytes};
-ghost use Rattle.tools_stores.specs.StoreTools.{afterSlot};
+ghost use Rattle.std.specs.Prelude.{◌≡◌, ◌<◌, length, replicate};
+ghost use Rattle.little_endian.specs.LittleEndian.{le, put};
+ghost use Rattle.c_slot.specs.Slot.{slot_number, slot_bytes};
+ghost use Rattle.tools_stores.specs.StoreTools.{store_report};
 
 use c_slot::put_answer;
-use fields::convert::to_usize;
+use refusals::Reported;
 use stores::{write_offset, write_undef_offset};
 
-#[tactic(auto, unfolding(crate::specs::StoreTools::afterSlot, c_slot::specs::Slot::slotNumber, c_slot::specs::Slot::slotBytes))]
+/// Stores the low bytes of `value` as an address of `offset_size` bytes at `pos`: 2 where the size is none, 13 where
+/// `bytes` ends too early.
+#[tactic(auto, unfolding(c_slot::specs::Slot::slot_number, c_slot::specs::Slot::slot_bytes, stores::specs::Stores::store_ensured))]
 #[unsafe(no_mangle)]
 pub extern "C" fn tools_write_offset(
     bytes: &mut [u8],
@@ -21,18 +22,22 @@ pub extern "C" fn tools_write_offset(
     offset_size: u8,
     slot: &mut [u8],
 ) -> u32
-    ensures value { result ≡ slotNumber slot.old (checkedAnswer (storeChecked (length bytes.old) pos offset_size)) }
-    ensures slot_after { slot.new ≡ slotBytes slot.old (checkedAnswer (storeChecked (length bytes.old) pos offset_size)) }
-    ensures bytes_after { bytes.new ≡ afterSlot slot.old bytes.old (offsetStored bytes.old pos value offset_size) }
+    ensures number { result
+        ≡ slot_number slot.old (store_report (length bytes.old) pos offset_size) }
+    ensures slot_after { slot.new
+        ≡ slot_bytes slot.old (store_report (length bytes.old) pos offset_size) }
+    ensures stored { result ≡ 0 → bytes.new ≡ put bytes.old pos (le offset_size value) }
+    ensures untouched { 0 < result → bytes.new ≡ bytes.old }
 {
     if slot.len() < 16 {
         return 13;
     }
-    let done = write_offset(bytes, to_usize(pos), value, offset_size);
-    put_answer(slot, done.answer())
+    let stored = write_offset(bytes, pos as usize, value, offset_size);
+    put_answer(slot, stored.answer())
 }
 
-#[tactic(auto, unfolding(crate::specs::StoreTools::afterSlot, c_slot::specs::Slot::slotNumber, c_slot::specs::Slot::slotBytes))]
+/// Stores the undefined address of `offset_size` bytes at `pos`, with the refusals of `tools_write_offset`.
+#[tactic(auto, unfolding(c_slot::specs::Slot::slot_number, c_slot::specs::Slot::slot_bytes, stores::specs::Stores::store_ensured))]
 #[unsafe(no_mangle)]
 pub extern "C" fn tools_write_undef_offset(
     bytes: &mut [u8],
@@ -40,13 +45,16 @@ pub extern "C" fn tools_write_undef_offset(
     offset_size: u8,
     slot: &mut [u8],
 ) -> u32
-    ensures value { result ≡ slotNumber slot.old (checkedAnswer (storeChecked (length bytes.old) pos offset_size)) }
-    ensures slot_after { slot.new ≡ slotBytes slot.old (checkedAnswer (storeChecked (length bytes.old) pos offset_size)) }
-    ensures bytes_after { bytes.new ≡ afterSlot slot.old bytes.old (undefStored bytes.old pos offset_size) }
+    ensures number { result
+        ≡ slot_number slot.old (store_report (length bytes.old) pos offset_size) }
+    ensures slot_after { slot.new
+        ≡ slot_bytes slot.old (store_report (length bytes.old) pos offset_size) }
+    ensures stored { result ≡ 0 → bytes.new ≡ put bytes.old pos (replicate offset_size 0xFF) }
+    ensures untouched { 0 < result → bytes.new ≡ bytes.old }
 {
     if slot.len() < 16 {
         return 13;
     }
-    let done = write_undef_offset(bytes, to_usize(pos), offset_size);
-    put_answer(slot, done.answer())
+    let stored = write_undef_offset(bytes, pos as usize, offset_size);
+    put_answer(slot, stored.answer())
 }

@@ -1,26 +1,31 @@
-// Planning, writing a region and writing a managed ID as C functions, for tests, comparisons and tools; no part of
-// the loader's interface.
+//! Planning, writing a region and writing a managed ID as C functions, for tests, comparisons and tools; no part of
+//! the loader's interface. Each returns the refusal's number, 0 where there is none, and changes nothing where it
+//! refuses but the list or the slot that takes the refusal's two values.
 #![tactic(auto)]
 
-ghost use Rattle.std.specs.Prelude.{◌≡◌, cond, length, ltb};
-ghost use Rattle.fields.specs.Answers.{checkedAnswer};
-ghost use Rattle.c_slot.specs.Slot.{slotNumber, slotBytes};
+ghost use Rattle.std.specs.Prelude.{◌≡◌, ◌<◌, ◌≤◌, IfOk, length};
+ghost use Rattle.little_endian.specs.LittleEndian.{put};
+ghost use Rattle.c_slot.specs.Slot.{slot_number, slot_bytes};
 ghost use Rattle.table.specs.Table.{fixed};
+ghost use Rattle.plan_steps.specs.Steps.{planOffsets, planStarts};
+ghost use Rattle.plan_laws.specs.Plans.{PlanKept};
+ghost use Rattle.plan_numbers.specs.PlanTools.{planNumber, planTotals};
 ghost use Rattle.region_blocks.specs.Site.{siteOf};
-ghost use Rattle.fractal_heap_write.specs.Serialize.{memory, call_of};
-ghost use Rattle.tools_write.specs.WriteTools.{planCall, PlanAnswered, SerializeAnswered};
-ghost use Rattle.id_write.specs.Checks.{idChecked};
-ghost use Rattle.id_write.specs.Ids.{idWritten};
+ghost use Rattle.region_write.specs.Region.{region as region_of};
+ghost use Rattle.id_write.specs.Ids.{managedId};
+ghost use Rattle.tools_write.specs.WriteTools.{plan_answer, write_answer, id_report};
 
 use c_slot::put_answer;
 use fractal_heap_write::serialize;
 use id_write::write_managed_id;
-use plan::ManagedPlan;
+use plan_laws::kept_plan;
 use plan_numbers::put_planned;
+use refusals::Reported;
+use region_blocks::Site;
 
-// Plans, and puts the plan's eight numbers, or a refusal's pair, into the first places of `totals`; a
-// shorter list than 8 gives 13 before all else.
-#[tactic(auto, unfolding(plan_numbers::specs::PlanTools::planNumber, plan_numbers::specs::PlanTools::planTotals, plan_numbers::specs::PlanTools::afterTotals))]
+/// Plans, and puts the plan's eight numbers, or a refusal's two values, into the first places of `totals`; a list
+/// shorter than 8 places gives 13 before all else.
+#[tactic(auto, unfolding(plan_numbers::specs::PlanTools::planNumber, plan_numbers::specs::PlanTools::planTotals))]
 #[unsafe(no_mangle)]
 pub extern "C" fn tools_plan(
     sizes: &[u64],
@@ -29,24 +34,28 @@ pub extern "C" fn tools_plan(
     offset_size: u8,
     totals: &mut [u64],
 ) -> u32
-    ensures { PlanAnswered
-        (planCall sizes.now offsets.old blocks.old offset_size)
-        totals.old
-        result
-        offsets.new
-        blocks.new
-        totals.new }
+    ensures number { result
+        ≡ planNumber totals.old (plan_answer sizes.now offsets.old blocks.old offset_size) }
+    ensures totals_after { totals.new
+        ≡ planTotals totals.old (plan_answer sizes.now offsets.old blocks.old offset_size) }
+    ensures offsets_listed { result ≡ 0 → offsets.new
+        ≡ put offsets.old 0 (planOffsets fixed offset_size sizes.now) }
+    ensures blocks_listed { result ≡ 0 → blocks.new
+        ≡ put blocks.old 0 (planStarts fixed offset_size sizes.now) }
+    ensures kept { result ≡ 0 → IfOk (plan_answer sizes.now offsets.old blocks.old offset_size)
+        (λ plan. PlanKept sizes.now offset_size plan) }
+    ensures untouched { 0 < result → (offsets.new ≡ offsets.old) × (blocks.new ≡ blocks.old) }
 {
     if totals.len() < 8 {
         return 13;
     }
-    let planned = ManagedPlan::new(sizes, offsets, blocks, offset_size);
+    let planned = kept_plan(sizes, offsets, blocks, offset_size);
     put_planned(totals, planned)
 }
 
-// Plans and writes, and puts the plan's eight numbers, or a refusal's pair, into the first places of `totals`; a
-// shorter list than 8 gives 13 before all else.
-#[tactic(auto, unfolding(plan_numbers::specs::PlanTools::planNumber, plan_numbers::specs::PlanTools::planTotals, plan_numbers::specs::PlanTools::afterTotals))]
+/// Plans and writes, and puts the plan's eight numbers, or a refusal's two values, into the first places of `totals`; a
+/// list shorter than 8 places gives 13 before all else.
+#[tactic(auto, unfolding(plan_numbers::specs::PlanTools::planNumber, plan_numbers::specs::PlanTools::planTotals))]
 #[unsafe(no_mangle)]
 pub extern "C" fn tools_serialize(
     sizes: &[u64],
@@ -59,33 +68,44 @@ pub extern "C" fn tools_serialize(
     offset_size: u8,
     totals: &mut [u64],
 ) -> u32
-    ensures { SerializeAnswered
-        (call_of sizes.now objects.now (siteOf offset_size heap_header_address region_address)
-        (memory offsets.old blocks.old region.old))
-        totals.old
-        result
-        (memory offsets.new blocks.new region.new)
-        totals.new }
+    ensures number { result ≡ planNumber totals.old
+        (write_answer sizes.now objects.now offsets.old blocks.old region.old
+        (siteOf offset_size heap_header_address region_address)) }
+    ensures totals_after { totals.new ≡ planTotals totals.old
+        (write_answer sizes.now objects.now offsets.old blocks.old region.old
+        (siteOf offset_size heap_header_address region_address)) }
+    ensures offsets_listed { result ≡ 0 → offsets.new
+        ≡ put offsets.old 0 (planOffsets fixed offset_size sizes.now) }
+    ensures blocks_listed { result ≡ 0 → blocks.new
+        ≡ put blocks.old 0 (planStarts fixed offset_size sizes.now) }
+    ensures written { result ≡ 0 → IfOk
+        (write_answer sizes.now objects.now offsets.old blocks.old region.old
+        (siteOf offset_size heap_header_address region_address))
+        (λ plan. region.new ≡ put region.old 0
+        (region_of (siteOf offset_size heap_header_address region_address) plan.root_rows sizes.now
+        objects.now)) }
+    ensures kept { result ≡ 0 → IfOk
+        (write_answer sizes.now objects.now offsets.old blocks.old region.old
+        (siteOf offset_size heap_header_address region_address))
+        (λ plan. PlanKept sizes.now offset_size plan) }
+    ensures untouched { 0 < result
+        → (offsets.new ≡ offsets.old) × (blocks.new ≡ blocks.old) × (region.new ≡ region.old) }
 {
     if totals.len() < 8 {
         return 13;
     }
-    let written = serialize(
-        sizes,
-        offsets,
-        blocks,
-        objects,
-        region,
-        region_address,
-        heap_header_address,
+    let site = Site {
         offset_size,
-    );
+        heap_header_address,
+        region_address,
+    };
+    let written = serialize(sizes, objects, site, offsets, blocks, region);
     put_planned(totals, written)
 }
 
-// Writes a managed ID, and puts a refusal's pair, or two zeros, into the first 16 bytes of `slot`; a shorter slot
-// gives 13 before all else, and nothing is written.
-#[tactic(auto, unfolding(c_slot::specs::Slot::slotNumber, c_slot::specs::Slot::slotBytes))]
+/// Writes a managed ID, and puts a refusal's two values, or two zeros, into the first 16 bytes of `slot`; a shorter
+/// slot gives 13 before all else.
+#[tactic(auto, unfolding(c_slot::specs::Slot::slot_number, c_slot::specs::Slot::slot_bytes))]
 #[unsafe(no_mangle)]
 pub extern "C" fn tools_write_managed_id(
     offset: u64,
@@ -93,13 +113,14 @@ pub extern "C" fn tools_write_managed_id(
     id: &mut [u8],
     slot: &mut [u8],
 ) -> u32
-    ensures value { result ≡ slotNumber slot.old (checkedAnswer (idChecked fixed offset size (length id.old))) }
-    ensures slot_after { slot.new ≡ slotBytes slot.old (checkedAnswer (idChecked fixed offset size (length id.old))) }
-    ensures id_after { id.new ≡ cond (ltb (length slot.old) 16) id.old (idWritten fixed offset size id.old) }
+    ensures number { result ≡ slot_number slot.old (id_report offset size (length id.old)) }
+    ensures slot_after { slot.new ≡ slot_bytes slot.old (id_report offset size (length id.old)) }
+    ensures written { result ≡ 0 → id.new ≡ put id.old 0 (managedId fixed offset size) }
+    ensures untouched { 0 < result → id.new ≡ id.old }
 {
     if slot.len() < 16 {
         return 13;
     }
-    let done = write_managed_id(offset, size, id);
-    put_answer(slot, done.answer())
+    let written = write_managed_id(offset, size, id);
+    put_answer(slot, written.answer())
 }

@@ -1,32 +1,26 @@
 -- The worked cases: sizes and what is planned and written for them, at addresses of w bytes in lists of just
 -- enough places; an empty object that is not found; IDs and what they say; the rows of the fixed table, as planning
 -- and as the reader has them; checksums.
-use Rattle.std.specs.Prelude.{ℕ, ◌-◌, ◌^◌, ◌≤◌, ◌<◌, max, ◌≡◌, List, [], ◌∷◌, length, take, drop, get_or}
+use Rattle.std.specs.Prelude.{ℕ, ◌-◌, ◌^◌, ◌≤◌, ◌<◌, max, ◌≡◌, List, [], ◌∷◌, length, take, drop, slice_index, Result, Ok, Err, Some}
 use Rattle.refusals.specs.declared.FormatError.{FormatError}
 use Rattle.refusals.specs.declared.FormatError.TheVariants.{UnexpectedEof, ObjectTooLarge}
-use Rattle.fields.specs.declared.Checked.TheVariants.{Passed}
 use Rattle.checksum.specs.Lookup3.{hashlittle}
 use Rattle.table.specs.Table.{fixed, rowBits, rowOffset, covering}
-use Rattle.table.specs.declared.Covering.TheVariants.{Rows}
 use Rattle.plan.specs.declared.ManagedPlan.{ManagedPlan}
-use Rattle.plan.specs.declared.Planned.TheVariants.{Accepted, Refused}
 use Rattle.plan_steps.specs.Steps.{planOffsets, planStarts}
 use Rattle.plan.specs.Answer.{plannedFor}
 use Rattle.region_blocks.specs.Site.{siteOf}
 use Rattle.region_write.specs.Region.{region, rootBytes}
 use Rattle.id_write.specs.Checks.{idChecked}
-use Rattle.id_write.specs.Ids.{managedId, idWritten}
+use Rattle.id_write.specs.Ids.{managedId}
 use Rattle.read_rows.specs.declared.DoublingTable.{DoublingTable}
 use Rattle.read_rows.specs.Rows.{blockSize, directRows, sizeToRows, slotSize}
-use Rattle.read_blocks.specs.declared.Found.{Found}
-use Rattle.read_blocks.specs.declared.Found.TheVariants.{At, Refused as NotFound}
-use Rattle.id_decode.specs.declared.ManagedId.TheVariants.{Decoded}
-use Rattle.id_decode.specs.Id.{decodedId}
-use Rattle.id_tiny.specs.Tiny.{tinyAt}
+use Rattle.read_walk.specs.declared.place.Place.{Place}
+use Rattle.id_decode.specs.Id.{decoded_id}
+use Rattle.id_tiny.specs.Tiny.{tiny_at}
 use Rattle.fractal_heap.specs.declared.header.FractalHeapHeader.{FractalHeapHeader}
-use Rattle.fractal_heap.specs.Read.{managedAt}
-use Rattle.fractal_heap_write.specs.Serialize.{Memory, Call, call_of, Written}
-use Rattle.heap_kept.specs.HeapKept.{HoldsRegion, HeaderOf, offset_of}
+use Rattle.fractal_heap.specs.Read.{managed_at}
+use Rattle.heap_kept.specs.HeapKept.{Call, Written, HoldsRegion, HeaderOf, offset_of}
 
 -- the fixed geometry as a header has it
 abbrev pub fixedTable : DoublingTable
@@ -46,7 +40,7 @@ pub data Case : Type 0 where
   indirect : ℕ → ℕ → Case
   writes : ℕ → ℕ → List ℕ → Case
   decodes : ℕ → List ℕ → ℕ → ℕ → Case
-  tiny : ℕ → List ℕ → Found → Case
+  tiny : ℕ → List ℕ → Result Place FormatError → Case
   hashes : List ℕ → ℕ → Case
 
 -- the region of a plan, whatever the addresses and the bytes of the objects: its size, and the root at its place
@@ -57,34 +51,34 @@ pub record Region (w : ℕ) (xs : List ℕ) (p : ManagedPlan) : Type 0 where
       ≡ rootBytes (siteOf w header address) p.root_rows xs js
 
 -- a call of the writer for the sizes xs
-abbrev pub callFor : ℕ → List ℕ → List ℕ → ℕ → ℕ → Memory → Call
-callFor w xs js header address lent = call_of xs js (siteOf w header address) lent
+abbrev pub callFor : ℕ → List ℕ → List ℕ → ℕ → ℕ → ℕ → ℕ → ℕ → Call
+callFor w xs js header address offsets blocks region =
+    record { sizes = xs; objects = js; site = siteOf w header address; offset_places = offsets; block_places = blocks; region_bytes = region }
 
 -- the i-th object is empty, and whatever else is handed to the writer and stands in the file, by its ID the reader
 -- answers 1, with its offset and the file's length
 pub record Unfound (w : ℕ) (xs : List ℕ) (i : ℕ) : Type 0 where
   pub there : i < length xs
-  pub empty : get_or xs i 0 ≡ 0
-  pub read : (js : List ℕ) (header address : ℕ) (lent : Memory) (p : ManagedPlan) → Written (callFor w xs js header address lent) p
-      → (file : List ℕ) → HoldsRegion file (callFor w xs js header address lent) p
-      → (h : FractalHeapHeader) → HeaderOf h (callFor w xs js header address lent) p
-      → (id : List ℕ) → 8 ≤ length id
-      → managedAt h file (take 8 (idWritten fixed (offset_of w xs i) 0 id)) w ≡ NotFound (UnexpectedEof (offset_of w xs i) (length file))
+  pub empty : slice_index xs i ≡ 0
+  pub read : (js : List ℕ) (header address offsets blocks region : ℕ) (p : ManagedPlan) → Written (callFor w xs js header address offsets blocks region) p
+      → (file : List ℕ) → HoldsRegion file (callFor w xs js header address offsets blocks region) p
+      → (h : FractalHeapHeader) → HeaderOf h (callFor w xs js header address offsets blocks region) p
+      → managed_at h file (managedId fixed (offset_of w xs i) 0) w ≡ Err (UnexpectedEof (offset_of w xs i) (length file))
 
 abbrev pub Holds : Case → Type 0
 Holds (plans w xs offsets bs p) =
-    (plannedFor xs (length xs) (max 1 (length xs)) w ≡ Accepted p) × (planOffsets fixed w xs ≡ offsets) × (planStarts fixed w xs ≡ bs) × Region w xs p
-Holds (refuses w xs e) = plannedFor xs (length xs) (max 1 (length xs)) w ≡ Refused e
+    (plannedFor xs (length xs) (max 1 (length xs)) w ≡ Ok p) × (planOffsets fixed w xs ≡ offsets) × (planStarts fixed w xs ≡ bs) × Region w xs p
+Holds (refuses w xs e) = plannedFor xs (length xs) (max 1 (length xs)) w ≡ Err e
 Holds (unfound w xs i) = Unfound w xs i
-Holds (covers span n) = covering fixed span ≡ Rows n
+Holds (covers span n) = covering fixed span ≡ Some n
 Holds (direct r) =
     (rowBits fixed r ≤ fixed.directBits) × (r < directRows fixedTable) × (slotSize fixedTable r ≡ 2 ^ rowBits fixed r)
 Holds (indirect r n) =
     (fixed.directBits < rowBits fixed r) × (r - fixed.width_bits ≡ n) × (rowOffset fixed n ≡ 2 ^ rowBits fixed r)
     × (directRows fixedTable ≤ r) × (sizeToRows fixedTable (blockSize fixedTable r) ≡ n) × (slotSize fixedTable r ≡ 2 ^ rowBits fixed r)
-Holds (writes offset len id) = (managedId fixed offset len ≡ id) × (idChecked fixed offset len (length id) ≡ Passed)
-Holds (decodes bits id offset len) = decodedId bits id ≡ Decoded offset len
-Holds (tiny n id found) = tinyAt n id ≡ found
+Holds (writes offset len id) = (managedId fixed offset len ≡ id) × (idChecked fixed offset len (length id) ≡ Ok tt)
+Holds (decodes bits id offset len) = decoded_id bits id ≡ Ok (record { offset = offset; length = len })
+Holds (tiny n id found) = tiny_at n id ≡ found
 Holds (hashes bytes n) = hashlittle bytes ≡ n
 
 -- the first case holds, and the rest
@@ -109,7 +103,7 @@ of count region rows place managed allocated free iterator = record {
   allocation_iterator = iterator;
 }
 
--- document 01's worked cases 1 to 10, after 5 an empty object in an indirect heap that answers 1, and the wrong turn,
+-- the worked cases 1 to 10 (docs/RULES.md), after 5 an empty object in an indirect heap that answers 1, and the wrong turn,
 -- 1,003 then 1; the whole heap space; IDs at 64 and more heap bits; the empty tiny ID, and one of 18 bytes
 abbrev pub cases : List Case
 cases =
@@ -133,7 +127,7 @@ cases =
     ∷ covers (2 ^ 40) 29
     ∷ decodes 64 (0 ∷ 1 ∷ 2 ∷ 0 ∷ 0 ∷ 0 ∷ 0 ∷ 0 ∷ 0 ∷ 9 ∷ []) 513 0
     ∷ decodes 65535 (0 ∷ 1 ∷ 2 ∷ []) 513 0
-    ∷ tiny 8 [] (NotFound (UnexpectedEof 1 0))
-    ∷ tiny 18 (0x29 ∷ 0x57 ∷ 0xBF ∷ 0x2A ∷ 0xBE ∷ 0x47 ∷ 0xD2 ∷ 0x9D ∷ 0x81 ∷ 0xAB ∷ 0xFA ∷ 0 ∷ 0 ∷ 0 ∷ 0 ∷ 0 ∷ 0 ∷ 0 ∷ []) (NotFound (UnexpectedEof 2394 18))
-    ∷ tiny 8 (0x22 ∷ 7 ∷ 8 ∷ 9 ∷ []) (At 1 3)
+    ∷ tiny 8 [] (Err (UnexpectedEof 1 0))
+    ∷ tiny 18 (0x29 ∷ 0x57 ∷ 0xBF ∷ 0x2A ∷ 0xBE ∷ 0x47 ∷ 0xD2 ∷ 0x9D ∷ 0x81 ∷ 0xAB ∷ 0xFA ∷ 0 ∷ 0 ∷ 0 ∷ 0 ∷ 0 ∷ 0 ∷ 0 ∷ []) (Err (UnexpectedEof 2394 18))
+    ∷ tiny 8 (0x22 ∷ 7 ∷ 8 ∷ 9 ∷ []) (Ok (record { position = 1; length = 3 }))
     ∷ []

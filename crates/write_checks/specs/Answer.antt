@@ -1,23 +1,22 @@
 -- The writer's answer: planning's, then that of its own tests.
-use Rattle.std.specs.Prelude.{ℕ, List}
-use Rattle.fields.specs.Fields.{afterCheck}
-use Rattle.fields.specs.declared.Checked.{Checked}
+use Rattle.std.specs.Prelude.{ℕ, ◌≡◌, List, Result, Ok}
+use Rattle.refusals.specs.Steps.{◌>>=◌}
+use Rattle.refusals.specs.declared.FormatError.{FormatError}
 use Rattle.numbers.specs.Sums.{sum}
 use Rattle.plan.specs.declared.ManagedPlan.{ManagedPlan}
-use Rattle.plan.specs.declared.Planned.{Planned}
-use Rattle.plan.specs.declared.Planned.TheVariants.{Accepted, Refused}
 use Rattle.plan.specs.Answer.{plannedFor}
 use Rattle.region_blocks.specs.declared.Site.{Site}
 use Rattle.write_checks.specs.declared.Lent.{Lent}
-use Rattle.write_checks.specs.Checks.{outputChecked}
-
--- a plan that is accepted, and passes a further test
-abbrev pub ifPlanned : Planned → (ManagedPlan → Checked) → Planned
-ifPlanned (Accepted p) test = afterCheck (test p) Refused (Accepted p)
-ifPlanned (Refused e) test = Refused e
+use Rattle.write_checks.specs.Checks.{Fit, outputChecked}
 
 -- the answer for the sizes xs, what is lent and the site: planning's refusals, then those of writing
-unfoldable pub serializedFor : List ℕ → Lent → Site → Planned
-serializedFor xs lent site =
-    ifPlanned (plannedFor xs lent.offset_places lent.block_places site.offset_size)
-    (λ p. outputChecked site lent (sum xs) p.region_size)
+unfoldable pub serializedFor : List ℕ → Lent → Site → Result ManagedPlan FormatError
+serializedFor xs lent site = do
+  plan ← plannedFor xs lent.offset_places lent.block_places site.offset_size
+  _ ← outputChecked site lent (sum xs) plan.region_size
+  Ok plan
+
+-- p is the plan of the sizes xs, and passed the tests
+pub record Accepted (xs : List ℕ) (lent : Lent) (site : Site) (p : ManagedPlan) : Type 0 where
+  pub planned : plannedFor xs lent.offset_places lent.block_places site.offset_size ≡ Ok p
+  pub fit : Fit site lent (sum xs) p.region_size

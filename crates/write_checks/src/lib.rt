@@ -1,18 +1,18 @@
-// The writer's answer: planning's, then that of the tests between planning and writing. Nothing is written here.
+//! The writer's answer: planning's, then that of the tests between planning and writing. Nothing is written here.
 #![tactic(auto)]
 
 mod output;
 
-ghost use Rattle.std.specs.Prelude.{◌≡◌};
-ghost use Rattle.write_checks.specs.Answer.{serializedFor};
+ghost use Rattle.std.specs.Prelude.{◌≡◌, IfOk};
+ghost use Rattle.write_checks.specs.Answer.{Accepted, serializedFor};
 
 use crate::output::{check_output, sum_sizes};
-use fields::Checked;
-use plan::{Planned, planned_for};
+use plan::{ManagedPlan, planned_for};
+use refusals::FormatError;
 use region_blocks::Site;
 
-// How much the writer is lent: the places of both lists, the bytes of the objects, the bytes of the region.
-#[derive(Clone, Copy)]
+/// How much the writer is lent: the places of both lists, the bytes of the objects, the bytes for the region.
+#[derive(Clone, Copy, Debug, PartialEq, Eq)]
 pub struct Lent {
     pub offset_places: usize,
     pub block_places: usize,
@@ -20,22 +20,20 @@ pub struct Lent {
     pub region_bytes: usize,
 }
 
-// For the sizes, what is lent, and the site of the region.
-pub fn serialized_for(sizes: &[u64], lent: Lent, site: Site) -> Planned
-    ensures { result ≡ serializedFor sizes.now lent site }
+/// The plan of objects of these sizes, if all tests pass for what is lent and the site of the region: first those of
+/// planning (2, 13 for the offsets, 13 for the blocks, 11, 12), then 14, 13 for the region, 15 for the header, 15 for
+/// the region.
+#[tactic(auto, unfolding(crate::specs::Answer::serializedFor), using(crate::proofs::Answering::planned_sum, crate::proofs::Answering::planned_width))]
+pub fn serialized_for(sizes: &[u64], lent: Lent, site: Site) -> Result<ManagedPlan, FormatError>
+    ensures answer { result ≡ serializedFor sizes.now lent site }
+    ensures accepted { IfOk result (λ plan. Accepted sizes.now lent site plan) }
 {
-    match planned_for(
+    let plan = planned_for(
         sizes,
         lent.offset_places,
         lent.block_places,
         site.offset_size,
-    ) {
-        Planned::Refused(e) => Planned::Refused(e),
-        Planned::Accepted(p) => {
-            match check_output(site, lent, sum_sizes(sizes), p.region_size) {
-                Checked::Refused(e) => Planned::Refused(e),
-                Checked::Passed => Planned::Accepted(p),
-            }
-        }
-    }
+    )?;
+    check_output(site, lent, sum_sizes(sizes), plan.region_size)?;
+    Ok(plan)
 }

@@ -1,5 +1,5 @@
 //! Calls the library from Rust: heaps built in memory, with a direct and with an indirect root, read
-//! back at each offset and length size, and the refusals. Expected values are the format's and document 01's.
+//! back at each offset and length size, and the refusals. Expected values are the format's and docs/RULES.md's.
 use fractal_heap::{Error, Heap, Refusal, checksum};
 
 /// The starting block size.

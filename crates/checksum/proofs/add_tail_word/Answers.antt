@@ -7,4 +7,4 @@ use Rattle.checksum.proofs.add_tail_word.Goals as goal
 pub returns : goal.returns
 unfolding add32
 returns c =
-    rw (c.wrapping_add_u32.ensures.value, c.drop_low_bytes.ensures, c.read_u32_le.ensures) (tail-word-added _ _ (λ j. omega (arith, c.type_inv.bytes j)) _ _ c.requires c.least-at.ensures)
+    rw (c.drop_low_bytes.ensures, c.read_u32_le.ensures) (tail-word-added _ _ (λ j. omega (arith, c.type_inv.bytes j)) _ _ c.requires c.min-at.ensures)

@@ -1,24 +1,28 @@
--- What is left of `jenkins_lookup3`: 5 to 12 bytes apart; the groups by the laws of the walk, then the tail.
-use Rattle.std.proofs.Common.{arith, rules}
+-- What is left of `jenkins_lookup3`: few bytes are all of the tail.
+use Rattle.std.proofs.Common.{ℕ, ◌≡◌, ◌<◌, Bool, false, sym, ap, ◌∙◌, arith}
+use Rattle.std.specs.Prelude.{◌==◌}
+use borrow.Author.Tests.{eqb-true}
+use Rattle.std.proofs.lemmas.Bool.Decides.{nat_tests}
+use Rattle.checksum_mix.specs.Mix.{finalMixed}
 use Rattle.checksum_mix.specs.Words.{add32}
-use Rattle.checksum.specs.Lookup3.{begun}
-use Rattle.checksum.proofs.Walk.{walk_start, walk_more, walk-empty, walk-tail, short-ended}
+use Rattle.checksum_mix.specs.declared.State.{State}
+use Rattle.checksum.proofs.Tails.{in_one}
+use Rattle.checksum.proofs.Walk.{few-ended, none-ended}
 use Rattle.checksum.proofs.jenkins_lookup3.Goals as goal
 
-pub returns-then-is_short : goal.returns-then-is_short
-unfolding add32
-returns-then-is_short c =
-    rw c.short_checksum.ensures (short-ended _ _ c.wrapping_add_u32-first.ensures.value (search rules))
+nonempty : {n : ℕ} {b : Bool} → b ≡ (n == 0) → b ≡ false → 0 < n
+nonempty e f = grind (arith, nat_tests)
 
-pub loop-at-init : goal.loop-at-init
-unfolding begun add32
-loop-at-init c = walk_start _ _ (rw c.wrapping_add_u32-first.ensures.value)
+pub returns-then-bytes-gt4 : goal.returns-then-bytes-gt4
+returns-then-bytes-gt4 c =
+    rw (c.ended.ensures, c.add_few.ensures) (few-ended _ _ c.begun-first.ensures (record { some = omega arith; most = omega arith }))
 
-pub loop-at-preserved : goal.loop-at-preserved
-loop-at-preserved c = rw (c.mix-s.ensures, c.add_group.ensures) (walk_more c.loop-at.invariant (omega arith))
-
-pub returns-then-bytes-at : goal.returns-then-bytes-at
-returns-then-bytes-at c = walk-empty c.loop-at.invariant (omega arith) c.if-bytes-at.true
+pub returns-then-is_empty : goal.returns-then-is_empty
+returns-then-is_empty c = none-ended _ _ c.begun-first.ensures (eqb-true _ _ (sym c.is_empty.ensures ∙ c.if-is_empty.true))
 
 pub returns : goal.returns
-returns c = rw (c.final_mix-s.ensures, c.add_tail.ensures) (walk-tail c.loop-at.invariant (omega arith) c.if-bytes-at.false)
+unfolding add32
+returns c =
+    rw (c.ended-2.ensures, c.short_word.ensures)
+    (ap (λ (t : State). (finalMixed t).c) (in_one c.args.bytes.now (omega arith) c.if-bytes-gt4.false)
+    ∙ few-ended _ _ c.begun-first.ensures (record { some = nonempty c.is_empty.ensures c.if-is_empty.false; most = omega arith }))

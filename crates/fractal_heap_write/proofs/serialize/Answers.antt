@@ -1,55 +1,34 @@
 -- What is left of `serialize`: the plan and its region fit into what is lent, and the bytes behind the region stay.
-use Rattle.std.proofs.Common.{sym}
+use Rattle.std.proofs.Common.{arith, sym}
 use Rattle.std.proofs.Math.Seq.{length-take-le}
-use Rattle.fractal_heap_write.proofs.Serializing.{wrote, small, places, runs, size_fits, space-within, count_fits, writable, behind-kept}
+use Rattle.plan_laws.proofs.Kept.{plan-kept}
+use Rattle.fractal_heap_write.proofs.Serializing.{sizes-small, offsets_fit, blocks_fit, count_fits, space_within, writable, behind-kept}
 use Rattle.fractal_heap_write.proofs.serialize.Goals as goal
 
 pub write_lists-requires-clause-small : goal.write_lists-requires-clause-small
-write_lists-requires-clause-small c =
-    small (wrote _ c.args.objects.now c.args.offsets.now c.args.blocks.now c.args.region.now _ _ _ _ c.in-Accepted.ensures)
+write_lists-requires-clause-small c = sizes-small c.in_ok-plan.ensures.accepted
 
-pub write_lists-requires-clause-sizes_in_bounds : goal.write_lists-requires-clause-sizes_in_bounds
-write_lists-requires-clause-sizes_in_bounds c =
-    places (wrote _ c.args.objects.now c.args.offsets.now c.args.blocks.now c.args.region.now _ _ _ _ c.in-Accepted.ensures)
+pub write_lists-requires-clause-offsets_room : goal.write_lists-requires-clause-offsets_room
+write_lists-requires-clause-offsets_room c = offsets_fit c.in_ok-plan.ensures.accepted
 
-pub write_lists-requires-clause-runs : goal.write_lists-requires-clause-runs
-write_lists-requires-clause-runs c =
-    runs (wrote _ c.args.objects.now c.args.offsets.now c.args.blocks.now c.args.region.now _ _ _ _ c.in-Accepted.ensures)
+pub write_lists-requires-clause-blocks_room : goal.write_lists-requires-clause-blocks_room
+write_lists-requires-clause-blocks_room c = blocks_fit c.in_ok-plan.ensures.accepted
 
 pub slice_bounds-write_region-end : goal.slice_bounds-write_region-end
-slice_bounds-write_region-end c =
-    count_fits (wrote _ c.args.objects.now c.args.offsets.now c.args.blocks.now c.args.region.now _ _ _ _ c.in-Accepted.ensures)
-    _ _ c.write_lists.ensures.blocks_after
+slice_bounds-write_region-end c = count_fits c.in_ok-plan.ensures.accepted _ _ c.write_lists.ensures.blocks_after
 
-pub slice_bounds-write_region-end-in-Accepted : goal.slice_bounds-write_region-end-in-Accepted
-slice_bounds-write_region-end-in-Accepted c =
-    sym (length-take-le _ _
-    (count_fits (wrote _ c.args.objects.now c.args.offsets.now c.args.blocks.now c.args.region.now _ _ _ _ c.in-Accepted.ensures)
-    _ _ c.write_lists.ensures.blocks_after))
+pub slice_bounds-write_region-end-2 : goal.slice_bounds-write_region-end-2
+slice_bounds-write_region-end-2 c =
+    sym (length-take-le _ _ (count_fits c.in_ok-plan.ensures.accepted _ _ c.write_lists.ensures.blocks_after))
 
-pub slice_bounds-write_region-end-in-Accepted-2 : goal.slice_bounds-write_region-end-in-Accepted-2
-slice_bounds-write_region-end-in-Accepted-2 c =
-    size_fits (wrote _ c.args.objects.now c.args.offsets.now c.args.blocks.now c.args.region.now _ _ _ _ c.in-Accepted.ensures)
-
-pub slice_bounds-write_region-end-in-Accepted-3 : goal.slice_bounds-write_region-end-in-Accepted-3
-slice_bounds-write_region-end-in-Accepted-3 c =
-    sym (length-take-le _ _
-    (size_fits (wrote _ c.args.objects.now c.args.offsets.now c.args.blocks.now c.args.region.now _ _ _ _ c.in-Accepted.ensures)))
-
-pub overflow_sub-p : goal.overflow_sub-p
-overflow_sub-p c =
-    space-within (wrote _ c.args.objects.now c.args.offsets.now c.args.blocks.now c.args.region.now _ _ _ _ c.in-Accepted.ensures)
+pub overflow_sub-plan : goal.overflow_sub-plan
+overflow_sub-plan c = space_within c.in_ok-plan.ensures.accepted
 
 pub write_region-requires : goal.write_region-requires
-write_region-requires c =
-    writable (wrote _ c.args.objects.now c.args.offsets.now c.args.blocks.now c.args.region.now _ _ _ _ c.in-Accepted.ensures)
-    _ _ c.write_lists.ensures.blocks_after
+write_region-requires c = writable c.in_ok-plan.ensures.accepted _ _ _ _ (omega arith) (omega arith) c.write_lists.ensures.blocks_after
 
-pub returns-in-Accepted : goal.returns-in-Accepted
-returns-in-Accepted c = record {
-  answer = c.in-Accepted.ensures;
-  offsets = c.write_lists.ensures.offsets_after;
-  blocks = c.write_lists.ensures.blocks_after;
-  bytes = behind-kept (wrote _ c.args.objects.now c.args.offsets.now c.args.blocks.now c.args.region.now _ _ _ _ c.in-Accepted.ensures)
-      _ c.write_region.ensures;
-}
+pub returns-clause-written : goal.returns-clause-written
+returns-clause-written c = behind-kept c.in_ok-plan.ensures.accepted _ _ _ c.write_region.ensures
+
+pub returns-clause-kept : goal.returns-clause-kept
+returns-clause-kept c = plan-kept _ _ _ _ _ c.in_ok-plan.ensures.accepted.planned

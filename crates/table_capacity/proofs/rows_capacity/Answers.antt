@@ -10,11 +10,11 @@ pub loop-row-init : goal.loop-row-init
 loop-row-init c = (c.direct_block_header-header.ensures, filling-start c.direct_block_header-header.result)
 
 pub block_capacity-requires : goal.block_capacity-requires
-block_capacity-requires c = (
-  c.loop-row-test.true,
-  omega (arith, filling-small _ _ _ _ c.loop-row.invariant.1),
-  omega (arith, c.direct_block_header-header.ensures, header-small c.args.offset_size (omega arith)),
-)
+block_capacity-requires c = record {
+  row_of_root = c.loop-row-test.true;
+  below_in_heap = omega (arith, filling-small _ _ _ _ c.loop-row.invariant.1);
+  header_in_block = omega (arith, c.direct_block_header-header.ensures, header-small c.args.offset_size (omega arith));
+}
 
 pub overflow_add-below : goal.overflow_add-below
 overflow_add-below c =

@@ -1,7 +1,7 @@
 -- What is left of `root_rows_covering`: no byte needs one row, and else the row of the last byte is the last row.
 use Rattle.std.proofs.Common.{ℕ, ◌+◌, ◌-◌, sym, ap, ◌∙◌, arith}
 use Rattle.table.specs.Table.{fixed, covering}
-use Rattle.table.specs.declared.Covering.TheVariants.{Rows}
+use Rattle.std.specs.Prelude.{Some}
 use Rattle.table.proofs.Rows.{row-29}
 use Rattle.table_rows.proofs.RootRows.{covers-zero, covers-not, covers}
 use Rattle.table_rows.proofs.root_rows_covering.Goals as goal
@@ -17,5 +17,5 @@ overflow_add-result c = omega (arith, row-29 (c.args.span - 1) (omega arith))
 
 pub returns : goal.returns
 returns c =
-    ap (λ (n : ℕ). Rows (n + 1)) c.row_of.ensures
+    ap (λ (n : ℕ). Some (n + 1)) c.row_of.ensures
     ∙ sym (covers c.args.span (omega arith) c.if-span-gt1099511627776.false)

@@ -1,6 +1,6 @@
 -- What is left of `entered_blocks`: a direct slot adds nothing, and each level of the descent adds its own block.
 use Rattle.std.proofs.Common.{sym, arith}
-use Rattle.table.proofs.Locating.{level, slot-size-le, rest-small, entered-small, entering-start, entering-done, entering-more}
+use Rattle.table.proofs.Locating.{level, slot-size-le, rest_small, entered-small, entering-start, entering-done, entering-more}
 use Rattle.table_slots.proofs.entered_blocks.Goals as goal
 
 pub loop-at-init : goal.loop-at-init
@@ -29,7 +29,7 @@ overflow_add-total c =
 pub loop-at-smaller : goal.loop-at-smaller
 loop-at-smaller c =
     let v = level c.loop-at.local _ (omega arith) c.table_slot-at.ensures in
-    omega (arith, (rest-small _ _ _ _ v (sym c.if-is_direct.ensures) (omega arith)).1, v.below)
+    omega (arith, (rest_small _ _ _ _ v (sym c.if-is_direct.ensures) (omega arith)).1, v.below)
 
 pub loop-at-preserved : goal.loop-at-preserved
 loop-at-preserved c =

@@ -1,0 +1,28 @@
+-- The laws of the loop and of the switch.
+use Rattle.std.proofs.Common.{◌≡◌, ℕ, suc, ◌+◌, ◌-◌, ◌<◌, ◌≤◌, List, length, sym, arith}
+use Rattle.checksum_mix.specs.Mix.{mixed}
+use Rattle.checksum_mix.specs.declared.State.{State}
+use Rattle.checksum.specs.Lookup3.{grouped, run, groups_of}
+use Rattle.checksum.specs.Laws.{MixedWhileMore, TailsSwitched}
+use Rattle.checksum.proofs.Switch.{switch-words, tail-group}
+use Rattle.checksum.proofs.Walk.{groups-more, groups_none}
+
+turn-mixed : (bytes : List ℕ) (at : ℕ) (s : State) → 12 < length bytes - at → run bytes at (groups_of (length bytes - at)) s ≡ run bytes (at + 12) (groups_of (length bytes - (at + 12))) (mixed (grouped bytes at s))
+unfolding run
+turn-mixed bytes at s h =
+    let more : groups_of (length bytes - at) ≡ suc (groups_of (length bytes - at - 12)) = groups-more (length bytes - at) h in
+    let left : length bytes - (at + 12) ≡ length bytes - at - 12 = omega arith in
+    rw (more, left)
+
+turns_end : (bytes : List ℕ) (at : ℕ) (s : State) → length bytes - at ≤ 12 → run bytes at (groups_of (length bytes - at)) s ≡ s
+unfolding run
+turns_end bytes at s h = rw (groups_none (length bytes - at) h)
+
+pub mixed-while-more : MixedWhileMore
+mixed-while-more = record { more = groups-more; none = groups_none; turn = turn-mixed; end = turns_end }
+
+pub tails-switched : TailsSwitched
+tails-switched = record {
+  words = λ tail s a b c h. switch-words tail s (record { a = a; b = b; c = c }) h;
+  group = λ bytes at s a b c h. sym (tail-group bytes at h (record { a = a; b = b; c = c }));
+}

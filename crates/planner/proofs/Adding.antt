@@ -1,0 +1,48 @@
+-- One object: the step of its definition, from the numbers that the code has.
+use Prim.Native.Nat.{ℕ, ◌+◌, ◌<◌}
+use mathlib.Core.Path.{◌≡◌, sym, ap, ap₂, ◌∙◌}
+use Rattle.std.specs.Prelude.{Option, Some, None, IfNone}
+use Rattle.table.specs.Table.{fixed}
+use Rattle.table.specs.Slots.{enteredBytes}
+use Rattle.table.specs.Sizes.{directHeader}
+use Rattle.table.specs.declared.Slot.{Slot}
+use Rattle.plan_steps.specs.Steps.{open_at, blockEnd, inNew, opened, step_of}
+use Rattle.plan_steps.specs.declared.State.{State}
+use Rattle.plan_steps.proofs.Stepping.{some-is, step-open}
+
+module _ (w : ℕ) (s : State) (x : ℕ) where
+  -- the state after an object that opened the slot b, from its header's size and the bytes of new indirect blocks
+  abbrev pub after : ℕ → ℕ → Slot → State
+  after h e b = record {
+    start = b.start;
+    size = b.size;
+    fill = h + x;
+    count = s.count + 1;
+    allocated = s.allocated + b.size;
+    used = s.used + x;
+    indirect = s.indirect + e;
+  }
+
+  module _ (full : s.size < s.fill + x) (h : ℕ) (hi : h ≡ directHeader fixed w) where
+    opens : step_of fixed w s x ≡ opened fixed w s x (open_at fixed (h + x) (blockEnd s))
+    opens = step-open fixed w s x full ∙ ap (λ (y : ℕ). opened fixed w s x (open_at fixed (y + x) (blockEnd s))) (sym hi)
+
+    pub opens-at : (e : ℕ) (b : Slot) → e ≡ enteredBytes fixed w (blockEnd s) b.start → Some b ≡ open_at fixed (h + x) (blockEnd s)
+        → step_of fixed w s x ≡ Some (after h e b, b.start + h)
+    opens-at e b ei q = opens ∙ ap (opened fixed w s x) (sym q) ∙ ap₂ (λ (y z : ℕ). Some (after y z b, b.start + y)) (sym hi) (sym ei)
+
+    pub opens-none : None ≡ open_at fixed (h + x) (blockEnd s) → step_of fixed w s x ≡ None
+    opens-none q = opens ∙ ap (opened fixed w s x) (sym q)
+
+-- what holds anyway holds where there is no value
+pub if_none : (r : Option ℕ) (P : Type 0) → P → IfNone r P
+if_none None P p = p
+if_none (Some x) P p = tt
+
+-- an object that the current block has no room for opens one block
+pub opens-one : (w : ℕ) (s : State) (x : ℕ) (s' : State) (o : ℕ) → s.size < s.fill + x → step_of fixed w s x ≡ Some (s', o) → s'.count ≡ s.count + 1
+opens-one w s x s' o l e = go (open_at fixed (directHeader fixed w + x) (blockEnd s)) (sym (step-open fixed w s x l) ∙ e)
+  where
+    go : (v : Option Slot) → opened fixed w s x v ≡ Some (s', o) → s'.count ≡ s.count + 1
+    go (Some b) q = sym (ap (λ (y : State). y.count) (some-is (inNew fixed w s x b) s' (b.start + directHeader fixed w) o q).0)
+    go None q = absurd cc

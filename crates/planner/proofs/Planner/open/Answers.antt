@@ -1,0 +1,23 @@
+-- What is left of `Planner::open`: what the search finds is the step of the object.
+use Rattle.std.proofs.Common.{◌+◌, arith}
+use Rattle.table.proofs.Locating.{entered-small}
+use Rattle.plan_steps.proofs.Reaching.{reached-step, reached-bounded}
+use Rattle.planner.proofs.Adding.{opens-at, opens-none, if_none}
+use Rattle.planner.proofs.Planner.open.Goals as goal
+
+pub returns-in_err-slot-clause-ends : goal.returns-in_err-slot-clause-ends
+returns-in_err-slot-clause-ends c =
+    if_none _ _ (opens-none _ _ _ c.requires.no_room_here _ c.direct_block_header-header.ensures c.in_err-slot.ensures.value)
+
+pub overflow_add-self-5 : goal.overflow_add-self-5
+overflow_add-self-5 c =
+    omega (arith, c.entered_blocks.ensures, entered-small c.args.self.now.offset_size (c.args.self.now.state.start + c.args.self.now.state.size) c.in_ok-slot.slot.start (omega arith))
+
+pub invariant_of-self : goal.invariant_of-self
+invariant_of-self c =
+    let r = reached-step _ _ c.args.self.now.reached _ _ _
+    (opens-at _ _ _ c.requires.no_room_here _ c.direct_block_header-header.ensures _ _ c.entered_blocks.ensures c.in_ok-slot.ensures.value) in
+    record { reached = r; bounded = reached-bounded _ _ r (omega arith); narrow = c.args.self.now.narrow }
+
+pub returns-clause-placed : goal.returns-clause-placed
+returns-clause-placed c = opens-at _ _ _ c.requires.no_room_here _ c.direct_block_header-header.ensures _ _ c.entered_blocks.ensures c.in_ok-slot.ensures.value

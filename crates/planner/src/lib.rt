@@ -1,0 +1,166 @@
+//! A plan under way: where it stands, and the objects that are added to it. Functions with a `requires` serve our own
+//! crates and are no part of the interface.
+#![tactic(auto)]
+
+ghost use Rattle.std.specs.Prelude.{◌≡◌, ◌+◌, ◌<◌, ◌≤◌, length, drop, Some, None, Ok, Err, IfSome, IfNone, IfErr, OnOk};
+ghost use Rattle.table.specs.Table.{fixed};
+ghost use Rattle.table.specs.Sizes.{maxManaged};
+ghost use Rattle.plan_steps.specs.Steps.{initial, step_of, run_from, offsetsFrom, startsFrom};
+ghost use Rattle.plan_steps.specs.Filling.{fillState, fillOffsets};
+ghost use Rattle.plan_steps.specs.Requires.{Small, Bounded, IsReached};
+ghost use Rattle.planner.specs.Noting.{noted_from, HasRoom};
+
+mod noting;
+
+pub use noting::{Counted, Noting, Written};
+use plan_search::find_slot;
+use plan_steps::State;
+use table_sizes::direct_block_header;
+use table_slots::entered_blocks;
+
+/// A plan that objects are added to, one by one or many at once, for addresses of `offset_size` bytes. It is always the
+/// plan of some list of sizes.
+#[derive(Drop)]
+#[repr(C)]
+pub struct Planner {
+    pub offset_size: u8,
+    pub state: State,
+    pub ghost reached: { IsReached offset_size state },
+    pub ghost bounded: { Bounded state },
+    pub ghost narrow: { offset_size < 256 },
+}
+
+impl Planner {
+    /// The plan of no objects: no block is placed.
+    pub fn new(offset_size: u8) -> Planner
+        ensures width { result.offset_size ≡ offset_size }
+        ensures state { result.state ≡ initial fixed offset_size }
+    {
+        Planner {
+            offset_size,
+            state: State {
+                start: 0,
+                size: 0,
+                fill: direct_block_header(offset_size),
+                count: 0,
+                allocated: 0,
+                used: 0,
+                indirect: 0,
+            },
+        }
+    }
+
+    /// Adds an object of `size` bytes: its heap offset, or `None` where the heap space ends, and then nothing changes.
+    #[tactic(auto, using(plan_steps::proofs::Stepping::size_fits))]
+    pub fn place(&mut self, size: u64) -> Option<u64>
+        requires { size ≤ maxManaged fixed self.old.offset_size }
+        ensures width { self.new.offset_size ≡ self.old.offset_size }
+        ensures placed { IfSome result (λ offset.
+            step_of fixed self.old.offset_size self.old.state size
+            ≡ Some (self.new.state, offset)) }
+        ensures ends { IfNone result
+            (step_of fixed self.old.offset_size self.old.state size ≡ None) }
+        ensures kept { IfNone result (self.new ≡ self.old) }
+    {
+        let offset = self.state.start + self.state.fill;
+        let end = self.state.fill + size;
+        if self.state.size < end {
+            return self.open(size);
+        }
+        self.state.fill = end;
+        self.state.used += size;
+        Some(offset)
+    }
+
+    /// Adds an object that the current block has no room for: it opens the next slot that is large enough.
+    #[tactic(auto, using(plan_steps::proofs::Stepping::size_fits))]
+    pub fn open(&mut self, size: u64) -> Option<u64>
+        requires fits_some_block { size ≤ maxManaged fixed self.old.offset_size }
+        requires no_room_here { self.old.state.size < self.old.state.fill + size }
+        ensures width { self.new.offset_size ≡ self.old.offset_size }
+        ensures placed { IfSome result (λ offset.
+            step_of fixed self.old.offset_size self.old.state size
+            ≡ Some (self.new.state, offset)) }
+        ensures ends { IfNone result
+            (step_of fixed self.old.offset_size self.old.state size ≡ None) }
+        ensures kept { IfNone result (self.new ≡ self.old) }
+    {
+        let header = direct_block_header(self.offset_size);
+        let end = self.state.start + self.state.size;
+        let slot = find_slot(end, header + size)?;
+        self.state = State {
+            start: slot.start,
+            size: slot.size,
+            fill: header + size,
+            count: self.state.count + 1,
+            allocated: self.state.allocated + slot.size,
+            used: self.state.used + size,
+            indirect: self.state.indirect + entered_blocks(end, slot.start, self.offset_size),
+        };
+        Some(slot.start + header)
+    }
+
+    /// Adds the objects from the index `from` on that fit into the current block, and notes their heap offsets: the
+    /// index of the next.
+    pub fn fill<N: Noting>(&mut self, sizes: &[u64], from: usize, offsets: &mut [u64]) -> usize
+        requires from_inside { from ≤ length sizes.now }
+        requires small { Small 65536 sizes.now }
+        requires room { HasRoom N.room (length offsets.old) (length sizes.now) }
+        ensures width { self.new.offset_size ≡ self.old.offset_size }
+        ensures state { self.new.state ≡ fillState self.old.state (drop from sizes.now) }
+        ensures next { result ≡ from + length (fillOffsets self.old.state (drop from sizes.now)) }
+        ensures noted { offsets.new ≡ noted_from N.noted offsets.old from
+            (fillOffsets self.old.state (drop from sizes.now)) }
+    {
+        let mut fill = self.state.fill;
+        let mut next = from;
+        while next < sizes.len() {
+            let end = fill + sizes[next];
+            if end > self.state.size {
+                break;
+            }
+            N::note(offsets, next, self.state.start + fill);
+            fill = end;
+            next += 1;
+        }
+        self.state.used += fill - self.state.fill;
+        self.state.fill = fill;
+        next
+    }
+
+    /// Adds objects, a block at a time: one that has no room opens a block, and those after it that fit go there too.
+    /// Their heap offsets and the starts of the blocks that they open are noted. `Err` is the index of the object at
+    /// which the heap space ends.
+    pub fn extend<N: Noting>(
+        &mut self,
+        sizes: &[u64],
+        offsets: &mut [u64],
+        blocks: &mut [u64],
+    ) -> Result<(), u64>
+        requires small { Small (maxManaged fixed self.old.offset_size) sizes.now }
+        requires offsets_room { HasRoom N.room (length offsets.old) (length sizes.now) }
+        requires blocks_room { HasRoom N.room (length blocks.old)
+            (self.old.state.count + length sizes.now) }
+        ensures width { self.new.offset_size ≡ self.old.offset_size }
+        ensures all { OnOk result
+            (run_from fixed self.old.offset_size self.old.state sizes.now 0 ≡ Ok self.new.state) }
+        ensures ends { IfErr result (λ index.
+            run_from fixed self.old.offset_size self.old.state sizes.now 0 ≡ Err index) }
+        ensures offsets_noted { offsets.new ≡ noted_from N.noted offsets.old 0
+            (offsetsFrom fixed self.old.offset_size self.old.state sizes.now) }
+        ensures blocks_noted { blocks.new ≡ noted_from N.noted blocks.old self.old.state.count
+            (startsFrom fixed self.old.offset_size self.old.state sizes.now) }
+    {
+        let mut next = self.fill::<N>(sizes, 0, offsets);
+        while next < sizes.len() {
+            let block = self.state.count as usize;
+            let Some(offset) = self.open(sizes[next]) else {
+                return Err(next as u64);
+            };
+            N::note(offsets, next, offset);
+            N::note(blocks, block, self.state.start);
+            next = self.fill::<N>(sizes, next + 1, offsets);
+        }
+        Ok(())
+    }
+}

@@ -1,0 +1,5 @@
+pub mod Was
+pub mod Walk
+pub mod Ids
+pub mod Headers
+pub mod ByHeaders
