@@ -1,26 +1,26 @@
-//! Our static libraries, each C function behind a safe one: `fractal_heap_c`, which the loader calls, and the
-//! tests' own `tools_checksum`, `tools_fields`, `tools_stores`, `tools_write`, `tools_header` and `tools_objects`.
-#[path = "../loader/tools/tools_checksum.rs"]
-mod tools_checksum;
-#[path = "../loader/tools/tools_fields.rs"]
-mod tools_fields;
-#[path = "../loader/tools/tools_header.rs"]
-mod tools_header;
-#[path = "../loader/tools/tools_objects.rs"]
+//! Our static libraries, each C function behind a safe one: `fractal_heap_c`, which the loader calls, and `tools_c`,
+//! which is the tests' and the command's.
+#[path = "../loader/tools/checksums.rs"]
+mod tools_checksums;
+#[path = "../loader/tools/field_reads.rs"]
+mod tools_field_reads;
+#[path = "../loader/tools/headers.rs"]
+mod tools_headers;
+#[path = "../loader/tools/objects.rs"]
 mod tools_objects;
-#[path = "../loader/tools/tools_stores.rs"]
+#[path = "../loader/tools/stores.rs"]
 mod tools_stores;
-#[path = "../loader/tools/tools_write.rs"]
-mod tools_write;
+#[path = "../loader/tools/writing.rs"]
+mod tools_writing;
 
 use crate::made::Heap;
 use original::Answer;
-use tools_checksum::*;
-use tools_fields::*;
-use tools_header::*;
+use tools_checksums::*;
+use tools_field_reads::*;
+use tools_headers::*;
 use tools_objects::*;
 use tools_stores::*;
-use tools_write::*;
+use tools_writing::*;
 
 #[link(name = "fractal_heap_c", kind = "static")]
 unsafe extern "C" {

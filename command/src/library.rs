@@ -1,7 +1,7 @@
 //! The proved functions that this program calls beside the loader's, each behind a safe one.
-use crate::tools_header::tools_parse_header;
+use crate::tools_headers::tools_parse_header;
 use crate::tools_objects::{tools_heap_id_type, tools_read_tiny_object};
-use crate::tools_write::{tools_plan, tools_serialize, tools_write_managed_id};
+use crate::tools_writing::{tools_plan, tools_serialize, tools_write_managed_id};
 use fractal_heap::{Heap, Refusal};
 
 /// A managed object's ID.

@@ -19,13 +19,13 @@ mod talk;
 mod write;
 
 // The libraries; not every function of theirs is called here.
-#[path = "../../loader/tools/tools_header.rs"]
-mod tools_header;
+#[path = "../../loader/tools/headers.rs"]
+mod tools_headers;
 #[allow(dead_code)]
-#[path = "../../loader/tools/tools_objects.rs"]
+#[path = "../../loader/tools/objects.rs"]
 mod tools_objects;
-#[path = "../../loader/tools/tools_write.rs"]
-mod tools_write;
+#[path = "../../loader/tools/writing.rs"]
+mod tools_writing;
 
 use arguments::{Arguments, Explain, Subcommands};
 use clap::error::ErrorKind;

@@ -1,7 +1,7 @@
 -- The laws of the loop and of the switch.
 use Rattle.std.proofs.Common.{◌≡◌, ℕ, suc, ◌+◌, ◌-◌, ◌<◌, ◌≤◌, List, length, sym, arith}
-use Rattle.checksum_mix.specs.Mix.{mixed}
-use Rattle.checksum_mix.specs.declared.State.{State}
+use Rattle.checksum.specs.Mix.{mixed}
+use Rattle.checksum.specs.declared.mixing.State.{State}
 use Rattle.checksum.specs.Lookup3.{grouped, run, groups_of}
 use Rattle.checksum.specs.Laws.{MixedWhileMore, TailsSwitched}
 use Rattle.checksum.proofs.Switch.{switch-words, tail-group}

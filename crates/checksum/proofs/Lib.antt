@@ -2,3 +2,4 @@ pub mod Switch
 pub mod Tails
 pub mod Walk
 pub mod Laws
+pub mod Words

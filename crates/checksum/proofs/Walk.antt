@@ -1,11 +1,11 @@
 -- The loop of `jenkins_lookup3` over the groups: how it starts, goes on and ends.
 use Rattle.std.proofs.Common.{◌≡◌, ℕ, suc, ◌+◌, ◌-◌, ◌*◌, ◌%◌, ◌^◌, ◌<◌, ◌≤◌, List, [], ◌∷◌, length, drop, sym, ap, ◌∙◌, arith, length-drop, ne_eqb}
-use Rattle.checksum_mix.specs.declared.State.{State}
-use Rattle.checksum.specs.Requires.{Tail, Few}
-use Rattle.checksum_mix.specs.Words.{add32}
+use Rattle.checksum.specs.declared.mixing.State.{State}
+use Rattle.checksum.specs.Requires.{Few}
+use Rattle.checksum.specs.Words.{add32}
 use Rattle.checksum.proofs.Switch.{tail-group}
-use Rattle.checksum_mix.specs.Mix.{mixed, finalMixed}
-use Rattle.checksum.specs.Lookup3.{grouped, run, groups_of, begun, body, tailOf, switched, ended, hashlittle}
+use Rattle.checksum.specs.Mix.{mixed, final_mixed}
+use Rattle.checksum.specs.Lookup3.{grouped, run, groups_of, begun, body, tail_of, switched, ended, hashlittle}
 
 -- ---- the groups
 
@@ -47,30 +47,30 @@ module _ {bytes : List ℕ} {s : State} {at : ℕ} (w : Walk bytes s at) where
     unfolding run
     words-done = rw (groups_none (length bytes - at) h) at w.words
 
-    tail-here : drop at bytes ≡ tailOf bytes
-    unfolding tailOf
+    tail-here : drop at bytes ≡ tail_of bytes
+    unfolding tail_of
     tail-here =
         let here : at ≡ 12 * groups_of (length bytes) = omega (arith, w.place, groups_none (length bytes - at) h) in
         ap (λ (n : ℕ). drop n bytes) here
 
-    tail-length : length (tailOf bytes) ≡ length bytes - at
+    tail-length : length (tail_of bytes) ≡ length bytes - at
     tail-length = ap length (sym tail-here) ∙ length-drop at bytes
 
-    pub walk-tail : (finalMixed (switched 12 (drop at bytes) s)).c ≡ hashlittle bytes
+    pub walk-tail : (final_mixed (switched 12 (drop at bytes) s)).c ≡ hashlittle bytes
     unfolding hashlittle ended
     walk-tail =
-        rw (ne_eqb (length (tailOf bytes)) 0 (λ z. absurd (omega (arith, tail-length, w.some, z))), tail-here, words-done)
+        rw (ne_eqb (length (tail_of bytes)) 0 (λ z. absurd (omega (arith, tail-length, w.some, z))), tail-here, words-done)
 
 -- no group of few bytes is mixed, and all of them are the tail
-pub few-ended : (bytes : List ℕ) (x : ℕ) → x ≡ add32 0xdeadbeef (length bytes % 2 ^ 32) → Few bytes → (finalMixed (grouped bytes 0 (record { a = x; b = x; c = x }))).c ≡ hashlittle bytes
+pub few-ended : (bytes : List ℕ) (x : ℕ) → x ≡ add32 0xdeadbeef (length bytes % 2 ^ 32) → Few bytes → (final_mixed (grouped bytes 0 (record { a = x; b = x; c = x }))).c ≡ hashlittle bytes
 unfolding begun add32
 few-ended bytes x e h =
     let fit : x < 2 ^ 32 = omega (arith, e) in
     let w : Walk bytes (record { a = x; b = x; c = x }) 0 = walk_start bytes (record { a = x; b = x; c = x }) h.some (rw e) in
-    ap (λ (t : State). (finalMixed t).c) (tail-group bytes 0 (omega (arith, h.most)) (record { a = fit; b = fit; c = fit })) ∙ walk-tail w (omega (arith, h.most))
+    ap (λ (t : State). (final_mixed t).c) (tail-group bytes 0 (omega (arith, h.most)) (record { a = fit; b = fit; c = fit })) ∙ walk-tail w (omega (arith, h.most))
 
 -- without bytes there is nothing to mix
 pub none-ended : (bytes : List ℕ) (x : ℕ) → x ≡ add32 0xdeadbeef (length bytes % 2 ^ 32) → length bytes ≡ 0 → x ≡ hashlittle bytes
-unfolding hashlittle ended tailOf body run groups_of begun add32
+unfolding hashlittle ended tail_of body run groups_of begun add32
 none-ended [] x e n = e
 none-ended (b ∷ bs) x e n = absurd (omega (arith, n))

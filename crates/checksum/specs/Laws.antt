@@ -1,7 +1,7 @@
 -- What the definition of hashlittle says of its loop and of its switch.
 use Rattle.std.specs.Prelude.{ℕ, suc, ◌≡◌, ◌<◌, ◌≤◌, ◌+◌, ◌-◌, ◌^◌, List, length, drop}
-use Rattle.checksum_mix.specs.Mix.{mixed}
-use Rattle.checksum_mix.specs.declared.State.{State}
+use Rattle.checksum.specs.Mix.{mixed}
+use Rattle.checksum.specs.declared.mixing.State.{State}
 use Rattle.checksum.specs.Lookup3.{grouped, run, groups_of, switched}
 
 -- the loop mixes a group exactly while more than 12 bytes remain

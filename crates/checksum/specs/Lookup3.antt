@@ -2,10 +2,10 @@
 -- domain), hashlittle, by the last of its three ways, byte by byte. That it is hashlittle with initval 0 the text does
 -- not say: it is what HDF5's files have (docs/RULES.md). Each definition says which part it follows.
 use Rattle.std.specs.Prelude.{ℕ, zero, suc, ◌+◌, ◌-◌, ◌*◌, ◌/◌, ◌%◌, ◌^◌, if◌then◌else◌, List, length, drop, ◌==◌, nat_le, slice_index}
-use Rattle.little_endian.specs.LittleEndian.{leAt}
-use Rattle.checksum_mix.specs.Words.{add32}
-use Rattle.checksum_mix.specs.Mix.{mixed, finalMixed}
-use Rattle.checksum_mix.specs.declared.State.{State}
+use Rattle.fields.specs.LittleEndian.{le_at}
+use Rattle.checksum.specs.Words.{add32}
+use Rattle.checksum.specs.Mix.{mixed, final_mixed}
+use Rattle.checksum.specs.declared.mixing.State.{State}
 
 -- the start: each word is hexadecimal DEADBEEF plus the length as a 32-bit number, plus initval, 0
 unfoldable pub begun : ℕ → State
@@ -15,7 +15,7 @@ begun n =
 -- the loop's twelve additions, of the 12 bytes from p on: four to a, four to b, four to c, shifted by 0, 8, 16 and 24
 -- bits
 unfoldable pub grouped : List ℕ → ℕ → State → State
-grouped bytes p s = record { a = add32 s.a (leAt bytes p 4); b = add32 s.b (leAt bytes (p + 4) 4); c = add32 s.c (leAt bytes (p + 8) 4) }
+grouped bytes p s = record { a = add32 s.a (le_at bytes p 4); b = add32 s.b (le_at bytes (p + 4) 4); c = add32 s.c (le_at bytes (p + 8) 4) }
 
 -- the loop, while more than 12 bytes are left: one group is added and mixed, and 12 bytes are done. n such groups from p on
 unfoldable pub run : List ℕ → ℕ → ℕ → State → State
@@ -31,13 +31,13 @@ unfoldable pub body : List ℕ → State
 body bytes = run bytes 0 (groups_of (length bytes)) (begun (length bytes))
 
 -- the bytes that are left after it
-unfoldable pub tailOf : List ℕ → List ℕ
-tailOf bytes = drop (12 * groups_of (length bytes)) bytes
+unfoldable pub tail_of : List ℕ → List ℕ
+tail_of bytes = drop (12 * groups_of (length bytes)) bytes
 
 -- case n of the switch adds x, the n-th byte: cases 1 to 4 to a, 5 to 8 to b, 9 to 12 to c, shifted by 0, 8,
 -- 16 and 24 bits in turn
-unfoldable pub caseAdded : ℕ → ℕ → State → State
-caseAdded n x s =
+unfoldable pub case_added : ℕ → ℕ → State → State
+case_added n x s =
     let y = x * 2 ^ ((n - 1) % 4 * 8) in
     if nat_le n 4 then record { a = add32 s.a y; b = s.b; c = s.c }
     else if nat_le n 8 then record { a = s.a; b = add32 s.b y; c = s.c }
@@ -45,18 +45,18 @@ caseAdded n x s =
 
 -- a tail enters at the case of its length and falls through to case 1, so it meets case n if it has n
 -- bytes or more
-unfoldable pub caseMet : ℕ → List ℕ → State → State
-caseMet n tail s = if nat_le n (length tail) then caseAdded n (slice_index tail (n - 1)) s else s
+unfoldable pub case_met : ℕ → List ℕ → State → State
+case_met n tail s = if nat_le n (length tail) then case_added n (slice_index tail (n - 1)) s else s
 
 -- the switch: the cases from n down
 unfoldable pub switched : ℕ → List ℕ → State → State
 switched zero tail s = s
-switched (suc n) tail s = switched n tail (caseMet (suc n) tail s)
+switched (suc n) tail s = switched n tail (case_met (suc n) tail s)
 
 -- case 0 gives c as it is; the other cases give it after the final mix
 unfoldable pub ended : List ℕ → State → ℕ
-ended tail s = if length tail == 0 then s.c else (finalMixed (switched 12 tail s)).c
+ended tail s = if length tail == 0 then s.c else (final_mixed (switched 12 tail s)).c
 
 -- hashlittle(bytes, length, 0)
 unfoldable pub hashlittle : List ℕ → ℕ
-hashlittle bytes = ended (tailOf bytes) (body bytes)
+hashlittle bytes = ended (tail_of bytes) (body bytes)

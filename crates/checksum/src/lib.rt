@@ -1,22 +1,24 @@
 //! HDF5's metadata checksum: hashlittle of Bob Jenkins' lookup3.c with initial value 0.
 #![tactic(auto)]
 
+pub mod mixing;
+
 ghost use Rattle.std.specs.Prelude.{◌≡◌, ◌+◌, ◌-◌, ◌*◌, ◌/◌, ◌%◌, ◌^◌, ◌<◌, ◌≤◌, ◌&&◌, length, drop, if◌then◌else◌, nat_le};
-ghost use Rattle.little_endian.specs.LittleEndian.{leAt};
-ghost use Rattle.checksum_mix.specs.Words.{add32};
-ghost use Rattle.checksum_mix.specs.Mix.{finalMixed};
+ghost use Rattle.fields.specs.LittleEndian.{le_at};
+ghost use Rattle.checksum.specs.Words.{add32};
+ghost use Rattle.checksum.specs.Mix.{final_mixed};
 ghost use Rattle.checksum.specs.Requires.{Tail};
 ghost use Rattle.checksum.specs.Lookup3.{grouped, switched, hashlittle};
 ghost use Rattle.checksum.specs.Laws.{MixedWhileMore, TailsSwitched};
 
-use checksum_mix::{State, final_mix, mix};
-use little_endian::{read_u16_le, read_u32_le};
+use crate::mixing::{State, final_mix, mix};
+use fields::little_endian::{read_u16_le, read_u32_le, read_u64_le};
 
 // A word with the four bytes at `p` added.
-#[tactic(auto, unfolding(checksum_mix::specs::Words::add32))]
+#[tactic(auto, unfolding(crate::specs::Words::add32))]
 fn add_word(x: u32, bytes: &[u8], p: usize) -> u32
     requires { p + 4 ≤ length bytes.now }
-    ensures { result ≡ add32 x (leAt bytes.now p 4) }
+    ensures { result ≡ add32 x (le_at bytes.now p 4) }
 {
     x.wrapping_add(read_u32_le(bytes, p))
 }
@@ -45,81 +47,110 @@ fn drop_low_bytes(x: u32, past: usize) -> u32
 // down. It has no branch on the length, which a processor could not predict.
 fn add_tail_word(x: u32, bytes: &[u8], p: usize) -> u32
     requires { 4 ≤ length bytes.now }
-    ensures { result ≡ add32 x (leAt bytes.now p 4) }
+    ensures { result ≡ add32 x (le_at bytes.now p 4) }
 {
     let at = p.min(bytes.len() - 4);
     x.wrapping_add(drop_low_bytes(read_u32_le(bytes, at), p - at))
 }
 
-// All of 1 to 4 bytes: the first two, and above them the last two without those that are among the first.
-fn short_word(bytes: &[u8]) -> u32
-    requires some { 0 < length bytes.now }
-    requires most { length bytes.now ≤ 4 }
-    ensures { result ≡ leAt bytes.now 0 4 }
+// The bytes at `p`, eight at most and fewer at the end, as one number: the last eight bytes, shifted down.
+fn last_bytes(bytes: &[u8], p: usize) -> u64
+    requires some { 8 ≤ length bytes.now }
+    requires near { length bytes.now ≤ p + 8 }
+    ensures { result ≡ le_at bytes.now p 8 }
 {
-    let n = bytes.len();
-    if n == 1 {
-        return bytes[0] as u32;
-    }
-    let last = (read_u16_le(bytes, n - 2) as u32) >> (8 * (4 - n));
-    (read_u16_le(bytes, 0) as u32) + last * 0x1_0000
+    let at = bytes.len() - 8;
+    let (last, past) = (read_u64_le(bytes, at), p - at);
+    if past < 8 { last >> (8 * past) } else { 0 }
 }
 
-// The 1 to 12 bytes that are left at `at`, added to the words, four to each.
+// The 12 bytes or fewer that are left at `at`, added to the words, four to each: those of the second and the third
+// word are read at once.
 fn add_tail(s: State, bytes: &[u8], at: usize) -> State
     requires { Tail bytes.now at }
     ensures { result ≡ switched 12 (drop at bytes.now) s }
 {
+    let rest = last_bytes(bytes, at + 4);
     State {
         a: add_tail_word(s.a, bytes, at),
-        b: add_tail_word(s.b, bytes, at + 4),
-        c: add_tail_word(s.c, bytes, at + 8),
+        b: s.b.wrapping_add((rest % 0x1_0000_0000) as u32),
+        c: s.c.wrapping_add((rest / 0x1_0000_0000) as u32),
     }
 }
 
-// A word with the last 1 to 4 of 5 to 12 bytes added, those behind whole words: the last word that there is,
-// shifted down.
-fn add_last(x: u32, bytes: &[u8]) -> u32
-    requires more { 5 ≤ length bytes.now }
-    requires most { length bytes.now ≤ 12 }
-    ensures { result ≡ add32 x (leAt bytes.now ((length bytes.now - 1) / 4 * 4) 4) }
+// The bytes behind the first four of 4 to 8: the last word that there is, shifted down.
+fn second_word(bytes: &[u8]) -> u32
+    requires more { 4 ≤ length bytes.now }
+    requires most { length bytes.now ≤ 8 }
+    ensures { result ≡ le_at bytes.now 4 4 }
 {
     let n = bytes.len();
-    x.wrapping_add(drop_low_bytes(read_u32_le(bytes, n - 4), (12 - n) % 4))
+    (u64::from(read_u32_le(bytes, n - 4)) >> (8 * (8 - n))) as u32
 }
 
-// 5 to 12 bytes, which are all of the tail, added to three words that are `first`.
+// The bytes behind the first eight of 9 to 12: likewise.
+fn third_word(bytes: &[u8]) -> u32
+    requires more { 9 ≤ length bytes.now }
+    requires most { length bytes.now ≤ 12 }
+    ensures { result ≡ le_at bytes.now 8 4 }
+{
+    let n = bytes.len();
+    read_u32_le(bytes, n - 4) >> (8 * (12 - n))
+}
+
+// 4 to 12 bytes, which are all of the tail, added to three words that are `first`.
 fn add_few(first: u32, bytes: &[u8]) -> State
-    requires more { 5 ≤ length bytes.now }
+    requires more { 4 ≤ length bytes.now }
     requires most { length bytes.now ≤ 12 }
     ensures { result ≡ grouped bytes.now 0 (record { a = first; b = first; c = first }) }
 {
     let a = add_word(first, bytes, 0);
-    let last = add_last(first, bytes);
-    if bytes.len() <= 8 {
+    if bytes.len() > 8 {
         return State {
             a,
-            b: last,
-            c: first,
+            b: add_word(first, bytes, 4),
+            c: first.wrapping_add(third_word(bytes)),
         };
     }
     State {
         a,
-        b: add_word(first, bytes, 4),
-        c: last,
+        b: first.wrapping_add(second_word(bytes)),
+        c: first,
     }
+}
+
+// The third of 2 or 3 bytes, or 0: a product, not a branch, which a processor could not predict.
+fn third_byte(bytes: &[u8]) -> u16
+    requires more { 2 ≤ length bytes.now }
+    requires most { length bytes.now ≤ 3 }
+    ensures { result ≡ le_at bytes.now 2 2 }
+{
+    let n = bytes.len();
+    (bytes[n - 1] as u16) * ((n - 2) as u16)
+}
+
+// All of 1 to 3 bytes.
+fn short_word(bytes: &[u8]) -> u32
+    requires some { 0 < length bytes.now }
+    requires most { length bytes.now ≤ 3 }
+    ensures { result ≡ le_at bytes.now 0 4 }
+{
+    if bytes.len() == 1 {
+        return bytes[0] as u32;
+    }
+    (read_u16_le(bytes, 0) as u32) + (third_byte(bytes) as u32) * 0x1_0000
 }
 
 // The final mix, of which the third word is the checksum.
 fn ended(s: State) -> u32
-    ensures { result ≡ (finalMixed s).c }
+    ensures { result ≡ (final_mixed s).c }
 {
     let s = final_mix(s);
     s.c
 }
 
 // What each word is at the start.
-#[tactic(auto, unfolding(checksum_mix::specs::Words::add32))]
+#[tactic(auto, unfolding(crate::specs::Words::add32))]
 fn begun(n: usize) -> u32
     ensures { result ≡ add32 0xdeadbeef (n % 2 ^ 32) }
 {
@@ -154,7 +185,7 @@ pub fn jenkins_lookup3(bytes: &[u8]) -> u32
         return mix_groups(bytes);
     }
     let first = begun(bytes.len());
-    if bytes.len() > 4 {
+    if bytes.len() >= 4 {
         return ended(add_few(first, bytes));
     }
     if bytes.is_empty() {

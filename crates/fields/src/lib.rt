@@ -1,14 +1,20 @@
-//! Fields of an HDF5 file: bounds-checked reads of addresses and lengths in a lent slice.
+//! Fields of an HDF5 file: bounds-checked reads of addresses and lengths in a lent slice. What is stored, and how an
+//! answer is handed to C, is in modules.
 #![tactic(auto)]
 
 pub mod convert;
+pub mod little_endian;
+pub mod slot;
+pub mod stores;
+pub mod width;
 
-ghost use Rattle.std.specs.Prelude.{◌≡◌, ◌+◌, ◌≤◌, ◌↔◌, length, IsTrue, OnOk};
+ghost use Rattle.std.specs.Prelude.{◌≡◌, ◌+◌, ◌≤◌, ◌↔◌, true, length, IsTrue, IsOk, OnOk, IfOk, OnErr, Err};
 ghost use Rattle.numbers.specs.Numbers.{saturated};
-ghost use Rattle.little_endian.specs.Widths.{legal};
+ghost use Rattle.fields.specs.Widths.{legal, byte_count};
 ghost use Rattle.fields.specs.Fields.{len_ensured, plain_at, number_at, offset_at, length_at};
 
-use little_endian::{read_le, read_u16_le, read_u32_le};
+use crate::little_endian::{read_le, read_u16_le, read_u32_le};
+use crate::width::Width;
 use refusals::FormatError;
 
 // The refusal where no `needed` bytes stand at `offset`. The end that it reports saturates at 2^64 - 1.
@@ -62,11 +68,20 @@ pub fn has_room(lent: usize, pos: usize, needed: usize) -> bool
 }
 
 /// Whether an address or a length may have this width.
-#[tactic(auto, unfolding(little_endian::specs::Widths::legal))]
+#[tactic(auto, unfolding(crate::specs::Widths::legal))]
 pub fn is_width(width: u8) -> bool
     ensures { result ≡ legal width }
 {
     matches!(width, 2 | 4 | 8)
+}
+
+/// The width of addresses of `offset_size` bytes, or 2 if there is none.
+pub fn offset_width(offset_size: u8) -> Result<Width, FormatError>
+    ensures legal { IsOk result ↔ (legal offset_size ≡ true) }
+    ensures width { IfOk result (λ width. byte_count width ≡ offset_size) }
+    ensures refused { OnErr result (result ≡ Err (FormatError.InvalidOffsetSize offset_size)) }
+{
+    Width::new(offset_size).ok_or(FormatError::InvalidOffsetSize(offset_size))
 }
 
 // A number of `width` bytes at `pos`; `invalid` is the refusal of a width that is none.

@@ -5,10 +5,10 @@ use Rattle.std.specs.Prelude.{ℕ, List, ◌==◌, Result}
 use Rattle.refusals.specs.Steps.{◌>>=◌, required}
 use Rattle.refusals.specs.declared.FormatError.{FormatError}
 use Rattle.refusals.specs.declared.FormatError.TheVariants.{UnsupportedFilteredHeapObject}
-use Rattle.id_decode.specs.Id.{decoded_id}
-use Rattle.id_decode.specs.declared.ManagedId.{ManagedId}
-use Rattle.read_walk.specs.Walk.{root_walk}
-use Rattle.read_walk.specs.declared.place.Place.{Place}
+use Rattle.ids.specs.Decoded.{decoded_id}
+use Rattle.ids.specs.declared.decode.ManagedId.{ManagedId}
+use Rattle.reading.specs.Walk.{root_walk}
+use Rattle.reading.specs.declared.walk.place.Place.{Place}
 use Rattle.fractal_heap.specs.declared.header.FractalHeapHeader.{FractalHeapHeader}
 use Rattle.fractal_heap.specs.Header.{header_at}
 

@@ -2,9 +2,9 @@
 ghost use Rattle.std.specs.Prelude.{◌≡◌, ◌≤◌};
 ghost use Rattle.fractal_heap.specs.Header.{header_at, sum_place};
 
-use header_fields::reader::Reader;
-use header_frame::{check_start, check_sum};
-use read_rows::DoublingTable;
+use crate::frame::{check_start, check_sum};
+use crate::header_fields::reader::Reader;
+use reading::rows::DoublingTable;
 use refusals::FormatError;
 
 /// The header's fields, as the Rust crate names them.
@@ -55,7 +55,7 @@ impl FractalHeapHeader {
 }
 
 // Where the checksum stands, behind what a filtered header has before it.
-#[tactic(auto, unfolding(header_fields::specs::FieldList::header_list, header_fields::specs::FieldList::span_of, header_fields::specs::FieldList::field_place, crate::specs::Header::sum_place))]
+#[tactic(auto, unfolding(crate::specs::FieldList::header_list, crate::specs::FieldList::span_of, crate::specs::FieldList::field_place, crate::specs::Header::sum_place))]
 fn sum_place(filter: u16, offset_size: u8, length_size: u8) -> usize
     ensures value { result ≡ sum_place filter offset_size length_size }
     ensures bound { result ≤ 65536 }

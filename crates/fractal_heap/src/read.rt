@@ -1,14 +1,14 @@
 //! IDs and objects by a header: where the bytes of a managed object are in the file.
 ghost use Rattle.std.specs.Prelude.{◌≡◌, ◌+◌, ◌≤◌, length, IfOk};
-ghost use Rattle.id_decode.specs.IdTypes.{id_type};
-ghost use Rattle.id_decode.specs.Id.{decoded_id};
+ghost use Rattle.ids.specs.IdTypes.{id_type};
+ghost use Rattle.ids.specs.Decoded.{decoded_id};
 ghost use Rattle.fractal_heap.specs.Read.{managed_at};
 
 use crate::header::FractalHeapHeader;
-use id_decode::ManagedId;
-use id_decode::types::HeapIdType;
-use read_walk::place::Place;
-use read_walk::read_from_root;
+use ids::decode::ManagedId;
+use ids::decode::types::HeapIdType;
+use reading::Search;
+use reading::walk::place::Place;
 use refusals::FormatError;
 
 impl FractalHeapHeader {
@@ -16,14 +16,14 @@ impl FractalHeapHeader {
     pub fn heap_id_type(id: &[u8]) -> Result<HeapIdType, FormatError>
         ensures { result ≡ id_type id.now }
     {
-        id_decode::types::heap_id_type(id)
+        ids::decode::types::heap_id_type(id)
     }
 
     /// The heap offset and the length in a managed ID.
     pub fn decode_managed_id(self, id: &[u8]) -> Result<ManagedId, FormatError>
         ensures { result ≡ decoded_id self.table.max_heap_size id.now }
     {
-        id_decode::decode_managed_id(self.table.max_heap_size, id)
+        ids::decode::decode_managed_id(self.table.max_heap_size, id)
     }
 
     /// The managed object that an ID names: its position in the file, and its length.
@@ -41,16 +41,16 @@ impl FractalHeapHeader {
             return Err(FormatError::UnsupportedFilteredHeapObject);
         }
         let object = self.decode_managed_id(id)?;
-        let root = self.root_block_address;
-        let nrows = self.current_rows_in_root_indirect_block;
-        read_from_root(
-            &self.table,
+        Search {
+            table: self.table,
             file,
-            root,
-            nrows,
-            object.offset,
-            object.length,
+            target: object.offset,
+            len: object.length,
             offset_size,
+        }
+        .read_from_root(
+            self.root_block_address,
+            self.current_rows_in_root_indirect_block,
         )
     }
 }

@@ -8,21 +8,20 @@ use lib.ListN.{length, take, drop}
 use lib.Seq.{take_at, drop_at}
 use Rattle.std.specs.Prelude.{nat_lt, false, Result, Ok}
 use Rattle.std.proofs.lemmas.Bool.Decides.{nat_tests}
-use Rattle.little_endian.specs.LittleEndian.{le, value, leAt}
-use Rattle.little_endian.proofs.LittleEndian.{length-le, value-le}
-use Rattle.c_slot.specs.Slot.{slot_number, slot_bytes}
+use Rattle.fields.specs.LittleEndian.{le, value, le_at}
+use Rattle.fields.proofs.LittleEndian.{length-le, value-le}
+use Rattle.fields.specs.Slot.{slot_number, slot_bytes}
 use Rattle.refusals.specs.Steps.{◌>>=◌}
 use Rattle.refusals.specs.Refusals.{answer, report_of}
 use Rattle.refusals.specs.declared.FormatError.{FormatError}
-use Rattle.read_walk.specs.Walk.{place_report}
-use Rattle.read_walk.specs.declared.place.Place.{Place}
+use Rattle.reading.specs.Walk.{place_report}
 use Rattle.fractal_heap.specs.declared.header.FractalHeapHeader.{FractalHeapHeader}
 use Rattle.fractal_heap.specs.Header.{header_at}
 use Rattle.fractal_heap.specs.Read.{managed_at, object_by}
-use Rattle.read_laws.proofs.Reading.{read-in-file}
+use Rattle.fractal_heap.proofs.ReadLaws.{read-in-file}
 use Rattle.heap_kept.specs.HeapKept.{part_of}
-use Rattle.object_bytes.specs.Kept.{ForKept}
-use Rattle.object_bytes.proofs.Keeping.{kept}
+use Rattle.heap_kept.specs.Kept.{ForKept}
+use Rattle.heap_kept.proofs.Keeping.{kept}
 use Rattle.fractal_heap_c.specs.InSlot.{NamesPlace}
 
 -- the two values, read back from the slot
@@ -30,12 +29,12 @@ module _ (slot : List ℕ) (a n : ℕ) where
   abbrev both : List ℕ
   both = le 8 a ++ le 8 n ++ drop 16 slot
 
-  first : a < 2 ^ 64 → leAt both 0 8 ≡ a
-  unfolding leAt le
+  first : a < 2 ^ 64 → le_at both 0 8 ≡ a
+  unfolding le_at le
   first l = ap value (take_at (le 8 a) (le 8 n ++ drop 16 slot) 8 (length-le 8 a)) ∙ value-le 8 a ∙ mod-eq_of_lt l
 
-  second : n < 2 ^ 64 → leAt both 8 8 ≡ n
-  unfolding leAt le
+  second : n < 2 ^ 64 → le_at both 8 8 ≡ n
+  unfolding le_at le
   second l =
       ap (λ (t : List ℕ). value (take 8 t)) (drop_at (le 8 a) (le 8 n ++ drop 16 slot) 8 (length-le 8 a))
       ∙ ap value (take_at (le 8 n) (drop 16 slot) 8 (length-le 8 n))

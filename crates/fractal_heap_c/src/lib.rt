@@ -5,22 +5,22 @@
 
 ghost use Rattle.std.specs.Prelude.{◌≡◌, ◌≤◌, length, Ok};
 ghost use Rattle.checksum.specs.Lookup3.{hashlittle};
-ghost use Rattle.c_slot.specs.Slot.{slot_number, slot_bytes};
+ghost use Rattle.fields.specs.Slot.{slot_number, slot_bytes};
 ghost use Rattle.refusals.specs.Refusals.{report_of};
-ghost use Rattle.id_decode.specs.Id.{id_report};
-ghost use Rattle.read_walk.specs.Walk.{place_report};
+ghost use Rattle.ids.specs.Decoded.{id_report};
+ghost use Rattle.reading.specs.Walk.{place_report};
 ghost use Rattle.fractal_heap.specs.declared.header.FractalHeapHeader.{FractalHeapHeader};
 ghost use Rattle.fractal_heap.specs.Header.{header_at};
 ghost use Rattle.fractal_heap.specs.Read.{id_by, object_by};
-ghost use Rattle.object_bytes.specs.Kept.{ForKept};
+ghost use Rattle.heap_kept.specs.Kept.{ForKept};
 ghost use Rattle.fractal_heap_c.specs.InSlot.{NamesPlace};
 
-use c_slot::put_answer;
 use checksum::jenkins_lookup3;
 use fields::convert::to_usize;
+use fields::slot::put_answer;
 use fractal_heap::header::FractalHeapHeader;
-use id_decode::ManagedId;
-use read_walk::place::Place;
+use ids::decode::ManagedId;
+use reading::walk::place::Place;
 use refusals::FormatError;
 use refusals::answer::Reported;
 

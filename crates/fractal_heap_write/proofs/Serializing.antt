@@ -8,15 +8,15 @@ use native.Mathlib.Decide.{dec_le}
 use lib.ListN.{length, take, drop, length-append}
 use lib.Pow.{pow_mono}
 use lib.Seq.{take_at, length-take-le}
-use Rattle.little_endian.specs.LittleEndian.{put}
-use Rattle.little_endian.proofs.LittleEndian.{put_front}
-use Rattle.little_endian.proofs.Widths.{legal-small}
+use Rattle.fields.specs.LittleEndian.{put}
+use Rattle.fields.proofs.LittleEndian.{put_front}
+use Rattle.fields.proofs.Widths.{legal-small}
 use Rattle.numbers.specs.Sums.{sum}
-use Rattle.table.specs.Table.{fixed, rowOffset}
-use Rattle.table.specs.Sizes.{maxManaged}
-use Rattle.plan_steps.specs.Steps.{planStarts}
-use Rattle.plan_steps.specs.Requires.{Small, Runs}
-use Rattle.plan_checks.proofs.Checking.{Passing, all_small}
+use Rattle.table.specs.Table.{fixed, row_offset}
+use Rattle.table.specs.Sizes.{max_managed}
+use Rattle.planner.specs.Steps.{plan_starts}
+use Rattle.planner.specs.Requires.{Small, Runs}
+use Rattle.plan.proofs.Checking.{Passing, all_small}
 use Rattle.plan.specs.declared.ManagedPlan.{ManagedPlan}
 use Rattle.plan.proofs.Answering.{Went, accepted}
 use Rattle.plan_laws.proofs.Tally.{tallied}
@@ -24,15 +24,15 @@ use Rattle.plan_laws.proofs.Root.{Bare, Rowed, shape}
 use Rattle.region_blocks.specs.declared.Site.{Site}
 use Rattle.region_write.specs.Region.{region}
 use Rattle.region_write.specs.Requires.{Rooted, Writable}
-use Rattle.region_laws.proofs.Indirect.{indirect-planned}
-use Rattle.region_laws.proofs.Region.{indirect-bytes, indirects-planned, region-length}
-use Rattle.write_checks.specs.declared.Lent.{Lent}
-use Rattle.write_checks.specs.Answer.{Accepted}
-use Rattle.write_checks.proofs.Answering.{below-undefined}
+use Rattle.region_write.proofs.Indirect.{indirect-planned}
+use Rattle.region_write.proofs.Region.{indirect-bytes, indirects-planned, region-length}
+use Rattle.fractal_heap_write.specs.declared.checks.Lent.{Lent}
+use Rattle.fractal_heap_write.specs.Answer.{Accepted}
+use Rattle.fractal_heap_write.proofs.Answering.{below-undefined}
 
 -- as many rows as the heap space has
-rows_few : (n : ℕ) → rowOffset fixed (suc n) ≤ 2 ^ 40 → suc n ≤ 29
-unfolding rowOffset
+rows_few : (n : ℕ) → row_offset fixed (suc n) ≤ 2 ^ 40 → suc n ≤ 29
+unfolding row_offset
 rows_few n l = go (dec_le 29 n)
   where
     go : Dec (29 ≤ n) → suc n ≤ 29
@@ -54,8 +54,8 @@ module _ {xs : List ℕ} {lent : Lent} {site : Site} {p : ManagedPlan} (A : Acce
   went : Went site.offset_size xs p
   went = (accepted xs lent.offset_places lent.block_places site.offset_size p A.planned).1
 
-  pub sizes-small : Small (maxManaged fixed site.offset_size) xs
-  sizes-small = record { small = all_small (maxManaged fixed site.offset_size) 0 xs passes.sizes }
+  pub sizes-small : Small (max_managed fixed site.offset_size) xs
+  sizes-small = record { small = all_small (max_managed fixed site.offset_size) 0 xs passes.sizes }
 
   runs : Runs site.offset_size xs
   runs = record { last = went.state; is = went.ran }
@@ -81,19 +81,19 @@ module _ {xs : List ℕ} {lent : Lent} {site : Site} {p : ManagedPlan} (A : Acce
 
   -- ---- the starts that the list of blocks holds then
 
-  module _ (bs bs' : List ℕ) (f : bs' ≡ put bs 0 (planStarts fixed site.offset_size xs)) where
+  module _ (bs bs' : List ℕ) (f : bs' ≡ put bs 0 (plan_starts fixed site.offset_size xs)) where
     pub count_fits : p.block_count ≤ length bs'
     count_fits =
         let c = (tallied xs lent.offset_places lent.block_places site.offset_size p A.planned).blocks in
-        let l = front_length (planStarts fixed site.offset_size xs) bs in
+        let l = front_length (plan_starts fixed site.offset_size xs) bs in
         let z = ap length f in
         omega arith
 
-    starts-there : take p.block_count bs' ≡ planStarts fixed site.offset_size xs
+    starts-there : take p.block_count bs' ≡ plan_starts fixed site.offset_size xs
     starts-there =
         ap (take p.block_count) f
-        ∙ ap (λ (n : ℕ). take n (put bs 0 (planStarts fixed site.offset_size xs))) (tallied xs lent.offset_places lent.block_places site.offset_size p A.planned).blocks
-        ∙ front_of (planStarts fixed site.offset_size xs) bs
+        ∙ ap (λ (n : ℕ). take n (put bs 0 (plan_starts fixed site.offset_size xs))) (tallied xs lent.offset_places lent.block_places site.offset_size p A.planned).blocks
+        ∙ front_of (plan_starts fixed site.offset_size xs) bs
 
   -- ---- the region in what is lent
 
@@ -101,7 +101,7 @@ module _ {xs : List ℕ} {lent : Lent} {site : Site} {p : ManagedPlan} (A : Acce
   size = p.region_size - p.allocated_space
 
   module _ (r : List ℕ) (long : length r ≡ p.region_size) where
-    rooted : Rooted site (planStarts fixed site.offset_size xs) r p.root_rows size
+    rooted : Rooted site (plan_starts fixed site.offset_size xs) r p.root_rows size
     rooted =
         let w = site.offset_size in
         let h = site.heap_header_address in
@@ -118,7 +118,7 @@ module _ {xs : List ℕ} {lent : Lent} {site : Site} {p : ManagedPlan} (A : Acce
           direct = λ l. (let m = (indirect-planned xs lent.offset_places lent.block_places w p A.planned l h a (a + size)).next in omega arith);
         }
 
-    starts-writable : (js : List ℕ) → sum xs ≡ length js → Writable site xs (planStarts fixed site.offset_size xs) js r p.root_rows size
+    starts-writable : (js : List ℕ) → sum xs ≡ length js → Writable site xs (plan_starts fixed site.offset_size xs) js r p.root_rows size
     starts-writable js j =
         let w = site.offset_size in
         let h = site.heap_header_address in
@@ -136,7 +136,7 @@ module _ {xs : List ℕ} {lent : Lent} {site : Site} {p : ManagedPlan} (A : Acce
           fills = long ∙ sym (region-length xs lent.offset_places lent.block_places w p A.planned h a js);
         }
 
-  pub writable : (js r bs bs' : List ℕ) → lent.object_bytes ≡ length js → lent.region_bytes ≡ length r → bs' ≡ put bs 0 (planStarts fixed site.offset_size xs)
+  pub writable : (js r bs bs' : List ℕ) → lent.object_bytes ≡ length js → lent.region_bytes ≡ length r → bs' ≡ put bs 0 (plan_starts fixed site.offset_size xs)
       → Writable site xs (take p.block_count bs') js (take p.region_size r) p.root_rows size
   writable js r bs bs' j l f =
       let n : p.region_size ≤ length r = omega (arith, region_fits) in

@@ -1,6 +1,6 @@
 -- How much the writer is lent.
 use Rattle.std.specs.Prelude.{ℕ, List, length}
-use Rattle.write_checks.specs.declared.Lent.{Lent}
+use Rattle.fractal_heap_write.specs.declared.checks.Lent.{Lent}
 
 -- two lists, the objects' bytes, the bytes for the region
 abbrev pub lent_for : List ℕ → List ℕ → List ℕ → List ℕ → Lent

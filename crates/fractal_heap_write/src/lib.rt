@@ -1,20 +1,22 @@
 //! Writing the managed blocks of a fractal heap: `serialize` plans anew and writes the region of the plan.
 #![tactic(auto)]
 
+pub mod checks;
+
 ghost use Rattle.std.specs.Prelude.{◌≡◌, IfOk, OnOk, OnErr};
-ghost use Rattle.little_endian.specs.LittleEndian.{put};
+ghost use Rattle.fields.specs.LittleEndian.{put};
 ghost use Rattle.table.specs.Table.{fixed};
-ghost use Rattle.plan_steps.specs.Steps.{planOffsets, planStarts};
+ghost use Rattle.planner.specs.Steps.{plan_offsets, plan_starts};
 ghost use Rattle.region_write.specs.Region.{region as region_of};
 ghost use Rattle.plan_laws.specs.Plans.{PlanKept};
-ghost use Rattle.write_checks.specs.Answer.{serializedFor};
+ghost use Rattle.fractal_heap_write.specs.Answer.{serialized_for};
 ghost use Rattle.fractal_heap_write.specs.Serialize.{lent_for};
 
+use crate::checks::{Lent, serialized_for};
 use plan::{ManagedPlan, write_lists};
 use refusals::FormatError;
 use region_blocks::Site;
 use region_write::write_region;
-use write_checks::{Lent, serialized_for};
 
 /// Plans anew, and writes the region of the plan into the front of `region`; the objects' heap offsets and the blocks'
 /// starts go into the front of the lent lists. `objects` are the objects' bytes, joined in the order of their sizes.
@@ -29,14 +31,14 @@ pub fn serialize(
     blocks: &mut [u64],
     region: &mut [u8],
 ) -> Result<ManagedPlan, FormatError>
-    ensures answer { result ≡ serializedFor sizes.now
+    ensures answer { result ≡ serialized_for sizes.now
         (lent_for offsets.old blocks.old objects.now region.old) site }
     ensures written { IfOk result (λ plan. region.new
         ≡ put region.old 0 (region_of site plan.root_rows sizes.now objects.now)) }
     ensures offsets_listed { OnOk result (offsets.new
-        ≡ put offsets.old 0 (planOffsets fixed site.offset_size sizes.now)) }
+        ≡ put offsets.old 0 (plan_offsets fixed site.offset_size sizes.now)) }
     ensures blocks_listed { OnOk result (blocks.new
-        ≡ put blocks.old 0 (planStarts fixed site.offset_size sizes.now)) }
+        ≡ put blocks.old 0 (plan_starts fixed site.offset_size sizes.now)) }
     ensures kept { IfOk result (λ plan. PlanKept sizes.now site.offset_size plan) }
     ensures untouched { OnErr result
         ((offsets.new ≡ offsets.old) × (blocks.new ≡ blocks.old) × (region.new ≡ region.old)) }

@@ -8,17 +8,17 @@ use native.Mathlib.Decide.{ℕ_discrete, dec_le, dec_lt}
 use lib.ListN.{length, get_or}
 use Rattle.std.proofs.lemmas.Bool.Decides.{nat_tests}
 use Rattle.refusals.specs.declared.FormatError.TheVariants.{UnexpectedEof, HeapIdTooLarge}
-use Rattle.table.specs.Table.{Table, fixed, rowOffset}
+use Rattle.table.specs.Table.{Table, fixed, row_offset}
 use Rattle.table.specs.Slots.{slot_at}
 use Rattle.table_laws.proofs.Format.{direct-local, fixed-slot}
 use Rattle.plan.specs.declared.ManagedPlan.{ManagedPlan}
 use Rattle.numbers.proofs.Saturating.{sat-fits}
 use Rattle.std.specs.Prelude.{Ok, Err}
-use Rattle.read_walk.specs.Walk.{direct_at}
+use Rattle.reading.specs.Walk.{direct_at}
 use Rattle.fractal_heap.specs.declared.header.FractalHeapHeader.{FractalHeapHeader}
 use Rattle.fractal_heap.specs.Read.{root_at, managed_at}
-use Rattle.id_write.specs.Checks.{idChecked}
-use Rattle.id_write.specs.Ids.{managedId}
+use Rattle.ids.specs.Checks.{id_checked}
+use Rattle.ids.specs.Written.{managed_id}
 use Rattle.heap_kept.specs.HeapKept.{Call, Written, HoldsRegion, HeaderOf, offset_of, EmptyRead, accepts, refuses, EmptyObjectsAnswered}
 use Rattle.heap_kept.proofs.Ids.{id-passes}
 use Rattle.heap_kept.proofs.FromRoot.{starts, block_of, start, place_of, place-fits, block_inside, by_bare, by-missing, root-finds}
@@ -45,8 +45,8 @@ holder t x (s ∷ ss) = go (dec_le s x) (dec_lt x (s + (slot_at t s).size)) (hol
     go (no l) (yes u) (inr C) = inr (more (λ k. absurd (l k)) C)
 
 -- at the heap's end there is no ID
-no-id : (o : ℕ) → o ≡ 2 ^ 40 → (lent : ℕ) → idChecked fixed o 0 lent ≡ Err (HeapIdTooLarge o 0)
-unfolding idChecked
+no-id : (o : ℕ) → o ≡ 2 ^ 40 → (lent : ℕ) → id_checked fixed o 0 lent ≡ Err (HeapIdTooLarge o 0)
+unfolding id_checked
 no-id o e lent = grind (arith, nat_tests)
 
 module _ (c : Call) (p : ManagedPlan) (W : Written c p)
@@ -76,7 +76,7 @@ module _ (c : Call) (p : ManagedPlan) (W : Written c p)
 
   -- where no placed block holds the offset, and the root has rows
   pub missed-there : (n : ℕ) → n < length (starts c p W) → 0 < p.root_rows → Clear fixed x (starts c p W) → x < 2 ^ 40
-      → managed_at h F (managedId fixed x 0) w ≡ Err (UnexpectedEof x (length F))
+      → managed_at h F (managed_id fixed x 0) w ≡ Err (UnexpectedEof x (length F))
   missed-there n l r C s =
       by-id h F w x 0 c p T s (omega arith) ∙ by-missing c p W n l F H h T x 0 r C
       ∙ ap (λ (y : ℕ). Err (UnexpectedEof y (length F))) (sat-fits (x + 0) (omega arith) ∙ (let e : x + 0 ≡ x = omega arith in e))
@@ -94,7 +94,7 @@ module _ (c : Call) (p : ManagedPlan) (W : Written c p)
 
 -- every empty object
 pub empty-answered : EmptyObjectsAnswered
-unfolding rowOffset
+unfolding row_offset
 empty-answered c p W file H h T i l e =
     let x = offset_of c.site.offset_size c.sizes i in
     let B = block_of c p W i l in

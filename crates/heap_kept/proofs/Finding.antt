@@ -8,24 +8,24 @@ use mathlib.Core.List.{List, [], ◌∷◌, ◌++◌}
 use native.Mathlib.Omega.{arith}
 use native.Mathlib.Decide.{dec_lt}
 use lib.ListN.{length, drop, length-append}
-use Rattle.little_endian.specs.LittleEndian.{le}
-use Rattle.little_endian.specs.Widths.{legal}
-use Rattle.table.specs.Table.{Table, rowBits, rowOffset}
-use Rattle.table.specs.Sizes.{offsetBytes}
+use Rattle.fields.specs.LittleEndian.{le}
+use Rattle.fields.specs.Widths.{legal}
+use Rattle.table.specs.Table.{Table, row_bits, row_offset}
+use Rattle.table.specs.Sizes.{offset_bytes}
 use Rattle.table.specs.Slots.{slot_at}
 use Rattle.table_laws.proofs.Format.{SlotOf, direct-local}
-use Rattle.plan_laws.specs.Plans.{sizesAt}
-use Rattle.region_indirects.specs.Walk.{Walked, direct, slot, smaller, allSlots, block}
+use Rattle.plan_laws.specs.Plans.{sizes_at}
+use Rattle.region_indirects.specs.Walk.{Walked, direct, slot, smaller, all_slots, block}
 use Rattle.region_indirects.proofs.Walking.{slot-entry}
-use Rattle.region_laws.proofs.Starts.{Placed, more, before, from, before-yes, before-no, from-placed, before-later, from-later, sizes-append}
-use Rattle.region_laws.proofs.Geometry.{SlotAt, slot-end, BlockAt, inner-span, own-slot, inner_block}
-use Rattle.region_laws.proofs.Walking.{by-smaller, Way, empty, placed, deeper, way, Cut, slot-cut}
-use Rattle.read_rows.specs.declared.DoublingTable.{DoublingTable}
-use Rattle.read_children.specs.declared.HeapChild.{HeapChild}
-use Rattle.read_walk.specs.declared.place.Place.{Place}
+use Rattle.region_write.proofs.Starts.{Placed, more, before, from, before-yes, before-no, from-placed, before-later, from-later, sizes-append}
+use Rattle.region_write.proofs.Geometry.{SlotAt, slot-end, BlockAt, inner-span, own-slot, inner_block}
+use Rattle.region_write.proofs.Walking.{by-smaller, Way, empty, placed, deeper, way, Cut, slot-cut}
+use Rattle.reading.specs.declared.rows.DoublingTable.{DoublingTable}
+use Rattle.reading.specs.declared.children.HeapChild.{HeapChild}
+use Rattle.reading.specs.declared.walk.place.Place.{Place}
 use Rattle.std.specs.Prelude.{Option, Result}
 use Rattle.refusals.specs.declared.FormatError.{FormatError}
-use Rattle.read_walk.specs.Walk.{direct_at}
+use Rattle.reading.specs.Walk.{direct_at}
 use Rattle.heap_kept.specs.Walking.{Has, Agrees, Coming, Finds, WalkFinds}
 use Rattle.heap_kept.proofs.Entries.{entry-passed, entry-taken}
 use Rattle.heap_kept.proofs.Standing.{Stands, block-stands, onward, walk-scans}
@@ -38,8 +38,8 @@ module _ {t : Table} {b a : ℕ} {bs : List ℕ} where
   coming-later : {at end : ℕ} {ss : List ℕ} {next : ℕ} {o : Walked} → end ≤ b → Cut t o ss next end → Coming t b a bs at ss next → Coming t b a bs end o.rest o.next
   coming-later {end = end} {ss = ss} {o = o} l C S =
       let p = C.next-is in
-      let q = ap (λ (v : List ℕ). sizesAt t (before b v)) C.rest-is in
-      let r = ap (sizesAt t) (before-later end b ss l) ∙ sizes-append t (before end ss) (before b (from end ss)) in
+      let q = ap (λ (v : List ℕ). sizes_at t (before b v)) C.rest-is in
+      let r = ap (sizes_at t) (before-later end b ss l) ∙ sizes-append t (before end ss) (before b (from end ss)) in
       let z = S.stands in
       record {
         placed = subst (Placed t end) (sym C.rest-is) (from-placed end S.placed);
@@ -64,12 +64,12 @@ module _ {t : Table} {b a : ℕ} {bs : List ℕ} where
 
   -- the first of them is the one that begins at or after it
   coming-first : {at s : ℕ} {ss : List ℕ} {next : ℕ} → Coming t b a bs at (s ∷ ss) next → b ≤ s → next ≡ a
-  unfolding sizesAt
-  coming-first {s = s} {ss = ss} S l = let e = ap (sizesAt t) (before-no s ss b l) in let z = S.stands in omega arith
+  unfolding sizes_at
+  coming-first {s = s} {ss = ss} S l = let e = ap (sizes_at t) (before-no s ss b l) in let z = S.stands in omega arith
 
 -- ---- the walk
 
-module _ (t : Table) (g : t.startBits ≤ t.directBits) (wd : t.width_bits + t.startBits ≤ suc t.directBits) (w header : ℕ) (d : DoublingTable) (N : ℕ) (A : Agrees d t N) (F : List ℕ) (ok : legal w ≡ true)
+module _ (t : Table) (g : t.start_bits ≤ t.direct_bits) (wd : t.width_bits + t.start_bits ≤ suc t.direct_bits) (w header : ℕ) (d : DoublingTable) (N : ℕ) (A : Agrees d t N) (F : List ℕ) (ok : legal w ≡ true)
     (target len b a : ℕ) (bs : List ℕ) (lo : b ≤ target) (hi : target < b + (slot_at t b).size) (last : a < 2 ^ (8 * w) - 1) where
   abbrev Wanted : Result Place FormatError
   Wanted = direct_at F a b target len
@@ -78,13 +78,13 @@ module _ (t : Table) (g : t.startBits ≤ t.directBits) (wd : t.width_bits + t.s
   abbrev FindsFrom : ℕ → Type 0
   FindsFrom n = Finds t w header d N F target len b a bs n
 
-  module _ {n base : ℕ} (finds : (j : ℕ) → j < n → FindsFrom j) (few : n ≤ N) (top : base + rowOffset t n < 2 ^ 64) (B : BlockAt t n base) (depth : ℕ) (deep : n ≤ depth) (s : List ℕ) where
+  module _ {n base : ℕ} (finds : (j : ℕ) → j < n → FindsFrom j) (few : n ≤ N) (top : base + row_offset t n < 2 ^ 64) (B : BlockAt t n base) (depth : ℕ) (deep : n ≤ depth) (s : List ℕ) where
     abbrev then : Result (Option HeapChild) FormatError → Result Place FormatError
     then = onward d F w target len depth
 
     module _ {r at : ℕ} (C : SlotAt t n base r at) where
       abbrev z : ℕ
-      z = 2 ^ rowBits t r
+      z = 2 ^ row_bits t r
 
       fits : at + z < 2 ^ 64
       fits = let f = slot-end t C in omega arith
@@ -104,7 +104,7 @@ module _ (t : Table) (g : t.startBits ≤ t.directBits) (wd : t.width_bits + t.s
           (ap (λ (y : ℕ). direct_at F a y target len) (sym o0))
       taken {pos = pos} {next = next} e (deeper {s = s₁} {ss = ss} dr h q) S u H rs =
           let j : ℕ = r - t.width_bits in
-          let f : rowOffset t j ≡ z = inner-span t g wd r dr in
+          let f : row_offset t j ≡ z = inner-span t g wd r dr in
           let I = inner_block t g wd B C dr in
           let l = S.ahead in
           let i = (direct-local t g wd (I.direct b (slot_at t b).size (coming-slot S) l (omega arith))).inside in
@@ -130,13 +130,13 @@ module _ (t : Table) (g : t.startBits ≤ t.directBits) (wd : t.width_bits + t.s
   block-found : (n : ℕ) → ((j : ℕ) → j < n → FindsFrom j) → FindsFrom n
   block-found n finds base ss pos next zero few deep top B (S, u) H k = absurd (omega arith)
   block-found n finds base ss pos next (suc depth) few deep top B (S, u) H k =
-      let o : Walked = allSlots t w header n base ss pos next in
+      let o : Walked = all_slots t w header n base ss pos next in
       let I = block-stands t w header n base ss pos next F H k in
       let p : ℕ = pos + length o.bytes in
       walk-scans t w header d A.bits F target len p n base depth o.entries I.own
       ∙ scanned t w header d N A F (drop p F) target n base (onward d F w target len depth) Wanted (Coming t b a bs)
       (λ r at ss pos next e C S H. law finds few top B depth (omega arith) (drop p F) C ss pos next e S H) (λ ss next S. absurd (let l = S.ahead in omega arith))
-      ss pos next (5 + w + offsetBytes t) S I.slots
+      ss pos next (5 + w + offset_bytes t) S I.slots
 
   walk-found : (n : ℕ) → FindsFrom n
   walk-found = by-smaller FindsFrom block-found

@@ -8,42 +8,42 @@ use native.Mathlib.Decide.{ℕ_discrete}
 use lib.ListN.{length, take, drop, get_or, length-append}
 use lib.Pow.{pow_mono}
 use borrow.Author.Tests.{eq-eqb, ne_eqb}
-use Rattle.little_endian.specs.Widths.{legal}
-use Rattle.little_endian.proofs.Widths.{legal-small}
-use Rattle.table.specs.Table.{fixed, rowBits, rowOffset}
+use Rattle.fields.specs.Widths.{legal}
+use Rattle.fields.proofs.Widths.{legal-small}
+use Rattle.table.specs.Table.{fixed, row_bits, row_offset}
 use Rattle.table.specs.Slots.{slot_at}
 use Rattle.numbers.specs.Sums.{sum}
 use Rattle.table.proofs.Rows.{row-mono}
 use Rattle.table.proofs.Slots.{slot-some}
 use Rattle.table_laws.proofs.Format.{fixed-slot}
-use Rattle.plan_steps.specs.Steps.{planOffsets, planStarts}
+use Rattle.planner.specs.Steps.{plan_offsets, plan_starts}
 use Rattle.plan.specs.declared.ManagedPlan.{ManagedPlan}
-use Rattle.plan.specs.Answer.{plannedFor}
-use Rattle.plan_checks.proofs.Checking.{Passing}
+use Rattle.plan.specs.Answer.{planned_for}
+use Rattle.plan.proofs.Checking.{Passing}
 use Rattle.plan.proofs.Answering.{Went, accepted}
-use Rattle.plan_laws.specs.Plans.{sizesAt, InPlacedBlock}
+use Rattle.plan_laws.specs.Plans.{sizes_at, InPlacedBlock}
 use Rattle.plan_laws.proofs.Objects.{in-one-body}
 use Rattle.plan_laws.proofs.Root.{no-root-rows}
 use Rattle.plan_laws.proofs.Tally.{tallied}
-use Rattle.region_indirects.specs.Walk.{allSlots, block}
-use Rattle.region_directs.specs.Directs.{objectsIn, directs}
-use Rattle.region_laws.proofs.Starts.{Placed, none, more, before, from, before-none, nth-from, end-reached, size-within}
-use Rattle.region_laws.proofs.Geometry.{BlockAt, root-block}
-use Rattle.region_laws.proofs.Indirect.{rooted, indirect-planned, bare-planned}
-use Rattle.region_write.specs.Region.{indirects, indirectBytes, region}
+use Rattle.region_indirects.specs.Walk.{all_slots, block}
+use Rattle.region_directs.specs.Directs.{objects_in, directs}
+use Rattle.region_write.proofs.Starts.{Placed, none, more, before, from, before-none, nth-from, end-reached, size-within}
+use Rattle.region_write.proofs.Geometry.{BlockAt, root-block}
+use Rattle.region_write.proofs.Indirect.{rooted, indirect-planned, bare-planned}
+use Rattle.region_write.specs.Region.{indirects, indirect_bytes, region}
 use Rattle.region_write.proofs.Root.{indirects-some}
-use Rattle.region_laws.proofs.Region.{indirect-bytes, indirects-planned, region-length}
-use Rattle.write_checks.specs.Checks.{Fit}
-use Rattle.write_checks.proofs.Answering.{written, fit}
-use Rattle.read_walk.specs.declared.place.Place.{Place}
+use Rattle.region_write.proofs.Region.{indirect-bytes, indirects-planned, region-length}
+use Rattle.fractal_heap_write.specs.Checks.{Fit}
+use Rattle.fractal_heap_write.proofs.Answering.{written, fit}
+use Rattle.reading.specs.declared.walk.place.Place.{Place}
 use Rattle.std.specs.Prelude.{Result, Ok}
 use Rattle.refusals.specs.declared.FormatError.{FormatError}
-use Rattle.read_walk.specs.Walk.{root_walk, direct_at, walk_from}
+use Rattle.reading.specs.Walk.{root_walk, direct_at, walk_from}
 use Rattle.fractal_heap.specs.declared.header.FractalHeapHeader.{FractalHeapHeader}
 use Rattle.fractal_heap.specs.Read.{root_at}
 use Rattle.heap_kept.specs.Walking.{Has, Agrees, Coming, Clear, missed, Doubles}
 use Rattle.heap_kept.proofs.Holding.{has_some, has_left, has_right}
-use Rattle.heap_kept.proofs.Agreeing.{numbersOf, agrees}
+use Rattle.heap_kept.proofs.Agreeing.{numbers_of, agrees}
 use Rattle.heap_kept.proofs.Entries.{defined}
 use Rattle.heap_kept.proofs.Finding.{found}
 use Rattle.heap_kept.proofs.Missing.{not_found}
@@ -78,22 +78,22 @@ module _ (c : Call) (p : ManagedPlan) (W : Written c p) where
   w = c.site.offset_size
 
   abbrev pub starts : List ℕ
-  starts = planStarts fixed w xs
+  starts = plan_starts fixed w xs
 
   abbrev pub offsets : List ℕ
-  offsets = planOffsets fixed w xs
+  offsets = plan_offsets fixed w xs
 
   -- the address of the first direct block
-  abbrev pub firstDirect : ℕ
-  firstDirect = address + indirectBytes w header p.root_rows starts
+  abbrev pub first_direct : ℕ
+  first_direct = address + indirect_bytes w header p.root_rows starts
 
-  abbrev indirectPart : List ℕ
-  indirectPart = indirects w header p.root_rows starts address firstDirect
+  abbrev indirect_part : List ℕ
+  indirect_part = indirects w header p.root_rows starts address first_direct
 
-  abbrev directPart : List ℕ
-  directPart = directs fixed w header offsets xs js starts
+  abbrev direct_part : List ℕ
+  direct_part = directs fixed w header offsets xs js starts
 
-  pub planned : plannedFor xs o b w ≡ Ok p
+  pub planned : planned_for xs o b w ≡ Ok p
   planned = (written xs (lent_by c) c.site p W.accepted).0
 
   pub tests : Fit c.site (lent_by c) (sum xs) p.region_size
@@ -110,15 +110,15 @@ module _ (c : Call) (p : ManagedPlan) (W : Written c p) where
   pub block_of : (i : ℕ) → i < length xs → InPlacedBlock w xs i
   block_of = in-one-body xs o b w p planned
 
-  indirect-length : length indirectPart ≡ indirectBytes w header p.root_rows starts
-  indirect-length = let a = indirects-planned xs o b w p planned header address firstDirect in let c = indirect-bytes xs o b w p planned header in omega arith
+  indirect-length : length indirect_part ≡ indirect_bytes w header p.root_rows starts
+  indirect-length = let a = indirects-planned xs o b w p planned header address first_direct in let c = indirect-bytes xs o b w p planned header in omega arith
 
-  direct-length : length directPart ≤ sizesAt fixed starts
+  direct-length : length direct_part ≤ sizes_at fixed starts
   unfolding region
   direct-length =
       let a = region-length xs o b w p planned header address js in
-      let c = length-append indirectPart directPart in
-      let d = indirects-planned xs o b w p planned header address firstDirect in
+      let c = length-append indirect_part direct_part in
+      let d = indirects-planned xs o b w p planned header address first_direct in
       let e = (tallied xs o b w p planned).allocated in
       omega arith
 
@@ -140,7 +140,7 @@ module _ (c : Call) (p : ManagedPlan) (W : Written c p) where
 
     -- its address
     abbrev pub place_of : ℕ
-    place_of = firstDirect + sizesAt fixed (before start starts)
+    place_of = first_direct + sizes_at fixed (before start starts)
 
     there : from start starts ≡ start ∷ drop (suc n) starts
     there = nth-from starts-placed n l
@@ -167,15 +167,15 @@ module _ (c : Call) (p : ManagedPlan) (W : Written c p) where
     bytes_of = block_at fixed w header offsets xs js start
 
     pub bytes-least : (slot_at fixed start).size ≤ length bytes_of
-    bytes-least = block-least fixed w header start (slot_at fixed start).size (objectsIn start (slot_at fixed start).size offsets xs js)
+    bytes-least = block-least fixed w header start (slot_at fixed start).size (objects_in start (slot_at fixed start).size offsets xs js)
 
-    coming : Coming fixed start place_of (drop (suc n) starts) 0 starts firstDirect
+    coming : Coming fixed start place_of (drop (suc n) starts) 0 starts first_direct
     coming = record { placed = starts-placed; ahead = omega arith; there = there; stands = refl }
 
     -- ---- in the file
 
     module _ (F : List ℕ) (H : HoldsRegion F c p) where
-      region-has : Has F address (indirectPart ++ directPart)
+      region-has : Has F address (indirect_part ++ direct_part)
       unfolding region
       region-has =
           let R : List ℕ = region c.site p.root_rows xs js in
@@ -187,8 +187,8 @@ module _ (c : Call) (p : ManagedPlan) (W : Written c p) where
       -- the block stands there
       pub block-has : Has F place_of bytes_of
       block-has =
-          directs-has fixed w header offsets xs js F firstDirect start (drop (suc n) starts) starts direct-length there
-          (subst (λ (y : ℕ). Has F (address + y) directPart) indirect-length (has_right F address indirectPart directPart region-has))
+          directs-has fixed w header offsets xs js F first_direct start (drop (suc n) starts) starts direct-length there
+          (subst (λ (y : ℕ). Has F (address + y) direct_part) indirect-length (has_right F address indirect_part direct_part region-has))
 
       pub block_inside : place_of + (slot_at fixed start).size ≤ length F
       block_inside = let k = block-has.within in let m = bytes-least in omega arith
@@ -196,7 +196,7 @@ module _ (c : Call) (p : ManagedPlan) (W : Written c p) where
       -- ---- under a header
 
       module _ (h : FractalHeapHeader) (T : HeaderOf h c p) (t len : ℕ) where
-        table_is : h.table ≡ numbersOf fixed
+        table_is : h.table ≡ numbers_of fixed
         table_is = λ i. record { table_width = T.table-width i; starting_block_size = T.starting-block i; max_direct_block_size = T.largest-direct i; max_heap_size = T.heap-bits i }
 
         below : place_of < 2 ^ (8 * w) - 1
@@ -204,7 +204,7 @@ module _ (c : Call) (p : ManagedPlan) (W : Written c p) where
 
         -- a root of no rows is the one block
         pub by_bare : p.root_rows ≡ 0 → root_at h F t len w ≡ direct_at F place_of start t len
-        unfolding root_walk sizesAt
+        unfolding root_walk sizes_at
         by_bare z =
             let B = bare-planned xs o b w p planned z in
             let r = B.region in
@@ -212,7 +212,7 @@ module _ (c : Call) (p : ManagedPlan) (W : Written c p) where
             let c = indirect-bytes xs o b w p planned header in
             let q = B.place in
             let f : start ≡ 0 = one starts B.blocks n l in
-            let g = ap (sizesAt fixed) (before-none start (omega arith) starts-placed) in
+            let g = ap (sizes_at fixed) (before-none start (omega arith) starts-placed) in
             let e = T.root in
             let u = below in
             let d : h.root_block_address ≡ place_of = omega arith in
@@ -225,37 +225,37 @@ module _ (c : Call) (p : ManagedPlan) (W : Written c p) where
         -- from a root of some rows the walk goes over the indirect blocks
         module _ (some : 0 < p.root_rows) where
           abbrev root : ℕ
-          root = address + length (allSlots fixed w header p.root_rows 0 starts address firstDirect).bytes
+          root = address + length (all_slots fixed w header p.root_rows 0 starts address first_direct).bytes
 
           few : p.root_rows ≤ 29
           few = (rooted xs o b w p planned some).few
 
-          span_small : 0 + rowOffset fixed p.root_rows < 2 ^ 64
-          unfolding rowOffset
+          span_small : 0 + row_offset fixed p.root_rows < 2 ^ 64
+          unfolding row_offset
           span_small = let m = row-mono fixed p.root_rows 29 few in omega arith
 
-          agree : Agrees (numbersOf fixed) fixed 29
-          unfolding rowBits
+          agree : Agrees (numbers_of fixed) fixed 29
+          unfolding row_bits
           agree = agrees fixed (omega arith) (omega arith) (omega arith) 29 (λ r l. omega arith)
 
           is_block : BlockAt fixed p.root_rows 0
           is_block = root-block fixed (omega arith) (omega arith) p.root_rows (omega arith)
 
-          blocks-are : indirectPart ≡ (block fixed w header p.root_rows 0 starts address firstDirect).bytes
-          blocks-are = indirects-some w header p.root_rows starts address firstDirect some
+          blocks-are : indirect_part ≡ (block fixed w header p.root_rows 0 starts address first_direct).bytes
+          blocks-are = indirects-some w header p.root_rows starts address first_direct some
 
-          blocks-have : Has F address (block fixed w header p.root_rows 0 starts address firstDirect).bytes
-          blocks-have = subst (Has F address) blocks-are (has_left F address indirectPart directPart region-has)
+          blocks-have : Has F address (block fixed w header p.root_rows 0 starts address first_direct).bytes
+          blocks-have = subst (Has F address) blocks-are (has_left F address indirect_part direct_part region-has)
 
-          blocks-below : address + length (block fixed w header p.root_rows 0 starts address firstDirect).bytes ≤ 2 ^ (8 * w) - 1
-          blocks-below = let y = ap length blocks-are in let x = indirects-planned xs o b w p planned header address firstDirect in let u = tests.end in omega arith
+          blocks-below : address + length (block fixed w header p.root_rows 0 starts address first_direct).bytes ≤ 2 ^ (8 * w) - 1
+          blocks-below = let y = ap length blocks-are in let x = indirects-planned xs o b w p planned header address first_direct in let u = tests.end in omega arith
 
           root_is : h.root_block_address ≡ root
-          root_is = T.root ∙ ap (λ (y : ℕ). address + y) (sym (indirect-planned xs o b w p planned some header address firstDirect).children)
+          root_is = T.root ∙ ap (λ (y : ℕ). address + y) (sym (indirect-planned xs o b w p planned some header address first_direct).children)
 
           root_below : root < 2 ^ (8 * w) - 1
           root_below =
-              let P = indirect-planned xs o b w p planned some header address firstDirect in
+              let P = indirect-planned xs o b w p planned some header address first_direct in
               let c = P.children in
               let u = below in
               let i = P.bytes in
@@ -263,7 +263,7 @@ module _ (c : Call) (p : ManagedPlan) (W : Written c p) where
               let x = indirect-length in
               omega arith
 
-          by-walk : (x : Result Place FormatError) → walk_from (numbersOf fixed) F w t len 64 root p.root_rows 0 ≡ x → root_at h F t len w ≡ x
+          by-walk : (x : Result Place FormatError) → walk_from (numbers_of fixed) F w t len 64 root p.root_rows 0 ≡ x → root_at h F t len w ≡ x
           unfolding root_walk
           by-walk x q =
               let e = root_is in
@@ -279,14 +279,14 @@ module _ (c : Call) (p : ManagedPlan) (W : Written c p) where
               let s = slot-some fixed start in
               let f = few in
               by-walk (direct_at F place_of start t len)
-              (found fixed doubles w header (numbersOf fixed) 29 agree F width-legal t len start place_of (drop (suc n) starts) lo hi below p.root_rows 0 starts address firstDirect 64 few (omega arith) span_small is_block (coming, omega arith) blocks-have blocks-below)
+              (found fixed doubles w header (numbers_of fixed) 29 agree F width-legal t len start place_of (drop (suc n) starts) lo hi below p.root_rows 0 starts address first_direct 64 few (omega arith) span_small is_block (coming, omega arith) blocks-have blocks-below)
 
           -- where no placed block holds the offset
           pub by-missing : Clear fixed t starts → root_at h F t len w ≡ missed F t len
           by-missing X =
               let f = few in
               by-walk (missed F t len)
-              (not_found fixed doubles w header (numbersOf fixed) 29 agree F width-legal t len p.root_rows 0 starts address firstDirect 64 few (omega arith) span_small is_block (record { placed = starts-placed; clear = X }) blocks-have blocks-below)
+              (not_found fixed doubles w header (numbers_of fixed) 29 agree F width-legal t len p.root_rows 0 starts address first_direct 64 few (omega arith) span_small is_block (record { placed = starts-placed; clear = X }) blocks-have blocks-below)
 
         -- from the root to the block
         pub root-finds : start ≤ t → t < start + (slot_at fixed start).size → root_at h F t len w ≡ direct_at F place_of start t len

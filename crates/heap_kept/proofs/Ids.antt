@@ -9,23 +9,23 @@ use lib.Pow.{high, low}
 use lib.Seq.{take_all}
 use Rattle.std.proofs.lemmas.Bool.Decides.{nat_tests}
 use borrow.Author.Tests.{lt-ltb}
-use Rattle.little_endian.specs.LittleEndian.{le, value, leAt}
-use Rattle.little_endian.proofs.LittleEndian.{length-le, value-le, value-append}
+use Rattle.fields.specs.LittleEndian.{le, value, le_at}
+use Rattle.fields.proofs.LittleEndian.{length-le, value-le, value-append}
 use Rattle.table.specs.Table.{fixed}
-use Rattle.table.specs.Sizes.{offsetBytes}
+use Rattle.table.specs.Sizes.{offset_bytes}
 use Rattle.std.specs.Prelude.{slice_index, Ok}
-use Rattle.id_decode.specs.IdTypes.{type_of}
-use Rattle.id_decode.specs.Id.{split_id, decoded_id}
-use Rattle.id_write.specs.Checks.{idLength, idChecked}
-use Rattle.id_write.specs.Ids.{managedId}
-use Rattle.id_write.proofs.Ids.{id-length}
+use Rattle.ids.specs.IdTypes.{type_of}
+use Rattle.ids.specs.Decoded.{split_id, decoded_id}
+use Rattle.ids.specs.Checks.{id_length, id_checked}
+use Rattle.ids.specs.Written.{managed_id}
+use Rattle.ids.proofs.Ids.{id-length}
 use Rattle.heap_kept.specs.HeapKept.{IdRoundTrip}
 
 module _ (o x : ℕ) where
   module _ (lo : o < 2 ^ 40) (hi : x < 2 ^ 16) where
     -- the number after its first byte
-    id-number : leAt (managedId fixed o x) 1 8 ≡ x * 2 ^ 40 + o
-    unfolding managedId offsetBytes leAt le
+    id-number : le_at (managed_id fixed o x) 1 8 ≡ x * 2 ^ 40 + o
+    unfolding managed_id offset_bytes le_at le
     id-number =
         let T : List ℕ = le 5 o ++ le 2 x in
         let n : length T ≡ 7 = length-append (le 5 o) (le 2 x) ∙ ap₂ (λ (a b : ℕ). a + b) (length-le 5 o) (length-le 2 x) in
@@ -35,19 +35,19 @@ module _ (o x : ℕ) where
         let p = ap (λ (m : ℕ). value (le 2 x) * 2 ^ (8 * m)) (length-le 5 o) in
         ap value (take_all 8 T (omega arith)) ∙ omega arith
 
-    pub decodes : decoded_id 40 (managedId fixed o x) ≡ Ok (record { offset = o; length = x })
+    pub decodes : decoded_id 40 (managed_id fixed o x) ≡ Ok (record { offset = o; length = x })
     unfolding decoded_id split_id
     decodes =
         let l = id-length o x in
-        let first : type_of (slice_index (managedId fixed o x) 0) ≡ 0 = (unfold managedId le in refl) in
-        let m : length (managedId fixed o x) - 1 ≡ 7 = omega arith in
-        let q : leAt (managedId fixed o x) 1 8 % 2 ^ 40 ≡ o = ap (λ (v : ℕ). v % 2 ^ 40) id-number ∙ low x 40 lo in
-        let r : leAt (managedId fixed o x) 1 8 / 2 ^ 40 % 2 ^ 16 ≡ x = ap (λ (v : ℕ). v / 2 ^ 40 % 2 ^ 16) id-number ∙ ap (λ (v : ℕ). v % 2 ^ 16) (high x 40 lo) ∙ mod-eq_of_lt hi in
-        rw (lt-ltb 0 (length (managedId fixed o x)) (omega arith), first, m, q, r)
+        let first : type_of (slice_index (managed_id fixed o x) 0) ≡ 0 = (unfold managed_id le in refl) in
+        let m : length (managed_id fixed o x) - 1 ≡ 7 = omega arith in
+        let q : le_at (managed_id fixed o x) 1 8 % 2 ^ 40 ≡ o = ap (λ (v : ℕ). v % 2 ^ 40) id-number ∙ low x 40 lo in
+        let r : le_at (managed_id fixed o x) 1 8 / 2 ^ 40 % 2 ^ 16 ≡ x = ap (λ (v : ℕ). v / 2 ^ 40 % 2 ^ 16) id-number ∙ ap (λ (v : ℕ). v % 2 ^ 16) (high x 40 lo) ∙ mod-eq_of_lt hi in
+        rw (lt-ltb 0 (length (managed_id fixed o x)) (omega arith), first, m, q, r)
 
     -- the ID writer accepts them
-    pub id-passes : (lent : ℕ) → 8 ≤ lent → idChecked fixed o x lent ≡ Ok tt
-    unfolding idChecked idLength offsetBytes
+    pub id-passes : (lent : ℕ) → 8 ≤ lent → id_checked fixed o x lent ≡ Ok tt
+    unfolding id_checked id_length offset_bytes
     id-passes lent l = grind (arith, nat_tests)
 
 -- what the ID writer accepts is small enough
@@ -56,11 +56,11 @@ pub record Small (o x lent : ℕ) : Type 0 where
   pub size : x < 2 ^ 16
   pub room : 8 ≤ lent
 
-pub id-small : (o x lent : ℕ) → idChecked fixed o x lent ≡ Ok tt → Small o x lent
-unfolding idChecked idLength offsetBytes
+pub id-small : (o x lent : ℕ) → id_checked fixed o x lent ≡ Ok tt → Small o x lent
+unfolding id_checked id_length offset_bytes
 id-small o x lent e = grind (arith, nat_tests)
 
 pub id-round-trip : IdRoundTrip
 id-round-trip o x lent e h bits =
     let S = id-small o x lent e in
-    ap (λ (n : ℕ). decoded_id n (managedId fixed o x)) bits ∙ decodes o x S.offset S.size
+    ap (λ (n : ℕ). decoded_id n (managed_id fixed o x)) bits ∙ decodes o x S.offset S.size

@@ -6,26 +6,26 @@ use native.Mathlib.Omega.{arith}
 use native.Mathlib.Nat.{add-zero}
 use lib.ListN.{length, drop, length-append}
 use borrow.Author.Tests.{le-leb, eq-eqb}
-use Rattle.little_endian.specs.LittleEndian.{le, value, leAt}
+use Rattle.fields.specs.LittleEndian.{le, value, le_at}
 use Rattle.fields.specs.Fields.{len_ensured}
-use Rattle.little_endian.proofs.LittleEndian.{length-le}
+use Rattle.fields.proofs.LittleEndian.{length-le}
 use Rattle.checksum.specs.Lookup3.{hashlittle}
 use Rattle.table.specs.Table.{Table}
-use Rattle.table.specs.Sizes.{offsetBytes}
-use Rattle.fields.specs.Signatures.{indirectSignature}
-use Rattle.region_blocks.specs.Blocks.{blockHead, indirectBlock}
+use Rattle.table.specs.Sizes.{offset_bytes}
+use Rattle.fields.specs.Signatures.{indirect_signature}
+use Rattle.region_blocks.specs.Blocks.{block_head, indirect_block}
 use Rattle.region_blocks.proofs.Lengths.{indirect-head-length, indirect-length}
-use Rattle.region_indirects.specs.Walk.{Walked, both, finished, allSlots, block}
-use Rattle.read_rows.specs.declared.DoublingTable.{DoublingTable}
-use Rattle.read_children.specs.declared.HeapChild.{HeapChild}
-use Rattle.read_walk.specs.declared.place.Place.{Place}
+use Rattle.region_indirects.specs.Walk.{Walked, both, finished, all_slots, block}
+use Rattle.reading.specs.declared.rows.DoublingTable.{DoublingTable}
+use Rattle.reading.specs.declared.children.HeapChild.{HeapChild}
+use Rattle.reading.specs.declared.walk.place.Place.{Place}
 use Rattle.std.specs.Prelude.{Option, Result}
 use Rattle.refusals.specs.Steps.{◌>>=◌}
 use Rattle.refusals.specs.declared.FormatError.{FormatError}
 use Rattle.refusals.specs.declared.FormatError.TheVariants.{UnexpectedEof}
 use Rattle.numbers.specs.Numbers.{saturated}
-use Rattle.read_children.specs.Blocks.{slot_rows, child_in_slots, entries_place, child_in, child_at}
-use Rattle.read_walk.specs.Walk.{direct_at, by_child, walk_from}
+use Rattle.reading.specs.Blocks.{slot_rows, child_in_slots, entries_place, child_in, child_at}
+use Rattle.reading.specs.Walk.{direct_at, by_child, walk_from}
 use Rattle.heap_kept.specs.Walking.{Has}
 use Rattle.heap_kept.proofs.Holding.{has_left, has_right, has-drop, has-number}
 
@@ -55,53 +55,53 @@ module _ {F s : List ℕ} {w pos e : ℕ} (c o : Walked) where
       }
 
 module _ (t : Table) (w header n at : ℕ) (ss : List ℕ) (pos next : ℕ) where
-  pub block-bytes : (block t w header n at ss pos next).bytes ≡ (allSlots t w header n at ss pos next).bytes ++ indirectBlock t w header at (allSlots t w header n at ss pos next).entries
+  pub block-bytes : (block t w header n at ss pos next).bytes ≡ (all_slots t w header n at ss pos next).bytes ++ indirect_block t w header at (all_slots t w header n at ss pos next).entries
   unfolding block finished
   block-bytes = refl
 
-  pub block-entry : (block t w header n at ss pos next).entries ≡ le w (pos + length (allSlots t w header n at ss pos next).bytes)
+  pub block-entry : (block t w header n at ss pos next).entries ≡ le w (pos + length (all_slots t w header n at ss pos next).bytes)
   unfolding block finished
   block-entry = refl
 
   -- the block itself stands below what it ends below
-  pub block-below : (end : ℕ) → pos + length (block t w header n at ss pos next).bytes ≤ end → pos + length (allSlots t w header n at ss pos next).bytes < end
+  pub block-below : (end : ℕ) → pos + length (block t w header n at ss pos next).bytes ≤ end → pos + length (all_slots t w header n at ss pos next).bytes < end
   block-below end l =
-      let o = allSlots t w header n at ss pos next in
-      let a = ap length block-bytes ∙ length-append o.bytes (indirectBlock t w header at o.entries) in
+      let o = all_slots t w header n at ss pos next in
+      let a = ap length block-bytes ∙ length-append o.bytes (indirect_block t w header at o.entries) in
       let b = indirect-length t w header at o.entries in
       omega arith
 
 -- an indirect block in the file: its signature, and where its entries are
-module _ (t : Table) (w header : ℕ) (F : List ℕ) (p at : ℕ) (es : List ℕ) (H : Has F p (indirectBlock t w header at es)) where
-  head-has : Has F p (blockHead t w indirectSignature header at ++ es)
-  unfolding indirectBlock
-  head-has = has_left F p (blockHead t w indirectSignature header at ++ es) (le 4 (hashlittle (blockHead t w indirectSignature header at ++ es))) H
+module _ (t : Table) (w header : ℕ) (F : List ℕ) (p at : ℕ) (es : List ℕ) (H : Has F p (indirect_block t w header at es)) where
+  head-has : Has F p (block_head t w indirect_signature header at ++ es)
+  unfolding indirect_block
+  head-has = has_left F p (block_head t w indirect_signature header at ++ es) (le 4 (hashlittle (block_head t w indirect_signature header at ++ es))) H
 
-  entries-has : Has (drop p F) (5 + w + offsetBytes t) es
+  entries-has : Has (drop p F) (5 + w + offset_bytes t) es
   entries-has =
-      has-drop F p (5 + w + offsetBytes t) es (subst (λ (y : ℕ). Has F (p + y) es) (indirect-head-length t w header at) (has_right F p (blockHead t w indirectSignature header at) es head-has))
+      has-drop F p (5 + w + offset_bytes t) es (subst (λ (y : ℕ). Has F (p + y) es) (indirect-head-length t w header at) (has_right F p (block_head t w indirect_signature header at) es head-has))
 
   sign-has : Has (drop p F) 0 (le 4 0x42494846)
-  unfolding blockHead le
+  unfolding block_head le
   sign-has =
-      has-drop F p 0 indirectSignature (subst (λ (y : ℕ). Has F y indirectSignature) (sym (add-zero p))
-      (has_left F p indirectSignature ((0 ∷ []) ++ (le w header ++ le (offsetBytes t) at)) (has_left F p (blockHead t w indirectSignature header at) es head-has)))
+      has-drop F p 0 indirect_signature (subst (λ (y : ℕ). Has F y indirect_signature) (sym (add-zero p))
+      (has_left F p indirect_signature ((0 ∷ []) ++ (le w header ++ le (offset_bytes t) at)) (has_left F p (block_head t w indirect_signature header at) es head-has)))
 
 -- a block in the file: it stands behind those in its slots, and all of them stand there
 pub record BlockStands (t : Table) (w header at : ℕ) (F : List ℕ) (pos : ℕ) (o : Walked) : Type 0 where
-  pub own : Has F (pos + length o.bytes) (indirectBlock t w header at o.entries)
-  pub slots : Stands F (drop (pos + length o.bytes) F) w pos (5 + w + offsetBytes t) o
+  pub own : Has F (pos + length o.bytes) (indirect_block t w header at o.entries)
+  pub slots : Stands F (drop (pos + length o.bytes) F) w pos (5 + w + offset_bytes t) o
 
 pub block-stands : (t : Table) (w header n at : ℕ) (ss : List ℕ) (pos next : ℕ) (F : List ℕ) → Has F pos (block t w header n at ss pos next).bytes
-    → pos + length (block t w header n at ss pos next).bytes ≤ 2 ^ (8 * w) - 1 → BlockStands t w header at F pos (allSlots t w header n at ss pos next)
+    → pos + length (block t w header n at ss pos next).bytes ≤ 2 ^ (8 * w) - 1 → BlockStands t w header at F pos (all_slots t w header n at ss pos next)
 block-stands t w header n at ss pos next F H k =
-    let o : Walked = allSlots t w header n at ss pos next in
+    let o : Walked = all_slots t w header n at ss pos next in
     let G = subst (Has F pos) (block-bytes t w header n at ss pos next) H in
-    let I = has_right F pos o.bytes (indirectBlock t w header at o.entries) G in
+    let I = has_right F pos o.bytes (indirect_block t w header at o.entries) G in
     let v = block-below t w header n at ss pos next (2 ^ (8 * w) - 1) k in
     record {
       own = I;
-      slots = record { bytes = has_left F pos o.bytes (indirectBlock t w header at o.entries) G; below = omega arith; entries = entries-has t w header F (pos + length o.bytes) at o.entries I };
+      slots = record { bytes = has_left F pos o.bytes (indirect_block t w header at o.entries) G; below = omega arith; entries = entries-has t w header F (pos + length o.bytes) at o.entries I };
     }
 
 -- what the walk makes of a child, with so many blocks to go
@@ -109,13 +109,13 @@ abbrev pub onward : DoublingTable → List ℕ → ℕ → ℕ → ℕ → ℕ �
 onward d F w target len depth c = c >>= (λ child. by_child child (λ p o. direct_at F p o target len) (λ p m o. walk_from d F w target len depth p m o) (UnexpectedEof (saturated (target + len)) (length F)))
 
 -- at a block in the file the walk scans its entries
-pub walk-scans : (t : Table) (w header : ℕ) (d : DoublingTable) → d.max_heap_size ≡ t.heapBits → (F : List ℕ) (target len p n at depth : ℕ) (es : List ℕ) → Has F p (indirectBlock t w header at es)
-    → walk_from d F w target len (suc depth) p n at ≡ onward d F w target len depth (child_in_slots d (drop p F) w target (slot_rows d n 0) (5 + w + offsetBytes t) at)
-unfolding walk_from child_at child_in value len_ensured entries_place offsetBytes
+pub walk-scans : (t : Table) (w header : ℕ) (d : DoublingTable) → d.max_heap_size ≡ t.heap_bits → (F : List ℕ) (target len p n at depth : ℕ) (es : List ℕ) → Has F p (indirect_block t w header at es)
+    → walk_from d F w target len (suc depth) p n at ≡ onward d F w target len depth (child_in_slots d (drop p F) w target (slot_rows d n 0) (5 + w + offset_bytes t) at)
+unfolding walk_from child_at child_in value len_ensured entries_place offset_bytes
 walk-scans t w header d bits F target len p n at depth es H =
     let r = H.within in
     let l = indirect-length t w header at es in
     let S = sign-has t w header F p at es H in
     let k = S.within in
     let m = length-le 4 0x42494846 in
-    rw (le-leb (p + 4) (length F) (omega arith), le-leb (0 + 4) (length (drop p F)) (omega arith), eq-eqb (leAt (drop p F) 0 4) 0x42494846 (has-number (drop p F) 4 0 0x42494846 (omega arith) S), ap (λ (k : ℕ). 5 + w + (k + 7) / 8) bits)
+    rw (le-leb (p + 4) (length F) (omega arith), le-leb (0 + 4) (length (drop p F)) (omega arith), eq-eqb (le_at (drop p F) 0 4) 0x42494846 (has-number (drop p F) 4 0 0x42494846 (omega arith) S), ap (λ (k : ℕ). 5 + w + (k + 7) / 8) bits)

@@ -8,25 +8,25 @@ use lib.ListN.{length, take, drop, get_or, length-drop, take-append-drop}
 use lib.Seq.{take-append-le, drop-append-le, take-take, take_all, length-take-le, get_or-take}
 use borrow.Author.Tests.{le-leb, eq-eqb}
 use Rattle.fields.specs.Fields.{len_ensured}
-use Rattle.table.specs.Table.{fixed, rowOffset}
+use Rattle.table.specs.Table.{fixed, row_offset}
 use Rattle.table.specs.Slots.{slot_at}
-use Rattle.table.specs.Sizes.{directHeader, maxManaged}
+use Rattle.table.specs.Sizes.{direct_header, max_managed}
 use Rattle.numbers.specs.Sums.{sum}
 use Rattle.numbers.proofs.Sums.{sum-take-suc, sum-take-le}
 use Rattle.table_laws.proofs.Format.{direct-local, fixed-slot}
-use Rattle.plan_steps.specs.Steps.{planOffsets}
+use Rattle.planner.specs.Steps.{plan_offsets}
 use Rattle.plan.specs.declared.ManagedPlan.{ManagedPlan}
-use Rattle.plan_checks.proofs.Checking.{all_small}
+use Rattle.plan.proofs.Checking.{all_small}
 use Rattle.plan_laws.specs.Plans.{InPlacedBlock}
 use Rattle.plan_laws.proofs.Front.{front-part}
 use Rattle.plan_laws.proofs.Kept.{plan-kept}
 use Rattle.region_directs.proofs.Objects.{objects-at}
 use Rattle.std.specs.Prelude.{Ok}
-use Rattle.read_walk.specs.Walk.{direct_at}
-use Rattle.id_decode.specs.Id.{decoded_id}
+use Rattle.reading.specs.Walk.{direct_at}
+use Rattle.ids.specs.Decoded.{decoded_id}
 use Rattle.fractal_heap.specs.declared.header.FractalHeapHeader.{FractalHeapHeader}
 use Rattle.fractal_heap.specs.Read.{root_at, managed_at}
-use Rattle.id_write.specs.Ids.{managedId}
+use Rattle.ids.specs.Written.{managed_id}
 use Rattle.heap_kept.proofs.Holding.{has_part}
 use Rattle.heap_kept.specs.HeapKept.{Call, Written, HoldsRegion, HeaderOf, offset_of, ComesBack, part_of, HeapKept, EarlyIdsHold}
 use Rattle.heap_kept.proofs.Ids.{decodes, id-passes}
@@ -36,10 +36,10 @@ use Rattle.heap_kept.proofs.FromRoot.{planned, tests, went, block_of, start, pla
 
 -- by a written ID the reader looks for what it was written for
 pub by-id : (h : FractalHeapHeader) (F : List ℕ) (w o x : ℕ) (c : Call) (p : ManagedPlan) → HeaderOf h c p → o < 2 ^ 40 → x < 2 ^ 16
-    → managed_at h F (managedId fixed o x) w ≡ root_at h F o x w
+    → managed_at h F (managed_id fixed o x) w ≡ root_at h F o x w
 unfolding managed_at
 by-id h F w o x c p T lo hi =
-    let e : decoded_id h.table.max_heap_size (managedId fixed o x) ≡ decoded_id 40 (managedId fixed o x) = ap (λ (n : ℕ). decoded_id n (managedId fixed o x)) T.heap-bits in
+    let e : decoded_id h.table.max_heap_size (managed_id fixed o x) ≡ decoded_id 40 (managed_id fixed o x) = ap (λ (n : ℕ). decoded_id n (managed_id fixed o x)) T.heap-bits in
     rw (eq-eqb h.io_filter_encoded_length 0 T.unfiltered, e ∙ decodes o x lo hi)
 
 -- len bytes in a block that the file holds
@@ -80,13 +80,13 @@ module _ (c : Call) (p : ManagedPlan) (W : Written c p)
   slot-size = (fixed-slot B.slot).size_is
 
   size_small : size < 2 ^ 16
-  unfolding maxManaged directHeader
-  size_small = let z = all_small (maxManaged fixed w) 0 xs (went c p W).0.sizes i l in omega arith
+  unfolding max_managed direct_header
+  size_small = let z = all_small (max_managed fixed w) 0 xs (went c p W).0.sizes i l in omega arith
 
   -- where its offset lies in the block, and so not at the block's end
   module _ (u : offset < its + B.size) where
     offset-small : offset < 2 ^ 40
-    unfolding rowOffset
+    unfolding row_offset
     offset-small = let z = (direct-local fixed (omega arith) (omega arith) B.slot).inside in omega arith
 
     read : root_at h F offset size w ≡ Ok (record { position = place + (offset - its); length = size })
@@ -163,7 +163,7 @@ part-early xs js k i e l m =
 pub early-id-holds : EarlyIdsHold
 early-id-holds c p W file H h T k i l m s =
     record {
-      same_id = ap₂ (λ (u v : ℕ). managedId fixed u v) same-offset same_size;
+      same_id = ap₂ (λ (u v : ℕ). managed_id fixed u v) same-offset same_size;
       comes_back = subst (λ (u : ℕ). ComesBack file h w u (get_or (take k xs) i 0) early) (sym same-offset)
           (subst₂ (λ (v : ℕ) (bytes : List ℕ). ComesBack file h w (offset_of w xs i) v bytes) (sym same_size) (sym (part-early xs c.objects k i (sym (tests c p W).bytes) l m)) (nonempty-back c p W file H h T i m s));
     }
@@ -183,4 +183,4 @@ early-id-holds c p W file H h T k i l m s =
     same-offset : offset_of w (take k xs) i ≡ offset_of w xs i
     same-offset =
         let F = front-part xs c.offset_places c.block_places w p (planned c p W) k (length (take k xs)) (max 1 (length (take k xs))) (omega arith) (omega arith) in
-        ap (λ (v : List ℕ). get_or v i 0) F.same-offsets ∙ get_or-take k (planOffsets fixed w xs) i 0 l
+        ap (λ (v : List ℕ). get_or v i 0) F.same-offsets ∙ get_or-take k (plan_offsets fixed w xs) i 0 l

@@ -2,7 +2,7 @@
 use mathlib.Core.Path.{◌≡◌, subst}
 use Prim.Native.Nat.{ℕ, ◌^◌, ◌≤◌, ◌<◌}
 use native.Mathlib.Omega.{arith}
-use lib.Count.{count_leading_zeros, leading_of_zero, leading_top}
+use lib.Count.{leading_of_zero, leading_top}
 use Rattle.numbers.specs.Numbers.{log2, TopExponent}
 
 pub log2-le : (v : ℕ) → log2 v ≤ 63

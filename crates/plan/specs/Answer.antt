@@ -8,56 +8,56 @@ use Rattle.refusals.specs.Steps.{◌>>=◌}
 use Rattle.refusals.specs.Refusals.{refusal}
 use Rattle.refusals.specs.declared.FormatError.{FormatError}
 use Rattle.refusals.specs.declared.FormatError.TheVariants.{HeapSpaceExhausted}
-use Rattle.table.specs.Table.{Table, fixed, rowOffset}
-use Rattle.table.specs.Sizes.{directHeader, indirectSize}
+use Rattle.table.specs.Table.{Table, fixed, row_offset}
+use Rattle.table.specs.Sizes.{direct_header, indirect_size}
 use Rattle.table.specs.Capacity.{capacity}
-use Rattle.plan_steps.specs.declared.State.{State}
-use Rattle.plan_steps.specs.Steps.{blockEnd, run}
-use Rattle.plan_end.specs.End.{endState, rootRows}
-use Rattle.plan_checks.specs.Checks.{inputChecked}
-use Rattle.little_endian.specs.LittleEndian.{put}
+use Rattle.planner.specs.declared.State.{State}
+use Rattle.planner.specs.Steps.{block_end, run}
+use Rattle.plan.specs.End.{end_state, rows_of_root}
+use Rattle.plan.specs.Checks.{input_checked}
+use Rattle.fields.specs.LittleEndian.{put}
 use Rattle.plan.specs.declared.ManagedPlan.{ManagedPlan}
 
 -- the root is a block of the starting size at 0
-abbrev pub bareTotals : Table → ℕ → State → ManagedPlan
-bareTotals t w s = record {
+abbrev pub bare_totals : Table → ℕ → State → ManagedPlan
+bare_totals t w s = record {
   block_count = 1;
-  region_size = 2 ^ t.startBits;
+  region_size = 2 ^ t.start_bits;
   root_rows = 0;
   root_place = 0;
-  managed_space = 2 ^ t.startBits;
-  allocated_space = 2 ^ t.startBits;
-  free_space = 2 ^ t.startBits - directHeader t w - s.used;
+  managed_space = 2 ^ t.start_bits;
+  allocated_space = 2 ^ t.start_bits;
+  free_space = 2 ^ t.start_bits - direct_header t w - s.used;
   allocation_iterator = 0;
 }
 
 -- the root is an indirect block of n rows. In the region all other indirect blocks come before it, and the
 -- direct blocks after it
-abbrev pub rowTotals : Table → ℕ → State → ℕ → ManagedPlan
-rowTotals t w s n = record {
+abbrev pub row_totals : Table → ℕ → State → ℕ → ManagedPlan
+row_totals t w s n = record {
   block_count = s.count;
-  region_size = s.indirect + indirectSize t w n + s.allocated;
+  region_size = s.indirect + indirect_size t w n + s.allocated;
   root_rows = n;
   root_place = s.indirect;
-  managed_space = rowOffset t n;
+  managed_space = row_offset t n;
   allocated_space = s.allocated;
-  free_space = capacity t (directHeader t w) n - s.used;
-  allocation_iterator = blockEnd s;
+  free_space = capacity t (direct_header t w) n - s.used;
+  allocation_iterator = block_end s;
 }
 
 unfoldable pub totals : Table → ℕ → State → ManagedPlan
 totals t w s =
-    if rootRows t (blockEnd s) == 0 then bareTotals t w s else rowTotals t w s (rootRows t (blockEnd s))
+    if rows_of_root t (block_end s) == 0 then bare_totals t w s else row_totals t w s (rows_of_root t (block_end s))
 
-abbrev pub ranPlan : ℕ → Result State ℕ → Result ManagedPlan FormatError
-ranPlan w (Ok s) = Ok (totals fixed w (endState fixed w s))
-ranPlan w (Err i) = Err (HeapSpaceExhausted i)
+abbrev pub ran_plan : ℕ → Result State ℕ → Result ManagedPlan FormatError
+ran_plan w (Ok s) = Ok (totals fixed w (end_state fixed w s))
+ran_plan w (Err i) = Err (HeapSpaceExhausted i)
 
 -- the answer for the sizes xs, lists of o and b places and addresses of w bytes: 12 after the tests
-unfoldable pub plannedFor : List ℕ → ℕ → ℕ → ℕ → Result ManagedPlan FormatError
-plannedFor xs o b w = do
-  _ ← inputChecked xs o b w
-  ranPlan w (run fixed w xs)
+unfoldable pub planned_for : List ℕ → ℕ → ℕ → ℕ → Result ManagedPlan FormatError
+planned_for xs o b w = do
+  _ ← input_checked xs o b w
+  ran_plan w (run fixed w xs)
 
 -- a plan's eight numbers
 abbrev pub numbers : ManagedPlan → List ℕ
@@ -66,14 +66,14 @@ numbers p =
     ∷ p.free_space ∷ p.allocation_iterator ∷ []
 
 -- the number of an answer: 0, or the refusal's
-abbrev pub plannedNumber : Result ManagedPlan FormatError → ℕ
-plannedNumber (Ok p) = 0
-plannedNumber (Err e) = (refusal e).number
+abbrev pub planned_number : Result ManagedPlan FormatError → ℕ
+planned_number (Ok p) = 0
+planned_number (Err e) = (refusal e).number
 
 -- its values: the plan's numbers, or the refusal's pair
-abbrev pub plannedValues : Result ManagedPlan FormatError → List ℕ
-plannedValues (Ok p) = numbers p
-plannedValues (Err e) = (refusal e).first ∷ (refusal e).second ∷ []
+abbrev pub planned_values : Result ManagedPlan FormatError → List ℕ
+planned_values (Ok p) = numbers p
+planned_values (Err e) = (refusal e).first ∷ (refusal e).second ∷ []
 
 -- a lent list at the end: new numbers in front where the plan is accepted, else as it was
 abbrev pub written : Result ManagedPlan FormatError → List ℕ → List ℕ → List ℕ

@@ -2,24 +2,30 @@
 //! header says of them. Functions with a `requires` serve our own crates and are no part of the interface.
 #![tactic(auto)]
 
+pub mod checks;
+pub mod ending;
+pub mod report;
+
 ghost use Rattle.std.specs.Prelude.{◌≡◌, ◌≤◌, max, length};
 ghost use Rattle.table.specs.Table.{fixed};
-ghost use Rattle.plan_steps.specs.Steps.{planOffsets, planStarts};
-ghost use Rattle.little_endian.specs.LittleEndian.{put};
-ghost use Rattle.table.specs.Sizes.{maxManaged};
-ghost use Rattle.plan_steps.specs.Requires.{Small};
-ghost use Rattle.plan_end.specs.End.{endState};
-ghost use Rattle.plan_end.specs.Requires.{Totalled};
-ghost use Rattle.plan.specs.Answer.{totals, plannedFor, written};
+ghost use Rattle.planner.specs.Steps.{plan_offsets, plan_starts};
+ghost use Rattle.fields.specs.LittleEndian.{put};
+ghost use Rattle.fields.specs.Widths.{byte_count};
+ghost use Rattle.table.specs.Sizes.{max_managed};
+ghost use Rattle.planner.specs.Requires.{Small};
+ghost use Rattle.plan.specs.End.{end_state};
+ghost use Rattle.plan.specs.Requires.{Totalled};
+ghost use Rattle.plan.specs.Answer.{totals, planned_for, written};
 
-use plan_checks::check_input;
-use plan_end::{close, root_rows};
-use plan_steps::State;
-use planner::{Counted, Planner, Written};
+use crate::checks::check_input;
+use crate::ending::{close, root_rows};
+use fields::offset_width;
+use fields::width::Width;
+use planner::{Counted, Planner, State, Written};
 use refusals::FormatError;
+use table::block_sizes::{direct_block_header, indirect_block_size};
+use table::capacities::{capacity_sum, rows_capacity};
 use table::row_offset;
-use table_capacity::{capacity_sum, rows_capacity};
-use table_sizes::{direct_block_header, indirect_block_size};
 
 /// What planning says of a heap, in bytes but for two counts. The last four are fields of the heap header (HDF5 File
 /// Format Specification 3.0, III.G, 'Fractal Heap Header').
@@ -72,18 +78,18 @@ fn totals(s: State, offset_size: u8) -> ManagedPlan
     }
 }
 
-/// The plan for lists of `offsets` and `blocks` places, or 2, 13, 11 or 12, in this order; nothing is written.
-#[tactic(auto, unfolding(crate::specs::Answer::plannedFor))]
+/// The plan for lists of `offsets` and `blocks` places, or 13, 11 or 12, in this order; nothing is written.
+#[tactic(auto, unfolding(crate::specs::Answer::planned_for))]
 pub fn planned_for(
     sizes: &[u64],
     offsets: usize,
     blocks: usize,
-    offset_size: u8,
+    width: Width,
 ) -> Result<ManagedPlan, FormatError>
-    ensures { result ≡ plannedFor sizes.now offsets blocks offset_size }
+    ensures { result ≡ planned_for sizes.now offsets blocks (byte_count width) }
 {
-    check_input(sizes, offsets, blocks, offset_size)?;
-    let mut planner = Planner::new(offset_size);
+    check_input(sizes, offsets, blocks, width)?;
+    let mut planner = Planner::new(width.bytes());
     match planner.extend::<Counted>(sizes, &mut [], &mut []) {
         Ok(()) => Ok(ManagedPlan::of(&planner)),
         Err(index) => Err(FormatError::HeapSpaceExhausted(index)),
@@ -93,13 +99,13 @@ pub fn planned_for(
 /// Writes both lists of an accepted plan: the objects' heap offsets, and the blocks' starts. Without objects one block
 /// stands at 0.
 pub fn write_lists(sizes: &[u64], offsets: &mut [u64], blocks: &mut [u64], offset_size: u8)
-    requires small { Small (maxManaged fixed offset_size) sizes.now }
+    requires small { Small (max_managed fixed offset_size) sizes.now }
     requires offsets_room { length sizes.now ≤ length offsets.old }
     requires blocks_room { max 1 (length sizes.now) ≤ length blocks.old }
     ensures offsets_after { offsets.new
-        ≡ put offsets.old 0 (planOffsets fixed offset_size sizes.now) }
+        ≡ put offsets.old 0 (plan_offsets fixed offset_size sizes.now) }
     ensures blocks_after { blocks.new
-        ≡ put blocks.old 0 (planStarts fixed offset_size sizes.now) }
+        ≡ put blocks.old 0 (plan_starts fixed offset_size sizes.now) }
 {
     if sizes.is_empty() {
         blocks[0] = 0;
@@ -111,7 +117,7 @@ impl ManagedPlan {
     /// What the heap header says of the objects that were added so far.
     pub fn of(planner: &Planner) -> ManagedPlan
         ensures { result ≡ totals fixed planner.now.offset_size
-            (endState fixed planner.now.offset_size planner.now.state) }
+            (end_state fixed planner.now.offset_size planner.now.state) }
     {
         totals(
             close(planner.state, planner.offset_size),
@@ -122,6 +128,7 @@ impl ManagedPlan {
     /// Lays out objects of these sizes, in bytes, for addresses of `offset_size` bytes. Each object's heap offset and
     /// each placed block's start go into the lent lists. A refusal, 2, 13 for `offsets`, 13 for `blocks`, 11 or 12,
     /// the first that applies, leaves both as they were.
+    #[tactic(auto, unfolding(crate::specs::Answer::planned_for, crate::specs::Checks::input_checked, crate::specs::Checks::width_checked))]
     pub fn new(
         sizes: &[u64],
         offsets: &mut [u64],
@@ -129,13 +136,14 @@ impl ManagedPlan {
         offset_size: u8,
     ) -> Result<ManagedPlan, FormatError>
         ensures value { result
-            ≡ plannedFor sizes.now (length offsets.old) (length blocks.old) offset_size }
+            ≡ planned_for sizes.now (length offsets.old) (length blocks.old) offset_size }
         ensures offsets_after { offsets.new
-            ≡ written result (planOffsets fixed offset_size sizes.now) offsets.old }
+            ≡ written result (plan_offsets fixed offset_size sizes.now) offsets.old }
         ensures blocks_after { blocks.new
-            ≡ written result (planStarts fixed offset_size sizes.now) blocks.old }
+            ≡ written result (plan_starts fixed offset_size sizes.now) blocks.old }
     {
-        let plan = planned_for(sizes, offsets.len(), blocks.len(), offset_size)?;
+        let width = offset_width(offset_size)?;
+        let plan = planned_for(sizes, offsets.len(), blocks.len(), width)?;
         write_lists(sizes, offsets, blocks, offset_size);
         Ok(plan)
     }

@@ -8,32 +8,32 @@ use native.Mathlib.Decide.{dec_le}
 use lib.ListN.{length, take, length-take}
 use Rattle.std.proofs.lemmas.Bool.Decides.{nat_tests}
 use Rattle.table.specs.Table.{Table, fixed}
-use Rattle.plan_steps.specs.declared.State.{State}
+use Rattle.planner.specs.declared.State.{State}
 use Rattle.plan.specs.declared.ManagedPlan.{ManagedPlan}
-use Rattle.plan_steps.specs.Steps.{initial, step_of, run_from, offsetsFrom, startsFrom, run, planOffsets, planStarts}
-use Rattle.plan_end.specs.End.{endState}
-use Rattle.plan.specs.Answer.{totals, plannedFor}
-use Rattle.plan_checks.specs.Checks.{sizesChecked}
-use Rattle.plan_steps.proofs.Running.{run-stops, run-goes, offsets-go, starts-go-same, starts-go-new}
+use Rattle.planner.specs.Steps.{initial, step_of, run_from, offsets_from, starts_from, run, plan_offsets, plan_starts}
+use Rattle.plan.specs.End.{end_state}
+use Rattle.plan.specs.Answer.{totals, planned_for}
+use Rattle.plan.specs.Checks.{sizes_checked}
+use Rattle.planner.proofs.Running.{run-stops, run-goes, offsets-go, starts-go-same, starts-go-new}
 use Rattle.plan_laws.specs.Plans.{FrontPart}
-use Rattle.plan_checks.proofs.Checking.{passed}
+use Rattle.plan.proofs.Checking.{passed}
 use Rattle.plan.proofs.Answering.{accepted, answers}
 
 -- the first k sizes from the state s on
 pub record Fronted (t : Table) (w : ℕ) (s : State) (xs : List ℕ) (k i : ℕ) : Type 0 where
   pub state : State
   pub is : run_from t w s (take k xs) i ≡ Ok state
-  pub same-offsets : offsetsFrom t w s (take k xs) ≡ take k (offsetsFrom t w s xs)
+  pub same-offsets : offsets_from t w s (take k xs) ≡ take k (offsets_from t w s xs)
   pub later : List ℕ
-  pub same-starts : startsFrom t w s xs ≡ startsFrom t w s (take k xs) ++ later
+  pub same-starts : starts_from t w s xs ≡ starts_from t w s (take k xs) ++ later
 
 module _ (t : Table) (w : ℕ) where
   -- one object more before both
   starts-front : (s s₁ : State) (x o : ℕ) → step_of t w s x ≡ Some (s₁, o) → (xs ys later : List ℕ)
-      → startsFrom t w s₁ xs ≡ startsFrom t w s₁ ys ++ later → startsFrom t w s (x ∷ xs) ≡ startsFrom t w s (x ∷ ys) ++ later
+      → starts_from t w s₁ xs ≡ starts_from t w s₁ ys ++ later → starts_from t w s (x ∷ xs) ≡ starts_from t w s (x ∷ ys) ++ later
   starts-front s s₁ x o q xs ys later e = go (dec_le s₁.count s.count)
     where
-      go : Dec (s₁.count ≤ s.count) → startsFrom t w s (x ∷ xs) ≡ startsFrom t w s (x ∷ ys) ++ later
+      go : Dec (s₁.count ≤ s.count) → starts_from t w s (x ∷ xs) ≡ starts_from t w s (x ∷ ys) ++ later
       go (yes u) = starts-go-same t w s x xs s₁ o q u ∙ e ∙ ap (λ (l : List ℕ). l ++ later) (sym (starts-go-same t w s x ys s₁ o q u))
       go (no u) =
           starts-go-new t w s x xs s₁ o q (omega arith) ∙ ap (λ (l : List ℕ). s₁.start ∷ l) e
@@ -41,8 +41,8 @@ module _ (t : Table) (w : ℕ) where
 
   -- a run that ends well has run its front part well
   pub front : (xs : List ℕ) (k : ℕ) (s : State) (i : ℕ) (s' : State) → run_from t w s xs i ≡ Ok s' → Fronted t w s xs k i
-  unfolding run_from offsetsFrom startsFrom
-  front xs zero s i s' e = record { state = s; is = refl; same-offsets = refl; later = startsFrom t w s xs; same-starts = refl }
+  unfolding run_from offsets_from starts_from
+  front xs zero s i s' e = record { state = s; is = refl; same-offsets = refl; later = starts_from t w s xs; same-starts = refl }
   front [] (suc k) s i s' e = record { state = s; is = refl; same-offsets = refl; later = []; same-starts = refl }
   front (x ∷ xs) (suc k) s i s' e = go (step_of t w s x) refl (λ s₁. front xs k s₁ (suc i) s')
     where
@@ -59,37 +59,37 @@ module _ (t : Table) (w : ℕ) where
       go None q ih = absurd (let f = run-stops t w s x xs i q in cc)
 
 -- the sizes of a front part pass
-sizes-front : (limit j : ℕ) (xs : List ℕ) (k : ℕ) → sizesChecked limit j xs ≡ (Ok tt) → sizesChecked limit j (take k xs) ≡ (Ok tt)
-unfolding sizesChecked
+sizes-front : (limit j : ℕ) (xs : List ℕ) (k : ℕ) → sizes_checked limit j xs ≡ (Ok tt) → sizes_checked limit j (take k xs) ≡ (Ok tt)
+unfolding sizes_checked
 sizes-front limit j xs zero e = refl
 sizes-front limit j [] (suc k) e = refl
 sizes-front limit j (x ∷ xs) (suc k) e = grind (arith, nat_tests, sizes-front limit (suc j) xs k)
 
 -- the blocks of the whole list, where the front part has some size
-blocks-front : (w : ℕ) (xs : List ℕ) (k : ℕ) (F : Fronted fixed w (initial fixed w) xs k 0) → 0 < k → planStarts fixed w xs ≡ planStarts fixed w (take k xs) ++ F.later
-unfolding planStarts startsFrom
+blocks-front : (w : ℕ) (xs : List ℕ) (k : ℕ) (F : Fronted fixed w (initial fixed w) xs k 0) → 0 < k → plan_starts fixed w xs ≡ plan_starts fixed w (take k xs) ++ F.later
+unfolding plan_starts starts_from
 blocks-front w xs zero F l = absurd (omega arith)
 blocks-front w [] (suc k) F l = ap (λ (y : List ℕ). 0 ∷ y) F.same-starts
 blocks-front w (x ∷ xs) (suc k) F l = F.same-starts
 
 -- if planning accepts a list, it accepts the first k sizes, in any lists that 13 lets pass
-pub front-part : (xs : List ℕ) (o b w : ℕ) (p : ManagedPlan) → plannedFor xs o b w ≡ Ok p
+pub front-part : (xs : List ℕ) (o b w : ℕ) (p : ManagedPlan) → planned_for xs o b w ≡ Ok p
     → (k o' b' : ℕ) → length (take k xs) ≤ o' → max 1 (length (take k xs)) ≤ b' → FrontPart xs w k o' b'
 front-part xs o b w p e k o' b' lo lb =
     let A = accepted xs o b w p e in
     let F : Fronted fixed w (initial fixed w) xs k 0 = front fixed w xs k (initial fixed w) 0 A.1.state (unfold run in A.1.ran) in
     record {
-      plan = totals fixed w (endState fixed w F.state);
+      plan = totals fixed w (end_state fixed w F.state);
       accepted = answers (take k xs) o' b' w (Ok F.state)
           (passed (take k xs) o' b' w (record { width = A.0.width; offsets = lo; blocks = lb; sizes = sizes-front _ 0 xs k A.0.sizes }))
           (unfold run in F.is);
-      same-offsets = unfold planOffsets in F.same-offsets;
+      same-offsets = unfold plan_offsets in F.same-offsets;
       later = F.later;
       same_blocks = blocks-front w xs k F;
     }
 
 -- such as those of the whole list
-pub front-part-there : (xs : List ℕ) (o b w : ℕ) (p : ManagedPlan) → plannedFor xs o b w ≡ Ok p → (k : ℕ) → FrontPart xs w k o b
+pub front-part-there : (xs : List ℕ) (o b w : ℕ) (p : ManagedPlan) → planned_for xs o b w ≡ Ok p → (k : ℕ) → FrontPart xs w k o b
 front-part-there xs o b w p e k =
     let A = (accepted xs o b w p e).0 in
     let l = length-take k xs in

@@ -12,15 +12,15 @@ use lib.ListN.{length, take, get_or}
 use borrow.Author.Tests.{leb-false}
 use Rattle.refusals.specs.declared.FormatError.TheVariants.{HeapSpaceExhausted}
 use Rattle.table.specs.Table.{Table, fixed}
-use Rattle.table.specs.Sizes.{directHeader}
+use Rattle.table.specs.Sizes.{direct_header}
 use Rattle.table.specs.declared.Slot.{Slot}
-use Rattle.plan_steps.specs.declared.State.{State}
-use Rattle.plan_steps.specs.Steps.{open_at, initial, blockEnd, filled, opened, step_of, run_from, run}
-use Rattle.plan_checks.specs.Checks.{inputChecked}
-use Rattle.plan.specs.Answer.{plannedFor}
-use Rattle.plan_steps.proofs.Opening.{open-found, full-none}
-use Rattle.plan_steps.proofs.Stepping.{Sane, step-open}
-use Rattle.plan_steps.proofs.Running.{run-stops, run-goes}
+use Rattle.planner.specs.declared.State.{State}
+use Rattle.planner.specs.Steps.{open_at, initial, block_end, filled, opened, step_of, run_from, run}
+use Rattle.plan.specs.Checks.{input_checked}
+use Rattle.plan.specs.Answer.{planned_for}
+use Rattle.planner.proofs.Opening.{open-found, full-none}
+use Rattle.planner.proofs.Stepping.{Sane, step-open}
+use Rattle.planner.proofs.Running.{run-stops, run-goes}
 use Rattle.plan_laws.specs.Plans.{NoSlotFits}
 use Rattle.table_laws.proofs.Format.{SlotOf, fixed-slot, slot-fixed}
 use Rattle.plan_laws.proofs.Laying.{still-ok, ran-ok, ran-laid}
@@ -73,32 +73,32 @@ module _ (t : Table) (w : ℕ) where
 
 -- ---- one step
 
-module _ (t : Table) (g : t.startBits ≤ t.directBits) (k : t.startBits ≤ t.heapBits) (w : ℕ) (s : State) (x : ℕ) (I : Sane t w s) where
+module _ (t : Table) (g : t.start_bits ≤ t.direct_bits) (k : t.start_bits ≤ t.heap_bits) (w : ℕ) (s : State) (x : ℕ) (I : Sane t w s) where
   -- x bytes fit neither the current block nor a slot after it
   record Nowhere : Type 0 where
     not-here : s.size < s.fill + x
-    nowhere : (c z : ℕ) → SlotOf t c z → blockEnd s ≤ c → z < directHeader t w + x
+    nowhere : (c z : ℕ) → SlotOf t c z → block_end s ≤ c → z < direct_header t w + x
 
   -- a step ends exactly there
   step-ends : step_of t w s x ≡ None → Nowhere
   unfolding step_of
-  step-ends e = go (leb (s.fill + x) s.size) refl (open_at t (directHeader t w + x) (blockEnd s)) refl e
+  step-ends e = go (leb (s.fill + x) s.size) refl (open_at t (direct_header t w + x) (block_end s)) refl e
     where
-      go : (u : Bool) → leb (s.fill + x) s.size ≡ u → (v : Option Slot) → open_at t (directHeader t w + x) (blockEnd s) ≡ v
+      go : (u : Bool) → leb (s.fill + x) s.size ≡ u → (v : Option Slot) → open_at t (direct_header t w + x) (block_end s) ≡ v
           → ◌≡◌ {A = Option (State × ℕ)} (elim u [ true ↦ Some ((filled s x), s.start + s.fill) | false ↦ opened t w s x v ]) None → Nowhere
       go true p v q e = absurd cc
       go false p (Some b) q e = absurd cc
       go false p None q e = record {
         not-here = leb-false (s.fill + x) s.size p;
-        nowhere = λ c z S l. (let y = full-none t g k (directHeader t w + x) (blockEnd s) I.next-slot q c S.starts l S.inside in let f = S.size_is in omega arith);
+        nowhere = λ c z S l. (let y = full-none t g k (direct_header t w + x) (block_end s) I.next-slot q c S.starts l S.inside in let f = S.size_is in omega arith);
       }
 
   ends-step : Nowhere → step_of t w s x ≡ None
-  ends-step N = step-open t w s x N.not-here ∙ ap (opened t w s x) (go (open_at t (directHeader t w + x) (blockEnd s)) refl)
+  ends-step N = step-open t w s x N.not-here ∙ ap (opened t w s x) (go (open_at t (direct_header t w + x) (block_end s)) refl)
     where
-      go : (v : Option Slot) → open_at t (directHeader t w + x) (blockEnd s) ≡ v → v ≡ None
+      go : (v : Option Slot) → open_at t (direct_header t w + x) (block_end s) ≡ v → v ≡ None
       go (Some b) q =
-          let F = open-found t g k (directHeader t w + x) (blockEnd s) I.next-slot b q in
+          let F = open-found t g k (direct_header t w + x) (block_end s) I.next-slot b q in
           let a = N.nowhere b.start b.size (record { starts = F.starts; inside = F.inside; size_is = ap (λ (y : Slot). y.size) F.is }) F.after in
           let f = F.enough in
           absurd (omega arith)
@@ -114,10 +114,10 @@ ok-after : (w : ℕ) (xs : List ℕ) (s : State) → run fixed w xs ≡ Ok s →
 ok-after w xs s e = still-ok (ran-ok w) (ran-laid w xs s e)
 
 -- the answer is 12 at the i-th object exactly if the tests before pass and no slot that is left fits it
-pub ends-iff-none-fits : (xs : List ℕ) (o b w i : ℕ) → (plannedFor xs o b w ≡ Err (HeapSpaceExhausted i)) ↔ ((inputChecked xs o b w ≡ (Ok tt)) × NoSlotFits w xs i)
+pub ends-iff-none-fits : (xs : List ℕ) (o b w i : ℕ) → (planned_for xs o b w ≡ Err (HeapSpaceExhausted i)) ↔ ((input_checked xs o b w ≡ (Ok tt)) × NoSlotFits w xs i)
 ends-iff-none-fits xs o b w i = (only, always)
   where
-    only : plannedFor xs o b w ≡ Err (HeapSpaceExhausted i) → (inputChecked xs o b w ≡ (Ok tt)) × NoSlotFits w xs i
+    only : planned_for xs o b w ≡ Err (HeapSpaceExhausted i) → (input_checked xs o b w ≡ (Ok tt)) × NoSlotFits w xs i
     only e =
         let E = ended xs o b w i e in
         let R = stopped fixed w xs (initial fixed w) 0 i (sym (run_is w xs) ∙ E.1) in
@@ -126,7 +126,7 @@ ends-iff-none-fits xs o b w i = (only, always)
         let N = step-ends fixed (omega arith) (omega arith) w S.state (get_or xs i 0) (ok-after w (take i xs) S.state before) S.ends in
         (E.0, record { object = S.object; state = S.state; before = before; not-here = N.not-here; nowhere = λ c z D l. N.nowhere c z (fixed-slot D) l })
 
-    always : (inputChecked xs o b w ≡ (Ok tt)) × NoSlotFits w xs i → plannedFor xs o b w ≡ Err (HeapSpaceExhausted i)
+    always : (input_checked xs o b w ≡ (Ok tt)) × NoSlotFits w xs i → planned_for xs o b w ≡ Err (HeapSpaceExhausted i)
     always (c, N) =
         let I = ok-after w (take i xs) N.state N.before in
         let S : Stopped fixed w (initial fixed w) xs 0 i = record {

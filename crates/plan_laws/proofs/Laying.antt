@@ -8,12 +8,12 @@ use native.Mathlib.Omega.{arith}
 use native.Mathlib.Nat.{le_refl}
 use lib.ListN.{length, get_or}
 use Rattle.table.specs.Table.{Table, fixed}
-use Rattle.table.specs.Sizes.{directHeader}
+use Rattle.table.specs.Sizes.{direct_header}
 use Rattle.numbers.specs.Sums.{sum}
-use Rattle.plan_steps.specs.declared.State.{State}
-use Rattle.plan_steps.specs.Steps.{initial, blockEnd, step_of, run_from, offsetsFrom, startsFrom, run, planOffsets, planStarts}
-use Rattle.plan_steps.proofs.Stepping.{Sane, Placing, Same, New, step-placed, ok-initial}
-use Rattle.plan_steps.proofs.Running.{run-stops, run-goes, offsets-go, starts-go-same, starts-go-new}
+use Rattle.planner.specs.declared.State.{State}
+use Rattle.planner.specs.Steps.{initial, block_end, step_of, run_from, offsets_from, starts_from, run, plan_offsets, plan_starts}
+use Rattle.planner.proofs.Stepping.{Sane, Placing, Same, New, step-placed, ok-initial}
+use Rattle.planner.proofs.Running.{run-stops, run-goes, offsets-go, starts-go-same, starts-go-new}
 use Rattle.table_laws.proofs.Format.{SlotOf}
 
 -- from a state on, the sizes, their offsets, the starts of the blocks that open for them, and the state after them
@@ -22,16 +22,16 @@ pub data Laid (t : Table) (w : ℕ) : State → List ℕ → List ℕ → List �
   same : {s s₁ s' : State} {x o : ℕ} {xs os bs : List ℕ} → Placing t w s x s₁ o → Same s s₁ o → Laid t w s₁ xs os bs s' → Laid t w s (x ∷ xs) (o ∷ os) bs s'
   new : {s s₁ s' : State} {x o : ℕ} {xs os bs : List ℕ} → Placing t w s x s₁ o → New t w s s₁ o → Laid t w s₁ xs os bs s' → Laid t w s (x ∷ xs) (o ∷ os) (s₁.start ∷ bs) s'
 
-module _ (t : Table) (g : t.startBits ≤ t.directBits) (k : t.startBits ≤ t.heapBits) (w : ℕ) where
+module _ (t : Table) (g : t.start_bits ≤ t.direct_bits) (k : t.start_bits ≤ t.heap_bits) (w : ℕ) where
   -- a run that ends well is laid
-  pub laid : (xs : List ℕ) (s : State) (i : ℕ) (s' : State) → Sane t w s → run_from t w s xs i ≡ Ok s' → Laid t w s xs (offsetsFrom t w s xs) (startsFrom t w s xs) s'
-  unfolding run_from offsetsFrom startsFrom
+  pub laid : (xs : List ℕ) (s : State) (i : ℕ) (s' : State) → Sane t w s → run_from t w s xs i ≡ Ok s' → Laid t w s xs (offsets_from t w s xs) (starts_from t w s xs) s'
+  unfolding run_from offsets_from starts_from
   laid [] s i s' I e = subst (Laid t w s [] [] []) (let z : s ≡ s' = cc in z) end
   laid (x ∷ xs) s i s' I e = go (step_of t w s x) refl (λ s₁. laid xs s₁ (suc i) s')
     where
       go : (v : Option (State × ℕ)) → step_of t w s x ≡ v
-          → ((s₁ : State) → Sane t w s₁ → run_from t w s₁ xs (suc i) ≡ Ok s' → Laid t w s₁ xs (offsetsFrom t w s₁ xs) (startsFrom t w s₁ xs) s')
-          → Laid t w s (x ∷ xs) (offsetsFrom t w s (x ∷ xs)) (startsFrom t w s (x ∷ xs)) s'
+          → ((s₁ : State) → Sane t w s₁ → run_from t w s₁ xs (suc i) ≡ Ok s' → Laid t w s₁ xs (offsets_from t w s₁ xs) (starts_from t w s₁ xs) s')
+          → Laid t w s (x ∷ xs) (offsets_from t w s (x ∷ xs)) (starts_from t w s (x ∷ xs)) s'
       go (Some (s₁, o)) q ih =
           let P = step-placed t g k w s x I s₁ o q in
           let L = ih s₁ P.ok (sym (run-goes t w s x xs s₁ o q i) ∙ e) in
@@ -50,18 +50,18 @@ pub data Spaced : ℕ → List ℕ → List ℕ → ℕ → Type 0 where
   more : {lo hi o x : ℕ} {os xs : List ℕ} → lo ≤ o → Spaced (o + x) os xs hi → Spaced lo (o ∷ os) (x ∷ xs) hi
 
 -- how far the current block is filled
-abbrev pub filledTo : State → ℕ
-filledTo s = s.start + s.fill
+abbrev pub filled_to : State → ℕ
+filled_to s = s.start + s.fill
 
 module _ {t : Table} {w : ℕ} where
-  pub spaced : {s s' : State} {xs os bs : List ℕ} → Sane t w s → Laid t w s xs os bs s' → Spaced (filledTo s) os xs (filledTo s')
-  spaced {s} I end = none (le_refl (filledTo s))
+  pub spaced : {s s' : State} {xs os bs : List ℕ} → Sane t w s → Laid t w s xs os bs s' → Spaced (filled_to s) os xs (filled_to s')
+  spaced {s} I end = none (le_refl (filled_to s))
   spaced {s} {s'} I (same {o = o} {xs = xs} {os = os} P n L) =
-      let l : filledTo s ≤ o = omega (arith, n.place) in
-      more l (subst (λ (y : ℕ). Spaced y os xs (filledTo s')) (sym P.to) (spaced P.ok L))
+      let l : filled_to s ≤ o = omega (arith, n.place) in
+      more l (subst (λ (y : ℕ). Spaced y os xs (filled_to s')) (sym P.to) (spaced P.ok L))
   spaced {s} {s'} I (new {o = o} {xs = xs} {os = os} P n L) =
-      let l : filledTo s ≤ o = omega (arith, n.place, n.after, I.fits) in
-      more l (subst (λ (y : ℕ). Spaced y os xs (filledTo s')) (sym P.to) (spaced P.ok L))
+      let l : filled_to s ≤ o = omega (arith, n.place, n.after, I.fits) in
+      more l (subst (λ (y : ℕ). Spaced y os xs (filled_to s')) (sym P.to) (spaced P.ok L))
 
   -- the sizes add up
   pub used-sum : {s s' : State} {xs os bs : List ℕ} → Laid t w s xs os bs s' → s'.used ≡ s.used + sum xs
@@ -92,7 +92,7 @@ module _ {t : Table} {w : ℕ} where
 -- the current block is a slot, filled past its header
 pub record Block (t : Table) (w : ℕ) (s : State) : Type 0 where
   pub slot : SlotOf t s.start s.size
-  pub past : directHeader t w ≤ s.fill
+  pub past : direct_header t w ≤ s.fill
   pub full : s.fill ≤ s.size
 
 -- the x bytes at o lie in the body of one of the blocks bs
@@ -101,7 +101,7 @@ pub record Held (t : Table) (w : ℕ) (bs : List ℕ) (o x : ℕ) : Type 0 where
   pub placed : n < length bs
   pub size : ℕ
   pub slot : SlotOf t (get_or bs n 0) size
-  pub from : get_or bs n 0 + directHeader t w ≤ o
+  pub from : get_or bs n 0 + direct_header t w ≤ o
   pub to : o + x ≤ get_or bs n 0 + size
 
 module _ {t : Table} {w : ℕ} where
@@ -125,15 +125,15 @@ module _ {t : Table} {w : ℕ} where
   block_last B (new P n L) = block_last (block_new P n) L
 
   -- a block that opens begins where the one before it ends, or later
-  pub later-start : {s s' : State} {xs os bs : List ℕ} → Laid t w s xs os bs s' → ((bs ≡ []) × (s'.start ≡ s.start)) ⊎ (blockEnd s ≤ s'.start)
+  pub later-start : {s s' : State} {xs os bs : List ℕ} → Laid t w s xs os bs s' → ((bs ≡ []) × (s'.start ≡ s.start)) ⊎ (block_end s ≤ s'.start)
   later-start end = inl (refl, refl)
   later-start {s} {s'} (same {s₁ = s₁} {bs = bs} P n L) =
       let a = n.start_is in
       let b = n.size_is in
-      ⊎_elim (λ (e : (bs ≡ []) × (s'.start ≡ s₁.start)). inl (e.0, e.1 ∙ a)) (λ (u : blockEnd s₁ ≤ s'.start). inr (omega arith)) (later-start L)
+      ⊎_elim (λ (e : (bs ≡ []) × (s'.start ≡ s₁.start)). inl (e.0, e.1 ∙ a)) (λ (u : block_end s₁ ≤ s'.start). inr (omega arith)) (later-start L)
   later-start {s} {s'} (new {s₁ = s₁} {bs = bs} P n L) =
       let a = n.after in
-      inr (⊎_elim (λ (e : (bs ≡ []) × (s'.start ≡ s₁.start)). let c = e.1 in omega arith) (λ (u : blockEnd s₁ ≤ s'.start). omega arith) (later-start L))
+      inr (⊎_elim (λ (e : (bs ≡ []) × (s'.start ≡ s₁.start)). let c = e.1 in omega arith) (λ (u : block_end s₁ ≤ s'.start). omega arith) (later-start L))
 
   -- each object in a block
   held-from : {s s' : State} {xs os bs : List ℕ} → Block t w s → Laid t w s xs os bs s' → (i : ℕ) → i < length xs → Held t w (s.start ∷ bs) (get_or os i 0) (get_or xs i 0)
@@ -169,8 +169,8 @@ pub record Blocks (t : Table) (w : ℕ) (bs : List ℕ) (s' : State) : Type 0 wh
   pub last : get_or bs n 0 ≡ s'.start
   pub only : s'.start ≡ 0 → bs ≡ 0 ∷ []
 
-header-pos : (t : Table) (w : ℕ) → 0 < directHeader t w
-unfolding directHeader
+header-pos : (t : Table) (w : ℕ) → 0 < direct_header t w
+unfolding direct_header
 header-pos t w = omega arith
 
 -- before the first block nothing fits, so the first object opens one
@@ -207,15 +207,15 @@ module _ {t : Table} {w : ℕ} where
         only = λ z.
             ⊎_elim
             (λ (e : (bs ≡ []) × (s'.start ≡ s₁.start)). ap₂ (λ (y : ℕ) (ys : List ℕ). y ∷ ys) (sym e.1 ∙ z) e.0)
-            (λ (u : blockEnd s₁ ≤ s'.start). absurd (omega arith))
+            (λ (u : block_end s₁ ≤ s'.start). absurd (omega arith))
             (later-start L);
       }
 
 -- ---- the fixed table
 
 -- the blocks of the whole list, where it has an object
-pub starts-some : (w : ℕ) (xs : List ℕ) → 0 < length xs → planStarts fixed w xs ≡ startsFrom fixed w (initial fixed w) xs
-unfolding planStarts
+pub starts-some : (w : ℕ) (xs : List ℕ) → 0 < length xs → plan_starts fixed w xs ≡ starts_from fixed w (initial fixed w) xs
+unfolding plan_starts
 starts-some w [] l = absurd (omega arith)
 starts-some w (x ∷ xs) l = refl
 
@@ -223,6 +223,6 @@ pub ran-ok : (w : ℕ) → Sane fixed w (initial fixed w)
 ran-ok w = ok-initial fixed w (omega arith)
 
 -- a whole run that ends well
-pub ran-laid : (w : ℕ) (xs : List ℕ) (s : State) → run fixed w xs ≡ Ok s → Laid fixed w (initial fixed w) xs (planOffsets fixed w xs) (startsFrom fixed w (initial fixed w) xs) s
-unfolding run planOffsets
+pub ran-laid : (w : ℕ) (xs : List ℕ) (s : State) → run fixed w xs ≡ Ok s → Laid fixed w (initial fixed w) xs (plan_offsets fixed w xs) (starts_from fixed w (initial fixed w) xs) s
+unfolding run plan_offsets
 ran-laid w xs s e = laid fixed (omega arith) (omega arith) w xs (initial fixed w) 0 s (ran-ok w) e

@@ -3,12 +3,12 @@ use Prim.Native.Nat.{ℕ, ◌+◌, ◌<◌}
 use mathlib.Core.Path.{◌≡◌, sym, ap, ap₂, ◌∙◌}
 use Rattle.std.specs.Prelude.{Option, Some, None, IfNone}
 use Rattle.table.specs.Table.{fixed}
-use Rattle.table.specs.Slots.{enteredBytes}
-use Rattle.table.specs.Sizes.{directHeader}
+use Rattle.table.specs.Slots.{entered_bytes}
+use Rattle.table.specs.Sizes.{direct_header}
 use Rattle.table.specs.declared.Slot.{Slot}
-use Rattle.plan_steps.specs.Steps.{open_at, blockEnd, inNew, opened, step_of}
-use Rattle.plan_steps.specs.declared.State.{State}
-use Rattle.plan_steps.proofs.Stepping.{some-is, step-open}
+use Rattle.planner.specs.Steps.{open_at, block_end, in_new, opened, step_of}
+use Rattle.planner.specs.declared.State.{State}
+use Rattle.planner.proofs.Stepping.{some-is, step-open}
 
 module _ (w : ℕ) (s : State) (x : ℕ) where
   -- the state after an object that opened the slot b, from its header's size and the bytes of new indirect blocks
@@ -23,15 +23,15 @@ module _ (w : ℕ) (s : State) (x : ℕ) where
     indirect = s.indirect + e;
   }
 
-  module _ (full : s.size < s.fill + x) (h : ℕ) (hi : h ≡ directHeader fixed w) where
-    opens : step_of fixed w s x ≡ opened fixed w s x (open_at fixed (h + x) (blockEnd s))
-    opens = step-open fixed w s x full ∙ ap (λ (y : ℕ). opened fixed w s x (open_at fixed (y + x) (blockEnd s))) (sym hi)
+  module _ (full : s.size < s.fill + x) (h : ℕ) (hi : h ≡ direct_header fixed w) where
+    opens : step_of fixed w s x ≡ opened fixed w s x (open_at fixed (h + x) (block_end s))
+    opens = step-open fixed w s x full ∙ ap (λ (y : ℕ). opened fixed w s x (open_at fixed (y + x) (block_end s))) (sym hi)
 
-    pub opens-at : (e : ℕ) (b : Slot) → e ≡ enteredBytes fixed w (blockEnd s) b.start → Some b ≡ open_at fixed (h + x) (blockEnd s)
+    pub opens-at : (e : ℕ) (b : Slot) → e ≡ entered_bytes fixed w (block_end s) b.start → Some b ≡ open_at fixed (h + x) (block_end s)
         → step_of fixed w s x ≡ Some (after h e b, b.start + h)
     opens-at e b ei q = opens ∙ ap (opened fixed w s x) (sym q) ∙ ap₂ (λ (y z : ℕ). Some (after y z b, b.start + y)) (sym hi) (sym ei)
 
-    pub opens-none : None ≡ open_at fixed (h + x) (blockEnd s) → step_of fixed w s x ≡ None
+    pub opens-none : None ≡ open_at fixed (h + x) (block_end s) → step_of fixed w s x ≡ None
     opens-none q = opens ∙ ap (opened fixed w s x) (sym q)
 
 -- what holds anyway holds where there is no value
@@ -41,8 +41,8 @@ if_none (Some x) P p = tt
 
 -- an object that the current block has no room for opens one block
 pub opens-one : (w : ℕ) (s : State) (x : ℕ) (s' : State) (o : ℕ) → s.size < s.fill + x → step_of fixed w s x ≡ Some (s', o) → s'.count ≡ s.count + 1
-opens-one w s x s' o l e = go (open_at fixed (directHeader fixed w + x) (blockEnd s)) (sym (step-open fixed w s x l) ∙ e)
+opens-one w s x s' o l e = go (open_at fixed (direct_header fixed w + x) (block_end s)) (sym (step-open fixed w s x l) ∙ e)
   where
     go : (v : Option Slot) → opened fixed w s x v ≡ Some (s', o) → s'.count ≡ s.count + 1
-    go (Some b) q = sym (ap (λ (y : State). y.count) (some-is (inNew fixed w s x b) s' (b.start + directHeader fixed w) o q).0)
+    go (Some b) q = sym (ap (λ (y : State). y.count) (some-is (in_new fixed w s x b) s' (b.start + direct_header fixed w) o q).0)
     go None q = absurd cc

@@ -2,21 +2,37 @@
 //! crates and are no part of the interface.
 #![tactic(auto)]
 
+pub mod search;
+
 ghost use Rattle.std.specs.Prelude.{◌≡◌, ◌+◌, ◌<◌, ◌≤◌, length, drop, Some, None, Ok, Err, IfSome, IfNone, IfErr, OnOk};
 ghost use Rattle.table.specs.Table.{fixed};
-ghost use Rattle.table.specs.Sizes.{maxManaged};
-ghost use Rattle.plan_steps.specs.Steps.{initial, step_of, run_from, offsetsFrom, startsFrom};
-ghost use Rattle.plan_steps.specs.Filling.{fillState, fillOffsets};
-ghost use Rattle.plan_steps.specs.Requires.{Small, Bounded, IsReached};
+ghost use Rattle.table.specs.Sizes.{max_managed};
+ghost use Rattle.planner.specs.Steps.{initial, step_of, run_from, offsets_from, starts_from};
+ghost use Rattle.planner.specs.Filling.{fill_state, fill_offsets};
+ghost use Rattle.planner.specs.Requires.{Small, Bounded, IsReached};
 ghost use Rattle.planner.specs.Noting.{noted_from, HasRoom};
 
 mod noting;
 
+use crate::search::find_slot;
 pub use noting::{Counted, Noting, Written};
-use plan_search::find_slot;
-use plan_steps::State;
-use table_sizes::direct_block_header;
-use table_slots::entered_blocks;
+use table::block_sizes::direct_block_header;
+use table::slot_places::entered_blocks;
+
+/// Where planning stands, in bytes but for `count`: the current block's heap offset and size, and how far it is filled,
+/// its header counted; how many blocks are placed, and their sizes together; the objects' sizes together; the sizes of
+/// the indirect blocks below the root together.
+#[derive(Clone, Copy)]
+#[repr(C)]
+pub struct State {
+    pub start: u64,
+    pub size: u64,
+    pub fill: u64,
+    pub count: u64,
+    pub allocated: u64,
+    pub used: u64,
+    pub indirect: u64,
+}
 
 /// A plan that objects are added to, one by one or many at once, for addresses of `offset_size` bytes. It is always the
 /// plan of some list of sizes.
@@ -51,9 +67,9 @@ impl Planner {
     }
 
     /// Adds an object of `size` bytes: its heap offset, or `None` where the heap space ends, and then nothing changes.
-    #[tactic(auto, using(plan_steps::proofs::Stepping::size_fits))]
+    #[tactic(auto, using(crate::proofs::Stepping::size_fits))]
     pub fn place(&mut self, size: u64) -> Option<u64>
-        requires { size ≤ maxManaged fixed self.old.offset_size }
+        requires { size ≤ max_managed fixed self.old.offset_size }
         ensures width { self.new.offset_size ≡ self.old.offset_size }
         ensures placed { IfSome result (λ offset.
             step_of fixed self.old.offset_size self.old.state size
@@ -73,9 +89,9 @@ impl Planner {
     }
 
     /// Adds an object that the current block has no room for: it opens the next slot that is large enough.
-    #[tactic(auto, using(plan_steps::proofs::Stepping::size_fits))]
+    #[tactic(auto, using(crate::proofs::Stepping::size_fits))]
     pub fn open(&mut self, size: u64) -> Option<u64>
-        requires fits_some_block { size ≤ maxManaged fixed self.old.offset_size }
+        requires fits_some_block { size ≤ max_managed fixed self.old.offset_size }
         requires no_room_here { self.old.state.size < self.old.state.fill + size }
         ensures width { self.new.offset_size ≡ self.old.offset_size }
         ensures placed { IfSome result (λ offset.
@@ -107,10 +123,10 @@ impl Planner {
         requires small { Small 65536 sizes.now }
         requires room { HasRoom N.room (length offsets.old) (length sizes.now) }
         ensures width { self.new.offset_size ≡ self.old.offset_size }
-        ensures state { self.new.state ≡ fillState self.old.state (drop from sizes.now) }
-        ensures next { result ≡ from + length (fillOffsets self.old.state (drop from sizes.now)) }
+        ensures state { self.new.state ≡ fill_state self.old.state (drop from sizes.now) }
+        ensures next { result ≡ from + length (fill_offsets self.old.state (drop from sizes.now)) }
         ensures noted { offsets.new ≡ noted_from N.noted offsets.old from
-            (fillOffsets self.old.state (drop from sizes.now)) }
+            (fill_offsets self.old.state (drop from sizes.now)) }
     {
         let mut fill = self.state.fill;
         let mut next = from;
@@ -137,7 +153,7 @@ impl Planner {
         offsets: &mut [u64],
         blocks: &mut [u64],
     ) -> Result<(), u64>
-        requires small { Small (maxManaged fixed self.old.offset_size) sizes.now }
+        requires small { Small (max_managed fixed self.old.offset_size) sizes.now }
         requires offsets_room { HasRoom N.room (length offsets.old) (length sizes.now) }
         requires blocks_room { HasRoom N.room (length blocks.old)
             (self.old.state.count + length sizes.now) }
@@ -147,9 +163,9 @@ impl Planner {
         ensures ends { IfErr result (λ index.
             run_from fixed self.old.offset_size self.old.state sizes.now 0 ≡ Err index) }
         ensures offsets_noted { offsets.new ≡ noted_from N.noted offsets.old 0
-            (offsetsFrom fixed self.old.offset_size self.old.state sizes.now) }
+            (offsets_from fixed self.old.offset_size self.old.state sizes.now) }
         ensures blocks_noted { blocks.new ≡ noted_from N.noted blocks.old self.old.state.count
-            (startsFrom fixed self.old.offset_size self.old.state sizes.now) }
+            (starts_from fixed self.old.offset_size self.old.state sizes.now) }
     {
         let mut next = self.fill::<N>(sizes, 0, offsets);
         while next < sizes.len() {

@@ -1,23 +1,23 @@
 //! A direct block.
 ghost use Rattle.std.specs.Prelude.{◌≡◌, ◌+◌, ◌++◌, ◌≤◌, length, replicate};
-ghost use Rattle.fields.specs.Signatures.{directSignature};
+ghost use Rattle.fields.specs.Signatures.{direct_signature};
 ghost use Rattle.table.specs.Table.{fixed};
-ghost use Rattle.table.specs.Sizes.{directHeader};
-ghost use Rattle.region_blocks.specs.Blocks.{blockHead, directBody, directBlock};
+ghost use Rattle.table.specs.Sizes.{direct_header};
+ghost use Rattle.region_blocks.specs.Blocks.{block_head, direct_body, direct_block};
 
 use crate::{Site, put_head};
 use checksum::jenkins_lookup3;
-use stores::Writer;
-use table_sizes::direct_block_header;
+use fields::stores::Writer;
+use table::block_sizes::direct_block_header;
 
 // All but the checksum, whose field is zero.
-#[tactic(auto, unfolding(fields::specs::Signatures::directSignature), using(table::proofs::Sizes::header_is))]
+#[tactic(auto, unfolding(fields::specs::Signatures::direct_signature), using(table::proofs::Sizes::header_is))]
 fn write_unsummed(block: &mut [u8], offset: u64, objects: &[u8], site: Site)
     requires narrow { site.offset_size ≤ 8 }
-    requires room { directHeader fixed site.offset_size + length objects.now ≤ length block.old }
+    requires room { direct_header fixed site.offset_size + length objects.now ≤ length block.old }
     ensures { block.new
-        ≡ blockHead fixed site.offset_size directSignature site.heap_header_address offset
-        ++ (replicate 4 0 ++ directBody fixed site.offset_size (length block.old) objects.now) }
+        ≡ block_head fixed site.offset_size direct_signature site.heap_header_address offset
+        ++ (replicate 4 0 ++ direct_body fixed site.offset_size (length block.old) objects.now) }
 {
     let header = direct_block_header(site.offset_size) as usize;
     let padding = block.len() - header - objects.len();
@@ -33,9 +33,9 @@ fn write_unsummed(block: &mut [u8], offset: u64, objects: &[u8], site: Site)
 #[tactic(auto, using(table::proofs::Sizes::header_is))]
 pub fn write_direct_block(block: &mut [u8], offset: u64, objects: &[u8], site: Site)
     requires narrow { site.offset_size ≤ 8 }
-    requires room { directHeader fixed site.offset_size + length objects.now ≤ length block.old }
+    requires room { direct_header fixed site.offset_size + length objects.now ≤ length block.old }
     ensures { block.new
-        ≡ directBlock fixed site.offset_size site.heap_header_address offset
+        ≡ direct_block fixed site.offset_size site.heap_header_address offset
         (length block.old) objects.now }
 {
     write_unsummed(block, offset, objects, site);

@@ -1,7 +1,7 @@
 //! An indirect block around its entries.
 ghost use Rattle.std.specs.Prelude.{◌≡◌, ◌+◌, ◌≤◌, length};
 ghost use Rattle.table.specs.Table.{fixed};
-ghost use Rattle.region_blocks.specs.Blocks.{indirectBlock};
+ghost use Rattle.region_blocks.specs.Blocks.{indirect_block};
 ghost use Rattle.region_blocks.specs.Entries.{entries_in};
 
 use crate::{Site, write_head};
@@ -9,11 +9,11 @@ use checksum::jenkins_lookup3;
 
 /// Writes the head of an indirect block at the heap offset `offset`, whose entries stand in their place in `block`, and
 /// behind them the checksum of head and entries.
-#[tactic(auto, unfolding(crate::specs::Blocks::indirectBlock, fields::specs::Signatures::indirectSignature), using(stores::proofs::Writing::le_four))]
+#[tactic(auto, unfolding(crate::specs::Blocks::indirect_block, fields::specs::Signatures::indirect_signature), using(fields::proofs::Writing::le_four))]
 pub fn seal_indirect(block: &mut [u8], offset: u64, site: Site)
     requires narrow { site.offset_size ≤ 8 }
     requires room { 14 + site.offset_size ≤ length block.old }
-    ensures { block.new ≡ indirectBlock fixed site.offset_size site.heap_header_address offset
+    ensures { block.new ≡ indirect_block fixed site.offset_size site.heap_header_address offset
         (entries_in site.offset_size block.old) }
 {
     let (summed, seal) = block.split_at_mut(block.len() - 4);

@@ -5,12 +5,12 @@ pub mod direct;
 pub mod indirect;
 
 ghost use Rattle.std.specs.Prelude.{◌≡◌, ◌+◌, ◌++◌, ◌≤◌, ◌∷◌, [], length, drop};
-ghost use Rattle.little_endian.specs.LittleEndian.{le};
+ghost use Rattle.fields.specs.LittleEndian.{le};
 ghost use Rattle.table.specs.Table.{fixed};
-ghost use Rattle.stores.specs.Writing.{written, behind};
-ghost use Rattle.region_blocks.specs.Blocks.{blockHead};
+ghost use Rattle.fields.specs.Writing.{written, behind};
+ghost use Rattle.region_blocks.specs.Blocks.{block_head};
 
-use stores::Writer;
+use fields::stores::Writer;
 
 /// What all blocks of a region share: the width of addresses in bytes, and where the heap's header and the region
 /// stand in the file.
@@ -22,7 +22,7 @@ pub struct Site {
 }
 
 // How both kinds begin: signature, version 0, the heap header's address, the block's heap offset.
-#[tactic(auto, unfolding(crate::specs::Blocks::blockHead, table::specs::Sizes::offsetBytes))]
+#[tactic(auto, unfolding(crate::specs::Blocks::block_head, table::specs::Sizes::offset_bytes))]
 fn put_head(writer: &mut Writer<'_>, signature: &[u8; 4], offset: u64, site: Site)
     requires narrow { site.offset_size ≤ 8 }
     requires room { writer.old.at + 10 + site.offset_size ≤ length writer.old.bytes.now }
@@ -30,7 +30,7 @@ fn put_head(writer: &mut Writer<'_>, signature: &[u8; 4], offset: u64, site: Sit
     ensures at { writer.new.at ≡ writer.old.at + 10 + site.offset_size }
     ensures len { length writer.new.bytes.now ≡ length writer.old.bytes.now }
     ensures written { written writer.new
-        ≡ written writer.old ++ blockHead fixed site.offset_size signature.now
+        ≡ written writer.old ++ block_head fixed site.offset_size signature.now
         site.heap_header_address offset }
     ensures behind { behind writer.new ≡ drop (10 + site.offset_size) (behind writer.old) }
 {
@@ -46,7 +46,7 @@ fn write_head(block: &mut [u8], signature: &[u8; 4], offset: u64, site: Site)
     requires narrow { site.offset_size ≤ 8 }
     requires room { 10 + site.offset_size ≤ length block.old }
     ensures { block.new
-        ≡ blockHead fixed site.offset_size signature.now site.heap_header_address offset
+        ≡ block_head fixed site.offset_size signature.now site.heap_header_address offset
         ++ drop (10 + site.offset_size) block.old }
 {
     put_head(&mut Writer::new(block), signature, offset, site);

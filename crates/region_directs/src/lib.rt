@@ -4,10 +4,10 @@
 
 ghost use Rattle.std.specs.Prelude.{◌≡◌, ◌+◌, ◌≤◌, length};
 ghost use Rattle.table.specs.Table.{fixed};
-ghost use Rattle.table.specs.Sizes.{maxManaged, directHeader};
-ghost use Rattle.region_blocks.specs.Blocks.{directBlock};
+ghost use Rattle.table.specs.Sizes.{max_managed, direct_header};
+ghost use Rattle.region_blocks.specs.Blocks.{direct_block};
 ghost use Rattle.numbers.specs.Sums.{sum};
-ghost use Rattle.plan_steps.specs.Requires.{Small, Runs};
+ghost use Rattle.planner.specs.Requires.{Small, Runs};
 ghost use Rattle.region_blocks.specs.Storing.{stored};
 ghost use Rattle.region_directs.specs.Directs.{directs_of, opened_of};
 
@@ -19,9 +19,9 @@ use region_blocks::direct::write_direct_block;
 fn write_at(region: &mut [u8], at: usize, offset: u64, size: usize, objects: &[u8], site: Site)
     requires narrow { site.offset_size ≤ 8 }
     requires size_in_bounds { at + size ≤ length region.old }
-    requires objects_bound { directHeader fixed site.offset_size + length objects.now ≤ size }
+    requires objects_bound { direct_header fixed site.offset_size + length objects.now ≤ size }
     ensures { region.new ≡ stored region.old at
-        (directBlock fixed site.offset_size site.heap_header_address offset size objects.now) }
+        (direct_block fixed site.offset_size site.heap_header_address offset size objects.now) }
 {
     write_direct_block(&mut region[at..at + size], offset, objects, site);
 }
@@ -30,7 +30,7 @@ fn write_at(region: &mut [u8], at: usize, offset: u64, size: usize, objects: &[u
 // go there too. What the state has allocated and used says where a block and its objects stand.
 fn write_placed(sizes: &[u64], objects: &[u8], region: &mut [u8], place: usize, site: Site)
     requires narrow { site.offset_size ≤ 8 }
-    requires small { Small (maxManaged fixed site.offset_size) sizes.now }
+    requires small { Small (max_managed fixed site.offset_size) sizes.now }
     requires runs { Runs site.offset_size sizes.now }
     requires objects_len { length objects.now ≡ sum sizes.now }
     requires sizes_in_bounds { place + length
@@ -61,7 +61,7 @@ fn write_placed(sizes: &[u64], objects: &[u8], region: &mut [u8], place: usize, 
 /// Writes the direct blocks of a plan of these sizes from `place` on; without objects there is one, at the heap offset 0.
 pub fn write_directs(sizes: &[u64], objects: &[u8], region: &mut [u8], place: usize, site: Site)
     requires narrow { site.offset_size ≤ 8 }
-    requires small { Small (maxManaged fixed site.offset_size) sizes.now }
+    requires small { Small (max_managed fixed site.offset_size) sizes.now }
     requires runs { Runs site.offset_size sizes.now }
     requires objects_len { length objects.now ≡ sum sizes.now }
     requires sizes_in_bounds { place + length

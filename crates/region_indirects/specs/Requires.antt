@@ -1,17 +1,17 @@
 -- What the walks ask of their arguments, so that they stay in the region and within 64 bits, and what they give.
 use Rattle.std.specs.Prelude.{ℕ, ◌+◌, ◌-◌, ◌^◌, ◌≤◌, ◌<◌, ◌≡◌, if◌then◌else◌, List, [], ◌++◌, length, drop, replicate, nat_lt, Option, Some, None}
-use Rattle.little_endian.specs.LittleEndian.{le}
+use Rattle.fields.specs.LittleEndian.{le}
 use Rattle.table.specs.Table.{fixed}
 use Rattle.region_blocks.specs.Storing.{stored}
 use Rattle.region_blocks.specs.declared.Site.{Site}
 use Rattle.region_indirects.specs.declared.cursor.Cursor.{Cursor}
 use Rattle.region_indirects.specs.declared.Walk.{Walk}
 use Rattle.region_indirects.specs.declared.Output.{Output}
-use Rattle.region_indirects.specs.Walk.{Walked, slotRows, slot, slots, smaller, block}
+use Rattle.region_indirects.specs.Walk.{Walked, rows_of_slots, slot, slots, smaller, block}
 
 -- the rows of the slots of a block of n rows that are left, `left` of them in row `row`
-unfoldable pub rowsLeft : ℕ → ℕ → ℕ → List ℕ
-rowsLeft n row left = if nat_lt row n then replicate left row ++ slotRows fixed (n - (row + 1)) (row + 1) else []
+unfoldable pub rows_left : ℕ → ℕ → ℕ → List ℕ
+rows_left n row left = if nat_lt row n then replicate left row ++ rows_of_slots fixed (n - (row + 1)) (row + 1) else []
 
 -- the walks' outcomes, where the region's own bytes begin at the region's address
 abbrev pub block_of : Site → List ℕ → ℕ → ℕ → Cursor → Walked
@@ -21,7 +21,7 @@ block_of site starts n at c =
 abbrev pub slots_of : Site → List ℕ → ℕ → ℕ → ℕ → ℕ → Cursor → Walked
 slots_of site starts n row left at c =
     slots fixed site.offset_size site.heap_header_address (smaller fixed site.offset_size site.heap_header_address n)
-    (rowsLeft n row left) at (drop c.index starts) (site.region_address + c.place) c.next
+    (rows_left n row left) at (drop c.index starts) (site.region_address + c.place) c.next
 
 abbrev pub slot_of : Site → List ℕ → ℕ → ℕ → Cursor → Walked
 slot_of site starts row at c =

@@ -1,6 +1,6 @@
 //! Where a walk over the slots of indirect blocks stands, and the slot that comes next.
 ghost use Rattle.std.specs.Prelude.{◌≡◌, ◌+◌, ◌-◌, ◌<◌, ◌==◌, if◌then◌else◌, drop};
-ghost use Rattle.region_indirects.specs.Walk.{beginsBefore};
+ghost use Rattle.region_indirects.specs.Walk.{begins_before};
 
 /// The next placed direct block and its address, and the next free place in the region.
 #[derive(Clone, Copy)]
@@ -13,7 +13,7 @@ pub struct Cursor {
 /// Whether the next placed block begins before the heap offset `end`.
 #[tactic(auto, using(crate::proofs::Walking::begins_some, crate::proofs::Walking::begins_none))]
 pub fn begins_before(starts: &[u64], index: usize, end: u64) -> bool
-    ensures { result ≡ beginsBefore (drop index starts.now) end }
+    ensures { result ≡ begins_before (drop index starts.now) end }
 {
     starts.get(index).is_some_and(|start| *start < end)
 }

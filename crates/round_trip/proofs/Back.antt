@@ -11,25 +11,25 @@ use lib.Dec.{ltb}
 use borrow.Author.Tests.{lt-ltb, le-ltb, le-leb, eq-eqb}
 use Rattle.table.specs.Table.{fixed}
 use Rattle.numbers.specs.Sums.{sum, bit}
-use Rattle.plan_steps.specs.Steps.{planOffsets}
-use Rattle.little_endian.specs.LittleEndian.{put}
-use Rattle.little_endian.proofs.LittleEndian.{put_front, put-here}
+use Rattle.planner.specs.Steps.{plan_offsets}
+use Rattle.fields.specs.LittleEndian.{put}
+use Rattle.fields.proofs.LittleEndian.{put_front, put-here}
 use Rattle.plan.specs.declared.ManagedPlan.{ManagedPlan}
 use Rattle.plan_laws.proofs.Tally.{tallied}
-use Rattle.region_laws.proofs.Indirect.{rooted, region-planned, bare-planned}
+use Rattle.region_write.proofs.Indirect.{rooted, region-planned, bare-planned}
 use Rattle.region_write.specs.Region.{region}
-use Rattle.region_laws.proofs.Region.{region-length}
-use Rattle.write_checks.proofs.Answering.{below-undefined}
+use Rattle.region_write.proofs.Region.{region-length}
+use Rattle.fractal_heap_write.proofs.Answering.{below-undefined}
 use Rattle.fractal_heap.specs.declared.header.FractalHeapHeader.{FractalHeapHeader}
-use Rattle.read_laws.proofs.Reading.{read-in-file}
-use Rattle.id_write.specs.Ids.{managedId}
-use Rattle.round_trip_object.specs.Back.{holds_at, comes_back}
-use Rattle.round_trip_objects.specs.Backs.{backOne, backs}
-use Rattle.round_trip_read.specs.Objects.{object_at}
-use Rattle.id_write.specs.Checks.{idLength}
-use Rattle.table.specs.Sizes.{offsetBytes}
+use Rattle.fractal_heap.proofs.ReadLaws.{read-in-file}
+use Rattle.ids.specs.Written.{managed_id}
+use Rattle.round_trip.specs.Back.{holds_at, comes_back}
+use Rattle.round_trip.specs.Backs.{back_one, backs}
+use Rattle.round_trip.specs.Objects.{object_at}
+use Rattle.ids.specs.Checks.{id_length}
+use Rattle.table.specs.Sizes.{offset_bytes}
 use Rattle.std.proofs.lemmas.Slice.Eq.{bytes_eq-Decides}
-use Rattle.round_trip_objects.proofs.Backs.{one-empty, one-nonempty}
+use Rattle.round_trip.proofs.Backs.{one-empty, one-nonempty}
 use Rattle.heap_kept.specs.HeapKept.{Call, Written, HoldsRegion, HeaderOf, ComesBack, part_of}
 use Rattle.heap_kept.proofs.FromRoot.{planned, tests, width-legal}
 use Rattle.heap_kept.proofs.Theorem.{heap-kept}
@@ -39,11 +39,11 @@ use Rattle.round_trip.specs.RoundTrip.{nonempty}
 
 module _ (h : FractalHeapHeader) (F : List ℕ) (w o x : ℕ) (bs : List ℕ) (C : ComesBack F h w o x bs) where
   came : comes_back h F w o x bs ≡ true
-  unfolding comes_back holds_at object_at idLength offsetBytes
+  unfolding comes_back holds_at object_at id_length offset_bytes
   came =
-      rw (C.id-accepted 8 (omega arith), C.read, eq-eqb x x refl, le-leb (C.position + x) (length F) (read-in-file h F (managedId fixed o x) w C.position x C.read), C.same, (bytes_eq-Decides bs bs).1 refl)
+      rw (C.id-accepted 8 (omega arith), C.read, eq-eqb x x refl, le-leb (C.position + x) (length F) (read-in-file h F (managed_id fixed o x) w C.position x C.read), C.same, (bytes_eq-Decides bs bs).1 refl)
 
-  one-back : 0 < x → backOne h F w o x bs ≡ 1
+  one-back : 0 < x → back_one h F w o x bs ≡ 1
   one-back s = one-nonempty h F w o x bs true (λ e. omega arith) came
 
 -- ---- all of them
@@ -54,10 +54,10 @@ module _ (h : FractalHeapHeader) (F : List ℕ) (w : ℕ) where
   unfolding part_of sum
   part-next y ys ks n = ap (take (get_or ys n 0)) (sym (drop-drop (sum (take n ys)) y ks))
 
-  first_back : (o y : ℕ) (ks : List ℕ) → (0 < y → ComesBack F h w o y (take y ks)) → backOne h F w o y (take y ks) ≡ bit (ltb 0 y)
+  first_back : (o y : ℕ) (ks : List ℕ) → (0 < y → ComesBack F h w o y (take y ks)) → back_one h F w o y (take y ks) ≡ bit (ltb 0 y)
   first_back o y ks C = go (ℕ_discrete y 0)
     where
-      go : Dec (y ≡ 0) → backOne h F w o y (take y ks) ≡ bit (ltb 0 y)
+      go : Dec (y ≡ 0) → back_one h F w o y (take y ks) ≡ bit (ltb 0 y)
       go (yes e) = one-empty h F w o y (take y ks) e ∙ sym (ap bit (le-ltb 0 y (omega arith)))
       go (no e) = one-back h F w o y (take y ks) (C (omega arith)) (omega arith) ∙ sym (ap bit (lt-ltb 0 y (omega arith)))
 
@@ -74,9 +74,9 @@ module _ (h : FractalHeapHeader) (F : List ℕ) (w : ℕ) where
 module _ (c : Call) (p : ManagedPlan) (W : Written c p) where
   -- by the offsets that it leaves all nonempty objects come back
   pub written_back : (F : List ℕ) → HoldsRegion F c p → (h : FractalHeapHeader) → HeaderOf h c p → (old : List ℕ)
-      → backs h F c.site.offset_size c.sizes (put old 0 (planOffsets fixed c.site.offset_size c.sizes)) c.objects ≡ nonempty c.sizes
+      → backs h F c.site.offset_size c.sizes (put old 0 (plan_offsets fixed c.site.offset_size c.sizes)) c.objects ≡ nonempty c.sizes
   written_back F H h T old =
-      let os : List ℕ = planOffsets fixed c.site.offset_size c.sizes in
+      let os : List ℕ = plan_offsets fixed c.site.offset_size c.sizes in
       let n : length os ≡ length c.sizes = (tallied c.sizes c.offset_places c.block_places c.site.offset_size p (planned c p W)).offsets in
       let m = length-append os (drop (length os) old) in
       ap (λ (v : List ℕ). backs h F c.site.offset_size c.sizes v c.objects) (put_front old os)

@@ -3,24 +3,29 @@
 //! object's.
 #![tactic(auto)]
 
+pub mod by_id;
+pub mod object;
+pub mod objects;
+pub mod region;
+
 ghost use Rattle.std.specs.Prelude.{◌≡◌, ◌<◌, ◌≤◌, ◌++◌, length, drop, slice_index, Ok, OnOk, OnErr};
-ghost use Rattle.little_endian.specs.LittleEndian.{put};
+ghost use Rattle.fields.specs.LittleEndian.{put};
 ghost use Rattle.table.specs.Table.{fixed};
 ghost use Rattle.plan.specs.declared.ManagedPlan.{ManagedPlan};
-ghost use Rattle.plan_steps.specs.Steps.{planOffsets, planStarts};
+ghost use Rattle.planner.specs.Steps.{plan_offsets, plan_starts};
 ghost use Rattle.region_write.specs.Region.{region};
-ghost use Rattle.write_checks.specs.Answer.{serializedFor};
-ghost use Rattle.round_trip_region.specs.InFile.{lent_in};
+ghost use Rattle.fractal_heap_write.specs.Answer.{serialized_for};
+ghost use Rattle.round_trip.specs.InFile.{lent_in};
 ghost use Rattle.heap_kept.specs.HeapKept.{part_of};
 ghost use Rattle.round_trip.specs.RoundTrip.{nonempty, came_back};
 
-use id_write::write_managed_id;
-use object_bytes::fetch;
+use crate::by_id::fixed_header;
+use crate::objects::read_back;
+use crate::region::serialize_at;
+use heap_kept::object_bytes::fetch;
+use ids::write::write_managed_id;
 use refusals::FormatError;
 use region_blocks::Site;
-use round_trip_objects::read_back;
-use round_trip_read::fixed_header;
-use round_trip_region::serialize_at;
 
 /// Writes the region of the objects into `file` from the region's address on, and then reads all nonempty objects back:
 /// how many came back, which are all of them. Refused as `serialize` refuses; then all that is lent stays as it is.
@@ -33,17 +38,17 @@ pub fn round_trip(
     file: &mut [u8],
 ) -> Result<u64, FormatError>
     ensures answer { result ≡ came_back
-        (serializedFor sizes.now (lent_in site offsets.old blocks.old objects.now file.old) site)
+        (serialized_for sizes.now (lent_in site offsets.old blocks.old objects.now file.old) site)
         (nonempty sizes.now) }
     ensures written { (plan : ManagedPlan)
-        → serializedFor sizes.now (lent_in site offsets.old blocks.old objects.now file.old) site
+        → serialized_for sizes.now (lent_in site offsets.old blocks.old objects.now file.old) site
         ≡ Ok plan
         → file.new ≡ put file.old site.region_address
         (region site plan.root_rows sizes.now objects.now) }
     ensures offsets_listed { OnOk result (offsets.new
-        ≡ put offsets.old 0 (planOffsets fixed site.offset_size sizes.now)) }
+        ≡ put offsets.old 0 (plan_offsets fixed site.offset_size sizes.now)) }
     ensures blocks_listed { OnOk result (blocks.new
-        ≡ put blocks.old 0 (planStarts fixed site.offset_size sizes.now)) }
+        ≡ put blocks.old 0 (plan_starts fixed site.offset_size sizes.now)) }
     ensures untouched { OnErr result ((offsets.new ≡ offsets.old) × (blocks.new ≡ blocks.old)
         × (file.new ≡ file.old)) }
 {
@@ -69,19 +74,19 @@ pub fn write_and_fetch(
     requires not_empty { 0 < slice_index sizes.now i }
     requires room { slice_index sizes.now i ≤ length found.old }
     ensures answer { result ≡ came_back
-        (serializedFor sizes.now (lent_in site offsets.old blocks.old objects.now file.old) site)
+        (serialized_for sizes.now (lent_in site offsets.old blocks.old objects.now file.old) site)
         (slice_index sizes.now i) }
     ensures comes_back { OnOk result (found.new
         ≡ part_of sizes.now objects.now i ++ drop (slice_index sizes.now i) found.old) }
     ensures written { (plan : ManagedPlan)
-        → serializedFor sizes.now (lent_in site offsets.old blocks.old objects.now file.old) site
+        → serialized_for sizes.now (lent_in site offsets.old blocks.old objects.now file.old) site
         ≡ Ok plan
         → file.new ≡ put file.old site.region_address
         (region site plan.root_rows sizes.now objects.now) }
     ensures offsets_listed { OnOk result (offsets.new
-        ≡ put offsets.old 0 (planOffsets fixed site.offset_size sizes.now)) }
+        ≡ put offsets.old 0 (plan_offsets fixed site.offset_size sizes.now)) }
     ensures blocks_listed { OnOk result (blocks.new
-        ≡ put blocks.old 0 (planStarts fixed site.offset_size sizes.now)) }
+        ≡ put blocks.old 0 (plan_starts fixed site.offset_size sizes.now)) }
     ensures untouched { OnErr result ((offsets.new ≡ offsets.old) × (blocks.new ≡ blocks.old)
         × (file.new ≡ file.old) × (found.new ≡ found.old)) }
 {

@@ -6,7 +6,7 @@
 ghost use Rattle.std.specs.Prelude.{◌<◌, ◌≤◌};
 
 use plan::ManagedPlan;
-use plan_numbers::put_planned;
+use plan::report::put_planned;
 use run_report::{Answered, Heading, List, Lists, following};
 use std::io;
 

@@ -12,11 +12,11 @@ ghost use Rattle.std.specs.Prelude.{◌≡◌, ◌+◌, ◌^◌, ◌<◌, ◌≤
 ghost use Rattle.run_reads.specs.Case.{Whole};
 
 use fields::convert::to_usize;
+use fields::little_endian::{read_u16_le, read_u32_le, read_u64_le};
 use fractal_heap::header::FractalHeapHeader;
-use id_decode::ManagedId;
-use id_tiny::read_tiny_object;
-use little_endian::{read_u16_le, read_u32_le, read_u64_le};
-use read_walk::place::Place;
+use ids::decode::ManagedId;
+use ids::tiny::read_tiny_object;
+use reading::walk::place::Place;
 use refusals::{Answer, FormatError, Reported};
 use std::io::{self, Read};
 

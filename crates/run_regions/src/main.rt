@@ -9,7 +9,7 @@ ghost use Rattle.std.specs.Prelude.{◌≤◌};
 use checksum::jenkins_lookup3;
 use fractal_heap_write::serialize;
 use plan::ManagedPlan;
-use plan_numbers::put_planned;
+use plan::report::put_planned;
 use refusals::FormatError;
 use region_blocks::Site;
 use run_report::{Answered, Heading, Hex, List, Lists, fill, following, joined};

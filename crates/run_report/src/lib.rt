@@ -3,7 +3,7 @@
 #![tactic(auto)]
 
 ghost use Rattle.std.specs.Prelude.{◌≡◌, ◌%◌, ◌^◌, length, sum};
-ghost use Rattle.run_report.specs.Sequence.{next, bytesAfter};
+ghost use Rattle.run_report.specs.Sequence.{next, bytes_after};
 
 use std::fmt;
 
@@ -142,7 +142,7 @@ pub fn following(x: u32) -> u32
 
 /// Pseudo-random bytes: bits 16 to 23 of each number of the sequence, from 1 on.
 pub fn fill(bytes: &mut [u8])
-    ensures { bytes.new ≡ bytesAfter 1 (length bytes.old) }
+    ensures { bytes.new ≡ bytes_after 1 (length bytes.old) }
 {
     let mut x: u32 = 1;
     for byte in bytes.iter_mut() {

@@ -7,12 +7,12 @@
 
 use checksum::jenkins_lookup3;
 use fractal_heap::header::FractalHeapHeader;
-use id_write::write_managed_id;
+use ids::write::write_managed_id;
 use plan::ManagedPlan;
 use refusals::{Answer, Reported};
 use region_blocks::Site;
+use round_trip::by_id::{fixed_header, read_object};
 use round_trip::{round_trip, write_and_fetch};
-use round_trip_read::{fixed_header, read_object};
 use run_report::{Answered, Heading, fill, following, joined};
 use std::io;
 

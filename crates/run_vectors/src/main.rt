@@ -5,11 +5,11 @@
 
 use checksum::jenkins_lookup3;
 use fields::convert::is_undefined_addr;
+use fields::stores::{write_offset, write_undef_offset};
 use fields::{read_length, read_offset};
 use refusals::{Answer, Reported};
 use run_report::{Hex, fill};
 use std::io;
-use stores::{write_offset, write_undef_offset};
 
 const WIDTHS: [u8; 10] = [0, 1, 2, 3, 4, 5, 8, 9, 128, 255];
 

@@ -7,9 +7,9 @@ use native.Mathlib.Nat.{zero-add, le_trans, mul-add-div_right, mod-lt, mul-le-mu
 use lib.Dec.{leb}
 use lib.Pow.{pow_pos, pow_mono, pow-lt, split}
 use borrow.Author.Tests.{le-leb, lt-leb, leb-true, leb-false}
-use Rattle.table.specs.Table.{Table, fixed, rowBits, rowOffset, row_of, place_of}
-use Rattle.table.specs.Slots.{slotBits, slot_at, slotStart, tableSlot, enteredBytesIn, enteredBytes}
-use Rattle.table.specs.Sizes.{indirectSize, offsetBytes}
+use Rattle.table.specs.Table.{Table, fixed, row_bits, row_offset, row_of, place_of}
+use Rattle.table.specs.Slots.{slot_bits, slot_at, slot_start, table_slot, entered_bytes_in, entered_bytes}
+use Rattle.table.specs.Sizes.{indirect_size, offset_bytes}
 use Rattle.table.specs.declared.RowCol.{RowCol}
 use Rattle.table.specs.declared.Slot.{Slot}
 use Rattle.table.specs.declared.TableSlot.{TableSlot}
@@ -18,10 +18,10 @@ use Rattle.table.proofs.Rows.{Top, heap-rows, top-row, row-le, row-29, row-of-is
 use Rattle.table.proofs.Slots.{Slotted, top, sub, top_unique, slotted-unique, slotted-hi, slot-bits-is}
 
 module _ (t : Table) where
-  inv-direct : {x c : ℕ} (q b r : ℕ) → Slotted t x c → Top t q b → b ≤ t.directBits → r < 2 ^ b → x ≡ q * 2 ^ b + r → c ≡ b
+  inv-direct : {x c : ℕ} (q b r : ℕ) → Slotted t x c → Top t q b → b ≤ t.direct_bits → r < 2 ^ b → x ≡ q * 2 ^ b + r → c ≡ b
   inv-direct {x} q b r s T l h e = slotted-unique t s x b refl (top q b r T l h e)
 
-  inv-sub : {x c : ℕ} (q b r : ℕ) → Slotted t x c → Top t q b → t.directBits < b → r < 2 ^ b → x ≡ q * 2 ^ b + r → Slotted t r c
+  inv-sub : {x c : ℕ} (q b r : ℕ) → Slotted t x c → Top t q b → t.direct_bits < b → r < 2 ^ b → x ≡ q * 2 ^ b + r → Slotted t r c
   inv-sub q b r (top q' b' r' T' l' h' e') T l h e =
       let z : b ≡ b' = top_unique t q b r q' b' r' T T' h h' (sym e ∙ e') in absurd (omega arith)
   inv-sub {x} {c} q b r (sub q' b' r' T' l' h' e' s) T l h e =
@@ -35,21 +35,21 @@ module _ (t : Table) where
 -- what a look-up in the block at hand computes: the row, the size of its slots, where the slot begins
 pub record Level (x row size within : ℕ) : Type 0 where
   pub row_is : row ≡ row_of fixed x
-  pub size_is : size ≡ 2 ^ rowBits fixed (row_of fixed x)
-  pub within-is : within ≡ slotStart fixed x
+  pub size_is : size ≡ 2 ^ row_bits fixed (row_of fixed x)
+  pub within-is : within ≡ slot_start fixed x
   pub below : within ≤ x
   pub last : row < 29
 
-start-le : (x : ℕ) → slotStart fixed x ≤ x
-unfolding slotStart
-start-le x = let sp = split x (rowBits fixed (row_of fixed x)) in omega arith
+start-le : (x : ℕ) → slot_start fixed x ≤ x
+unfolding slot_start
+start-le x = let sp = split x (row_bits fixed (row_of fixed x)) in omega arith
 
-pub level : (x : ℕ) (v : TableSlot) → x < 2 ^ 40 → v ≡ tableSlot fixed x → Level x v.row v.size v.start
-unfolding tableSlot
+pub level : (x : ℕ) (v : TableSlot) → x < 2 ^ 40 → v ≡ table_slot fixed x → Level x v.row v.size v.start
+unfolding table_slot
 level x v h e =
     let l = row-29 x h in
     let r : v.row ≡ row_of fixed x = ap (λ (y : TableSlot). y.row) e in
-    let w : v.start ≡ slotStart fixed x = ap (λ (y : TableSlot). y.start) e in
+    let w : v.start ≡ slot_start fixed x = ap (λ (y : TableSlot). y.start) e in
     record {
       row_is = r;
       size_is = ap (λ (y : TableSlot). y.size) e;
@@ -59,18 +59,18 @@ level x v h e =
     }
 
 -- the row's start and the column's give the slot
-pub placed-slot : (x : ℕ) (at : RowCol) (size off : ℕ) → at ≡ place_of fixed x → size ≡ 2 ^ rowBits fixed at.row → off ≡ rowOffset fixed at.row
-    → ◌≡◌ {A = TableSlot} (record { row = at.row; start = off + at.col * size; size = size }) (tableSlot fixed x)
-unfolding place_of tableSlot
+pub placed-slot : (x : ℕ) (at : RowCol) (size off : ℕ) → at ≡ place_of fixed x → size ≡ 2 ^ row_bits fixed at.row → off ≡ row_offset fixed at.row
+    → ◌≡◌ {A = TableSlot} (record { row = at.row; start = off + at.col * size; size = size }) (table_slot fixed x)
+unfolding place_of table_slot
 placed-slot x at size off e s f =
     let r : at.row ≡ row_of fixed x = ap (λ (y : RowCol). y.row) e in
-    let k : at.col ≡ (x - rowOffset fixed (row_of fixed x)) / 2 ^ rowBits fixed (row_of fixed x) = ap (λ (y : RowCol). y.col) e in
-    let z : size ≡ 2 ^ rowBits fixed (row_of fixed x) = s ∙ ap (λ (y : ℕ). 2 ^ rowBits fixed y) r in
-    let w : off + at.col * size ≡ slotStart fixed x = ap₂ (λ (a b : ℕ). a + b) (f ∙ ap (rowOffset fixed) r) (ap₂ (λ (a b : ℕ). a * b) k z) ∙ slot-start-is fixed x in
+    let k : at.col ≡ (x - row_offset fixed (row_of fixed x)) / 2 ^ row_bits fixed (row_of fixed x) = ap (λ (y : RowCol). y.col) e in
+    let z : size ≡ 2 ^ row_bits fixed (row_of fixed x) = s ∙ ap (λ (y : ℕ). 2 ^ row_bits fixed y) r in
+    let w : off + at.col * size ≡ slot_start fixed x = ap₂ (λ (a b : ℕ). a + b) (f ∙ ap (row_offset fixed) r) (ap₂ (λ (a b : ℕ). a * b) k z) ∙ slot-start-is fixed x in
     λ i. record { row = r i; start = w i; size = z i }
 
-pub placed_below : (x : ℕ) (at : RowCol) (size off : ℕ) → at ≡ place_of fixed x → size ≡ 2 ^ rowBits fixed at.row → off ≡ rowOffset fixed at.row → off + at.col * size ≤ x
-unfolding tableSlot
+pub placed_below : (x : ℕ) (at : RowCol) (size off : ℕ) → at ≡ place_of fixed x → size ≡ 2 ^ row_bits fixed at.row → off ≡ row_offset fixed at.row → off + at.col * size ≤ x
+unfolding table_slot
 placed_below x at size off e s f = subst (λ (y : ℕ). y ≤ x) (sym (ap (λ (y : TableSlot). y.start) (placed-slot x at size off e s f))) (start-le x)
 
 pub placed_row : (x : ℕ) (at : RowCol) → x < 2 ^ 40 → at ≡ place_of fixed x → at.row < 30
@@ -78,25 +78,25 @@ unfolding place_of
 placed_row x at h e = let l = row-29 x h in let r : at.row ≡ row_of fixed x = ap (λ (y : RowCol). y.row) e in omega arith
 
 module _ (x row size within : ℕ) (v : Level x row size within) where
-  bits-direct : leb (rowBits fixed row) 16 ≡ true → rowBits fixed (row_of fixed x) ≤ 16
-  bits-direct l = leb-true _ _ (subst (λ (r : ℕ). leb (rowBits fixed r) 16 ≡ true) v.row_is l)
+  bits-direct : leb (row_bits fixed row) 16 ≡ true → row_bits fixed (row_of fixed x) ≤ 16
+  bits-direct l = leb-true _ _ (subst (λ (r : ℕ). leb (row_bits fixed r) 16 ≡ true) v.row_is l)
 
-  bits-deep : leb (rowBits fixed row) 16 ≡ false → 16 < rowBits fixed (row_of fixed x)
-  bits-deep l = leb-false _ _ (subst (λ (r : ℕ). leb (rowBits fixed r) 16 ≡ false) v.row_is l)
+  bits-deep : leb (row_bits fixed row) 16 ≡ false → 16 < row_bits fixed (row_of fixed x)
+  bits-deep l = leb-false _ _ (subst (λ (r : ℕ). leb (row_bits fixed r) 16 ≡ false) v.row_is l)
 
   pub slot-size-le : size ≤ 2 ^ 40
   slot-size-le =
       let r = v.row_is in let l = v.last in let e = v.size_is in
-      let m : 2 ^ rowBits fixed (row_of fixed x) ≤ 2 ^ 40 = pow_mono {j = 40} (unfold rowBits in let w : 10 + (row_of fixed x - 1) ≤ 40 = omega arith in w) in
+      let m : 2 ^ row_bits fixed (row_of fixed x) ≤ 2 ^ 40 = pow_mono {j = 40} (unfold row_bits in let w : 10 + (row_of fixed x - 1) ≤ 40 = omega arith in w) in
       omega arith
 
   -- below an indirect slot the rest of the offset is smaller than the slot, and so than what holds f bits
-  pub rest_small : leb (rowBits fixed row) 16 ≡ false → x < 2 ^ 40 → (x - within ≡ x % 2 ^ rowBits fixed (row_of fixed x)) × (0 < within) × ((f : ℕ) → x < 2 ^ suc f → x - within < 2 ^ f)
+  pub rest_small : leb (row_bits fixed row) 16 ≡ false → x < 2 ^ 40 → (x - within ≡ x % 2 ^ row_bits fixed (row_of fixed x)) × (0 < within) × ((f : ℕ) → x < 2 ^ suc f → x - within < 2 ^ f)
   rest_small l h =
-      let b = rowBits fixed (row_of fixed x) in
+      let b = row_bits fixed (row_of fixed x) in
       let d = bits-deep l in
       let T = top-row fixed x (heap-rows fixed x h) in
-      let wi : within ≡ x / 2 ^ b * 2 ^ b = unfold slotStart in v.within-is in
+      let wi : within ≡ x / 2 ^ b * 2 ^ b = unfold slot_start in v.within-is in
       let sp = split x b in
       let q1 : 1 ≤ x / 2 ^ b = le_trans (pow_pos 2) (T.hi (omega arith)) in
       let q2 : 1 * 2 ^ b ≤ x / 2 ^ b * 2 ^ b = mul-le-mul_right (2 ^ b) q1 in
@@ -116,19 +116,19 @@ module _ (x row size within : ℕ) (v : Level x row size within) where
 pub record Loc (offset base x : ℕ) : Type 0 where
   pub heap : offset < 2 ^ 40
   pub sum : base + x ≡ offset
-  pub slotted : Slotted fixed x (slotBits fixed offset)
+  pub slotted : Slotted fixed x (slot_bits fixed offset)
   pub nth : ℕ
-  pub mult : base ≡ nth * 2 ^ slotBits fixed offset
+  pub mult : base ≡ nth * 2 ^ slot_bits fixed offset
 
 pub loc_start : (offset : ℕ) → offset < 2 ^ 40 → Loc offset 0 offset
 loc_start o h = record { heap = h; sum = omega arith; slotted = slot-bits-is fixed o (omega arith) h; nth = 0; mult = omega arith }
 
 module _ {o base x row size within : ℕ} (L : Loc o base x) (h : x < 2 ^ 40) (v : Level x row size within) where
-  pub loc_direct : leb (rowBits fixed row) 16 ≡ true → ◌≡◌ {A = Slot} (record { start = base + within; size = size }) (slot_at fixed o)
-  unfolding slot_at slotStart
+  pub loc_direct : leb (row_bits fixed row) 16 ≡ true → ◌≡◌ {A = Slot} (record { start = base + within; size = size }) (slot_at fixed o)
+  unfolding slot_at slot_start
   loc_direct l =
-      let b = rowBits fixed (row_of fixed x) in
-      let c = slotBits fixed o in
+      let b = row_bits fixed (row_of fixed x) in
+      let c = slot_bits fixed o in
       let e : c ≡ b = inv-direct fixed (x / 2 ^ b) b (x % 2 ^ b) L.slotted (top-row fixed x (heap-rows fixed x h)) (bits-direct x row size within v l) (mod-lt x (pow_pos b)) (sym (split x b)) in
       let bs : base ≡ L.nth * 2 ^ c = L.mult in
       let oe : o ≡ L.nth * 2 ^ c + x = sym L.sum ∙ ap (λ (k : ℕ). k + x) bs in
@@ -139,10 +139,10 @@ module _ {o base x row size within : ℕ} (L : Loc o base x) (h : x < 2 ^ 40) (v
       let e2 : base + within ≡ o / 2 ^ c * 2 ^ c = omega arith in
       λ i. record { start = e2 i; size = e1 i }
 
-  pub loc_deeper : leb (rowBits fixed row) 16 ≡ false → Loc o (base + within) (x - within)
+  pub loc_deeper : leb (row_bits fixed row) 16 ≡ false → Loc o (base + within) (x - within)
   loc_deeper l =
-      let b = rowBits fixed (row_of fixed x) in
-      let c = slotBits fixed o in
+      let b = row_bits fixed (row_of fixed x) in
+      let c = slot_bits fixed o in
       let sm = rest_small x row size within v l h in
       let T = top-row fixed x (heap-rows fixed x h) in
       let m : x % 2 ^ b < 2 ^ b = mod-lt x (pow_pos b) in
@@ -150,49 +150,49 @@ module _ {o base x row size within : ℕ} (L : Loc o base x) (h : x < 2 ^ 40) (v
       let cb : c ≤ b = slotted-hi fixed s b T.lo m in
       let su = L.sum in
       let wb = v.below in
-      let wi : within ≡ x / 2 ^ b * 2 ^ b = unfold slotStart in v.within-is in
+      let wi : within ≡ x / 2 ^ b * 2 ^ b = unfold slot_start in v.within-is in
       let bs : base ≡ L.nth * 2 ^ c = L.mult in
       let j = join (x / 2 ^ b) b c L.nth cb in
       record { heap = L.heap; sum = omega arith; slotted = subst (λ (k : ℕ). Slotted fixed k c) (sym sm.0) s; nth = x / 2 ^ b * 2 ^ (b - c) + L.nth; mult = omega arith }
 
 -- ---- the indirect blocks on the way
 
-below : (m n : ℕ) → m < n → rowOffset fixed m < rowOffset fixed n
-unfolding rowOffset
+below : (m n : ℕ) → m < n → row_offset fixed m < row_offset fixed n
+unfolding row_offset
 below m zero l = absurd (omega arith)
 below zero (suc n) l = pow_pos (12 + n)
 below (suc m) (suc n) l = pow-lt (omega arith)
 
 -- an indirect slot's size gives its rows
-rows-of-slot : (r : ℕ) → 16 < rowBits fixed r → r < 29 → row_of fixed (2 ^ rowBits fixed r) ≡ r - 2
+rows-of-slot : (r : ℕ) → 16 < row_bits fixed r → r < 29 → row_of fixed (2 ^ row_bits fixed r) ≡ r - 2
 rows-of-slot r l u =
     ap (row_of fixed) (slot-rows fixed r (omega arith) (omega arith) l)
-    ∙ row-of-is fixed (rowOffset fixed (r - 2)) (r - 2) (below (r - 2) 41 (omega arith)) (omega arith) (below (r - 2) (suc (r - 2)) (omega arith))
+    ∙ row-of-is fixed (row_offset fixed (r - 2)) (r - 2) (below (r - 2) 41 (omega arith)) (omega arith) (below (r - 2) (suc (r - 2)) (omega arith))
 
-pub indirect-small : (w n : ℕ) → w ≤ 255 → n ≤ 40 → indirectSize fixed w n ≤ 2 ^ 18
-unfolding indirectSize offsetBytes
+pub indirect-small : (w n : ℕ) → w ≤ 255 → n ≤ 40 → indirect_size fixed w n ≤ 2 ^ 18
+unfolding indirect_size offset_bytes
 indirect-small w n l u =
     let a : n * 4 * w ≤ n * 4 * 255 = mul-le-mul_left (n * 4) l in
     omega arith
 
-entered-in-small : (w f e a x : ℕ) → w ≤ 255 → enteredBytesIn fixed w f e a x ≤ f * 2 ^ 18
-unfolding enteredBytesIn
+entered-in-small : (w f e a x : ℕ) → w ≤ 255 → entered_bytes_in fixed w f e a x ≤ f * 2 ^ 18
+unfolding entered_bytes_in
 entered-in-small w zero e a x l = zero-le
 entered-in-small w (suc f) e a x l =
-    go (leb (rowBits fixed (row_of fixed x)) 16) (leb e (a + slotStart fixed x)) (entered-in-small w f e (a + slotStart fixed x) (x - slotStart fixed x) l)
+    go (leb (row_bits fixed (row_of fixed x)) 16) (leb e (a + slot_start fixed x)) (entered-in-small w f e (a + slot_start fixed x) (x - slot_start fixed x) l)
   where
-    go : (u v : Bool) → enteredBytesIn fixed w f e (a + slotStart fixed x) (x - slotStart fixed x) ≤ f * 2 ^ 18
+    go : (u v : Bool) → entered_bytes_in fixed w f e (a + slot_start fixed x) (x - slot_start fixed x) ≤ f * 2 ^ 18
         → elim u [
           | true ↦ 0
-          | false ↦ cond v (indirectSize fixed w (row_of fixed x - 2)) 0 + enteredBytesIn fixed w f e (a + slotStart fixed x) (x - slotStart fixed x)
+          | false ↦ cond v (indirect_size fixed w (row_of fixed x - 2)) 0 + entered_bytes_in fixed w f e (a + slot_start fixed x) (x - slot_start fixed x)
         ]
         ≤ suc f * 2 ^ 18
     go true v i = zero-le
     go false true i = let r = row-le fixed x in let s = indirect-small w (row_of fixed x - 2) l (omega arith) in omega arith
     go false false i = omega arith
 
-pub entered-small : (w e s : ℕ) → w ≤ 255 → enteredBytes fixed w e s ≤ 2 ^ 24
-unfolding enteredBytes
+pub entered-small : (w e s : ℕ) → w ≤ 255 → entered_bytes fixed w e s ≤ 2 ^ 24
+unfolding entered_bytes
 entered-small w e s l = let z = entered-in-small w 40 e 0 s l in omega arith
 
 -- what is counted so far, and what the block at base has still to add
@@ -201,41 +201,41 @@ pub record Entering (w e s total base x : ℕ) : Type 0 where
   pub enough : x < 2 ^ fuel
   pub heap : s < 2 ^ 40
   pub sum : base + x ≡ s
-  pub rest : enteredBytes fixed w e s ≡ total + enteredBytesIn fixed w fuel e base x
+  pub rest : entered_bytes fixed w e s ≡ total + entered_bytes_in fixed w fuel e base x
 
 pub entering-start : (w e s : ℕ) → s < 2 ^ 40 → Entering w e s 0 0 s
-unfolding enteredBytes
-entering-start w e s h = record { fuel = 40; enough = h; heap = h; sum = omega arith; rest = sym (zero-add (enteredBytesIn fixed w 40 e 0 s)) }
+unfolding entered_bytes
+entering-start w e s h = record { fuel = 40; enough = h; heap = h; sum = omega arith; rest = sym (zero-add (entered_bytes_in fixed w 40 e 0 s)) }
 
 module _ (w e s total base x row size within : ℕ) (I : Entering w e s total base x) (h : x < 2 ^ 40) (v : Level x row size within) where
-  none-entered : leb (rowBits fixed row) 16 ≡ true → (f : ℕ) → enteredBytesIn fixed w f e base x ≡ 0
-  unfolding enteredBytesIn
+  none-entered : leb (row_bits fixed row) 16 ≡ true → (f : ℕ) → entered_bytes_in fixed w f e base x ≡ 0
+  unfolding entered_bytes_in
   none-entered l zero = refl
-  none-entered l (suc f) = rw (le-leb (rowBits fixed (row_of fixed x)) 16 (bits-direct x row size within v l), enteredBytesIn)
+  none-entered l (suc f) = rw (le-leb (row_bits fixed (row_of fixed x)) 16 (bits-direct x row size within v l), entered_bytes_in)
 
-  pub entering-done : leb (rowBits fixed row) 16 ≡ true → total ≡ enteredBytes fixed w e s
+  pub entering-done : leb (row_bits fixed row) 16 ≡ true → total ≡ entered_bytes fixed w e s
   entering-done l =
       let z = none-entered l I.fuel in
       let r = I.rest in
       omega arith
 
-  module _ (l : leb (rowBits fixed row) 16 ≡ false) (here : ℕ) (p : here ≡ cond (leb e (base + within)) (indirectSize fixed w (row_of fixed size)) 0) where
+  module _ (l : leb (row_bits fixed row) 16 ≡ false) (here : ℕ) (p : here ≡ cond (leb e (base + within)) (indirect_size fixed w (row_of fixed size)) 0) where
     rows_is : row_of fixed size ≡ row_of fixed x - 2
     rows_is = ap (row_of fixed) v.size_is ∙ (let r = v.row_is in let k = v.last in rows-of-slot (row_of fixed x) (bits-deep x row size within v l) (omega arith))
 
-    here-is : here ≡ cond (leb e (base + slotStart fixed x)) (indirectSize fixed w (row_of fixed x - 2)) 0
-    here-is = p ∙ ap₂ (λ (a n : ℕ). cond (leb e (base + a)) (indirectSize fixed w n) 0) v.within-is rows_is
+    here-is : here ≡ cond (leb e (base + slot_start fixed x)) (indirect_size fixed w (row_of fixed x - 2)) 0
+    here-is = p ∙ ap₂ (λ (a n : ℕ). cond (leb e (base + a)) (indirect_size fixed w n) 0) v.within-is rows_is
 
-    one-entered : (f : ℕ) → enteredBytesIn fixed w (suc f) e base x ≡ here + enteredBytesIn fixed w f e (base + within) (x - within)
-    unfolding enteredBytesIn
+    one-entered : (f : ℕ) → entered_bytes_in fixed w (suc f) e base x ≡ here + entered_bytes_in fixed w f e (base + within) (x - within)
+    unfolding entered_bytes_in
     one-entered f =
-        rw (lt-leb (rowBits fixed (row_of fixed x)) 16 (bits-deep x row size within v l), enteredBytesIn)
-        (ap₂ (λ (a b : ℕ). a + b) (sym here-is) (ap (λ (a : ℕ). enteredBytesIn fixed w f e (base + a) (x - a)) (sym v.within-is)))
+        rw (lt-leb (row_bits fixed (row_of fixed x)) 16 (bits-deep x row size within v l), entered_bytes_in)
+        (ap₂ (λ (a b : ℕ). a + b) (sym here-is) (ap (λ (a : ℕ). entered_bytes_in fixed w f e (base + a) (x - a)) (sym v.within-is)))
 
     pub entering-more : Entering w e s (total + here) (base + within) (x - within)
     entering-more = go I.fuel I.enough I.rest
       where
-        go : (f : ℕ) → x < 2 ^ f → enteredBytes fixed w e s ≡ total + enteredBytesIn fixed w f e base x → Entering w e s (total + here) (base + within) (x - within)
+        go : (f : ℕ) → x < 2 ^ f → entered_bytes fixed w e s ≡ total + entered_bytes_in fixed w f e base x → Entering w e s (total + here) (base + within) (x - within)
         go zero b r = absurd (let z = (rest_small x row size within v l h).1 in let k = v.below in omega arith)
         go (suc f) b r =
             let sm = rest_small x row size within v l h in

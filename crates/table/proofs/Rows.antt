@@ -7,19 +7,19 @@ use lib.Dec.{leb, ltb}
 use Rattle.std.proofs.lemmas.Bool.Decides.{nat_tests}
 use lib.Count.{count_leading_zeros, leading_top}
 use lib.Pow.{pow_pos, pow_mono, pow-lt, pow-add, shr_lt}
-use Rattle.table.specs.Table.{Table, fixed, rowBits, rowOffset, row_in, row_of, place_of}
+use Rattle.table.specs.Table.{Table, fixed, row_bits, row_offset, row_in, row_of, place_of}
 use Rattle.table.specs.declared.RowCol.{RowCol}
-use Rattle.table.specs.Slots.{slotStart}
+use Rattle.table.specs.Slots.{slot_start}
 use Rattle.table.proofs.Powers.{pow_lt_cancel, le_of_not_lt}
 
 module _ (t : Table) where
-  row-in-le : (n x : ℕ) → rowOffset t (row_in t n x) ≤ x
-  unfolding rowOffset row_in
+  row-in-le : (n x : ℕ) → row_offset t (row_in t n x) ≤ x
+  unfolding row_offset row_in
   row-in-le zero x = zero-le
   row-in-le (suc n) x = grind (arith, nat_tests, row-in-le n x)
 
-  row-in-lt : (n x : ℕ) → x < rowOffset t (suc n) → x < rowOffset t (suc (row_in t n x))
-  unfolding rowOffset row_in
+  row-in-lt : (n x : ℕ) → x < row_offset t (suc n) → x < row_offset t (suc (row_in t n x))
+  unfolding row_offset row_in
   row-in-lt zero x h = h
   row-in-lt (suc n) x h = grind (arith, nat_tests, row-in-lt n x)
 
@@ -28,74 +28,74 @@ module _ (t : Table) where
   row-in-most zero x = zero-le
   row-in-most (suc n) x = grind (arith, nat_tests, row-in-most n x)
 
-  pub row-mono : (r s : ℕ) → r ≤ s → rowOffset t r ≤ rowOffset t s
-  unfolding rowOffset
+  pub row-mono : (r s : ℕ) → r ≤ s → row_offset t r ≤ row_offset t s
+  unfolding row_offset
   row-mono zero s l = zero-le
   row-mono (suc r) zero l = absurd (omega arith)
   row-mono (suc r) (suc s) l = pow_mono (omega arith)
 
-  pub row_one : (x r s : ℕ) → rowOffset t r ≤ x → x < rowOffset t (suc s) → r ≤ s
+  pub row_one : (x r s : ℕ) → row_offset t r ≤ x → x < row_offset t (suc s) → r ≤ s
   row_one x r s h l = le_of_not_lt (λ g. let m = row-mono (suc s) r g in omega arith)
 
-  pub row_below : (r n x : ℕ) → rowOffset t r ≤ x → x < rowOffset t n → r < n
-  row_below r zero x l u = absurd (unfold rowOffset in let z : x < 0 = u in omega arith)
+  pub row_below : (r n x : ℕ) → row_offset t r ≤ x → x < row_offset t n → r < n
+  row_below r zero x l u = absurd (unfold row_offset in let z : x < 0 = u in omega arith)
   row_below r (suc n) x l u = let z = row_one x r n l u in omega arith
 
   -- the rows that `row_of` looks at reach past the heap's end
-  pub heap-rows : (x : ℕ) → x < 2 ^ t.heapBits → x < rowOffset t (suc t.heapBits)
-  unfolding rowOffset
+  pub heap-rows : (x : ℕ) → x < 2 ^ t.heap_bits → x < row_offset t (suc t.heap_bits)
+  unfolding row_offset
   heap-rows x h = lt_of_lt_of_le h (pow_mono (omega arith))
 
-  pub row-le : (x : ℕ) → row_of t x ≤ t.heapBits
+  pub row-le : (x : ℕ) → row_of t x ≤ t.heap_bits
   unfolding row_of
-  row-le x = row-in-most t.heapBits x
+  row-le x = row-in-most t.heap_bits x
 
-  pub row-lo : (x : ℕ) → rowOffset t (row_of t x) ≤ x
+  pub row-lo : (x : ℕ) → row_offset t (row_of t x) ≤ x
   unfolding row_of
-  row-lo x = row-in-le t.heapBits x
+  row-lo x = row-in-le t.heap_bits x
 
-  pub row_up : (x : ℕ) → x < rowOffset t (suc t.heapBits) → x < rowOffset t (suc (row_of t x))
+  pub row_up : (x : ℕ) → x < row_offset t (suc t.heap_bits) → x < row_offset t (suc (row_of t x))
   unfolding row_of
-  row_up x h = row-in-lt t.heapBits x h
+  row_up x h = row-in-lt t.heap_bits x h
 
-  pub row-of-is : (x r : ℕ) → x < rowOffset t (suc t.heapBits) → rowOffset t r ≤ x → x < rowOffset t (suc r) → row_of t x ≡ r
+  pub row-of-is : (x r : ℕ) → x < row_offset t (suc t.heap_bits) → row_offset t r ≤ x → x < row_offset t (suc r) → row_of t x ≡ r
   row-of-is x r h l u =
       let a = row_one x (row_of t x) r (row-lo x) u in
       let b = row_one x r (row_of t x) l (row_up x h) in
       omega arith
 
-  pub row_lt : (x n : ℕ) → x < rowOffset t n → row_of t x < n
+  pub row_lt : (x n : ℕ) → x < row_offset t n → row_of t x < n
   row_lt x n u = row_below (row_of t x) n x (row-lo x) u
 
 -- q counts blocks of 2 ^ b bytes up to one of the table's own, which is in row 0, or at or past row 1 where
--- the blocks of a row begin at the 2 ^ widthBits-th
+-- the blocks of a row begin at the 2 ^ width_bits-th
 pub record Top (t : Table) (q b : ℕ) : Type 0 where
-  pub lo : t.startBits ≤ b
+  pub lo : t.start_bits ≤ b
   pub up : q < 2 ^ suc t.width_bits
-  pub hi : t.startBits < b → 2 ^ t.width_bits ≤ q
+  pub hi : t.start_bits < b → 2 ^ t.width_bits ≤ q
 
 -- row n begins at the m-th of its blocks, and has 2 ^ width_bits of them
 pub record Row (t : Table) (n : ℕ) : Type 0 where
   pub m : ℕ
-  pub begins : rowOffset t n ≡ m * 2 ^ rowBits t n
-  pub tops : (j : ℕ) → j < 2 ^ t.width_bits → Top t (m + j) (rowBits t n)
-  pub ends : rowOffset t (suc n) ≡ rowOffset t n + 2 ^ t.width_bits * 2 ^ rowBits t n
+  pub begins : row_offset t n ≡ m * 2 ^ row_bits t n
+  pub tops : (j : ℕ) → j < 2 ^ t.width_bits → Top t (m + j) (row_bits t n)
+  pub ends : row_offset t (suc n) ≡ row_offset t n + 2 ^ t.width_bits * 2 ^ row_bits t n
 
 module _ (t : Table) where
   pub row : (n : ℕ) → Row t n
-  unfolding rowOffset rowBits
+  unfolding row_offset row_bits
   row zero =
-      let e : t.startBits + t.width_bits + 0 ≡ t.width_bits + (t.startBits + (0 - 1)) = omega arith in
+      let e : t.start_bits + t.width_bits + 0 ≡ t.width_bits + (t.start_bits + (0 - 1)) = omega arith in
       record {
         m = 0;
         begins = omega arith;
         tops = λ j l. record { lo = omega arith; up = (let z : 2 ^ t.width_bits < 2 ^ suc t.width_bits = pow-lt (omega arith) in omega arith); hi = λ z. absurd (omega arith) };
-        ends = ap (λ (k : ℕ). 2 ^ k) e ∙ pow-add 2 t.width_bits (t.startBits + (0 - 1)) ∙ sym (native.Mathlib.Nat.zero-add (2 ^ t.width_bits * 2 ^ (t.startBits + (0 - 1))));
+        ends = ap (λ (k : ℕ). 2 ^ k) e ∙ pow-add 2 t.width_bits (t.start_bits + (0 - 1)) ∙ sym (native.Mathlib.Nat.zero-add (2 ^ t.width_bits * 2 ^ (t.start_bits + (0 - 1))));
       }
   row (suc n) =
-      let e : t.startBits + t.width_bits + n ≡ t.width_bits + (t.startBits + (suc n - 1)) = omega arith in
-      let e1 : 2 ^ (t.startBits + t.width_bits + n) ≡ 2 ^ t.width_bits * 2 ^ (t.startBits + (suc n - 1)) = ap (λ (k : ℕ). 2 ^ k) e ∙ pow-add 2 t.width_bits (t.startBits + (suc n - 1)) in
-      let e2 : 2 ^ (t.startBits + t.width_bits + suc n) ≡ 2 ^ suc (t.startBits + t.width_bits + n) = ap (λ (k : ℕ). 2 ^ k) (omega arith) in
+      let e : t.start_bits + t.width_bits + n ≡ t.width_bits + (t.start_bits + (suc n - 1)) = omega arith in
+      let e1 : 2 ^ (t.start_bits + t.width_bits + n) ≡ 2 ^ t.width_bits * 2 ^ (t.start_bits + (suc n - 1)) = ap (λ (k : ℕ). 2 ^ k) e ∙ pow-add 2 t.width_bits (t.start_bits + (suc n - 1)) in
+      let e2 : 2 ^ (t.start_bits + t.width_bits + suc n) ≡ 2 ^ suc (t.start_bits + t.width_bits + n) = ap (λ (k : ℕ). 2 ^ k) (omega arith) in
       record {
         m = 2 ^ t.width_bits;
         begins = e1;
@@ -104,53 +104,53 @@ module _ (t : Table) where
       }
 
   -- an offset's row gives its block
-  top-of-row : (r x : ℕ) → rowOffset t r ≤ x → x < rowOffset t (suc r) → Top t (x / 2 ^ rowBits t r) (rowBits t r)
-  unfolding rowOffset rowBits row
+  top-of-row : (r x : ℕ) → row_offset t r ≤ x → x < row_offset t (suc r) → Top t (x / 2 ^ row_bits t r) (row_bits t r)
+  unfolding row_offset row_bits row
   top-of-row zero x l h = record {
     lo = omega arith;
-    up = shr_lt (suc t.width_bits) (t.startBits + (0 - 1)) (lt_of_lt_of_le h (pow_mono (omega arith)));
-    hi = λ g. absurd (let z : t.startBits < t.startBits = omega arith in omega arith);
+    up = shr_lt (suc t.width_bits) (t.start_bits + (0 - 1)) (lt_of_lt_of_le h (pow_mono (omega arith)));
+    hi = λ g. absurd (let z : t.start_bits < t.start_bits = omega arith in omega arith);
   }
   top-of-row (suc r) x l h = record {
     lo = omega arith;
-    up = shr_lt (suc t.width_bits) (t.startBits + (suc r - 1)) (lt_of_lt_of_le h (pow_mono (omega arith)));
-    hi = λ g. (le-div_iff_mul-le (pow_pos (t.startBits + (suc r - 1)))).1 (subst (λ (y : ℕ). y ≤ x) (row (suc r)).begins l);
+    up = shr_lt (suc t.width_bits) (t.start_bits + (suc r - 1)) (lt_of_lt_of_le h (pow_mono (omega arith)));
+    hi = λ g. (le-div_iff_mul-le (pow_pos (t.start_bits + (suc r - 1)))).1 (subst (λ (y : ℕ). y ≤ x) (row (suc r)).begins l);
   }
 
-  pub top-row : (x : ℕ) → x < rowOffset t (suc t.heapBits) → Top t (x / 2 ^ rowBits t (row_of t x)) (rowBits t (row_of t x))
+  pub top-row : (x : ℕ) → x < row_offset t (suc t.heap_bits) → Top t (x / 2 ^ row_bits t (row_of t x)) (row_bits t (row_of t x))
   top-row x h = top-of-row (row_of t x) x (row-lo t x) (row_up t x h)
 
   -- the row's start and the column's are the slot's
-  pub slot-start-is : (x : ℕ) → rowOffset t (row_of t x) + (x - rowOffset t (row_of t x)) / 2 ^ rowBits t (row_of t x) * 2 ^ rowBits t (row_of t x) ≡ slotStart t x
-  unfolding slotStart
+  pub slot-start-is : (x : ℕ) → row_offset t (row_of t x) + (x - row_offset t (row_of t x)) / 2 ^ row_bits t (row_of t x) * 2 ^ row_bits t (row_of t x) ≡ slot_start t x
+  unfolding slot_start
   slot-start-is x =
       let r = row_of t x in
       let l = row-lo t x in
-      let b = rowBits t r in
+      let b = row_bits t r in
       let m = (row r).m in
-      let e : rowOffset t r ≡ m * 2 ^ b = (row r).begins in
-      let y = x - rowOffset t r in
+      let e : row_offset t r ≡ m * 2 ^ b = (row r).begins in
+      let y = x - row_offset t r in
       let xe : x ≡ m * 2 ^ b + y = omega arith in
       let d : x / 2 ^ b ≡ m + y / 2 ^ b = ap (λ (k : ℕ). k / 2 ^ b) xe ∙ mul-add-div_right (pow_pos b) m y in
       let dd : x / 2 ^ b * 2 ^ b ≡ (m + y / 2 ^ b) * 2 ^ b = ap (λ (k : ℕ). k * 2 ^ b) d in
       omega arith
 
   -- an indirect slot of row r has r - width_bits rows
-  pub slot-rows : (r : ℕ) → t.startBits ≤ t.directBits → t.width_bits + t.startBits ≤ suc t.directBits → t.directBits < rowBits t r → 2 ^ rowBits t r ≡ rowOffset t (r - t.width_bits)
-  unfolding rowBits rowOffset
+  pub slot-rows : (r : ℕ) → t.start_bits ≤ t.direct_bits → t.width_bits + t.start_bits ≤ suc t.direct_bits → t.direct_bits < row_bits t r → 2 ^ row_bits t r ≡ row_offset t (r - t.width_bits)
+  unfolding row_bits row_offset
   slot-rows r g w l =
       let k = r - t.width_bits - 1 in
       let e : r - t.width_bits ≡ suc k = omega arith in
-      ap (λ (z : ℕ). 2 ^ z) (let v : t.startBits + (r - 1) ≡ t.startBits + t.width_bits + k = omega arith in v) ∙ ap (rowOffset t) (sym e)
+      ap (λ (z : ℕ). 2 ^ z) (let v : t.start_bits + (r - 1) ≡ t.start_bits + t.width_bits + k = omega arith in v) ∙ ap (row_offset t) (sym e)
 
 -- ---- the fixed table
 
 pub row_low : (x : ℕ) → x < 4096 → row_of fixed x ≡ 0
-unfolding rowOffset
+unfolding row_offset
 row_low x h = row-of-is fixed x 0 (omega arith) zero-le h
 
 row-high : (j x : ℕ) → 12 ≤ j → x ≤ 2 ^ 40 → 2 ^ j ≤ x → x < 2 ^ suc j → row_of fixed x ≡ j - 11
-unfolding rowOffset
+unfolding row_offset
 row-high j x g h l u =
     let e : 12 + (j - 12) ≡ j = omega arith in
     let z = row-of-is fixed x (suc (j - 12)) (omega arith)
@@ -171,18 +171,18 @@ row-clz x l h =
     (omega arith, omega arith)
 
 pub row-29 : (x : ℕ) → x < 2 ^ 40 → row_of fixed x < 29
-row-29 x h = row_lt fixed x 29 (unfold rowOffset in h)
+row-29 x h = row_lt fixed x 29 (unfold row_offset in h)
 
 -- row and column, from the row, its start and its blocks' size
-pub place_is : (x r start size : ℕ) → r ≡ row_of fixed x → start ≡ rowOffset fixed r → size ≡ 2 ^ rowBits fixed r
+pub place_is : (x r start size : ℕ) → r ≡ row_of fixed x → start ≡ row_offset fixed r → size ≡ 2 ^ row_bits fixed r
     → ◌≡◌ {A = RowCol} (record { row = r; col = (x - start) / size }) (place_of fixed x)
 unfolding place_of
 place_is x r start size e f g =
-    let starts : start ≡ rowOffset fixed (row_of fixed x) = f ∙ ap (rowOffset fixed) e in
-    let sizes : size ≡ 2 ^ rowBits fixed (row_of fixed x) = g ∙ ap (λ (k : ℕ). 2 ^ rowBits fixed k) e in
+    let starts : start ≡ row_offset fixed (row_of fixed x) = f ∙ ap (row_offset fixed) e in
+    let sizes : size ≡ 2 ^ row_bits fixed (row_of fixed x) = g ∙ ap (λ (k : ℕ). 2 ^ row_bits fixed k) e in
     λ i. record { row = e i; col = (x - starts i) / sizes i }
 
 -- eight rows are direct
-pub direct-rows : (r : ℕ) → ltb r 8 ≡ leb (rowBits fixed r) 16
-unfolding rowBits
+pub direct-rows : (r : ℕ) → ltb r 8 ≡ leb (row_bits fixed r) 16
+unfolding row_bits
 direct-rows r = grind (arith, nat_tests)

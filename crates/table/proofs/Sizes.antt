@@ -3,8 +3,8 @@ use Prim.Native.Nat.{ℕ, ◌+◌}
 use mathlib.Core.Path.{◌≡◌}
 use native.Mathlib.Omega.{arith}
 use Rattle.table.specs.Table.{fixed}
-use Rattle.table.specs.Sizes.{offsetBytes, directHeader}
+use Rattle.table.specs.Sizes.{offset_bytes, direct_header}
 
-pub header_is : (w : ℕ) → directHeader fixed w ≡ 14 + w
-unfolding directHeader offsetBytes
+pub header_is : (w : ℕ) → direct_header fixed w ≡ 14 + w
+unfolding direct_header offset_bytes
 header_is w = omega arith

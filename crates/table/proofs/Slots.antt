@@ -9,8 +9,8 @@ use native.Mathlib.Decide.{dec_le, dec_lt}
 use lib.Dec.{leb}
 use lib.Pow.{pow_pos, pow_mono, pow-lt, pow-add, split}
 use borrow.Author.Tests.{leb-true, leb-false}
-use Rattle.table.specs.Table.{Table, rowBits, row_of}
-use Rattle.table.specs.Slots.{slotBitsIn, slotBits, slot_at, slotEnd}
+use Rattle.table.specs.Table.{Table, row_bits, row_of}
+use Rattle.table.specs.Slots.{slot_bits_in, slot_bits, slot_at, slot_end}
 use Rattle.table.proofs.Powers.{pow_lt_cancel, le_of_not_lt, digits-unique, pow-split, join, part}
 use Rattle.table.proofs.Rows.{Top, heap-rows, top-row}
 
@@ -32,8 +32,8 @@ module _ (t : Table) where
 
 -- the direct slot that holds x has 2 ^ c bytes: x's own block, or inside it, by descent
 pub data Slotted (t : Table) : ℕ → ℕ → Type 0 where
-  top : {x : ℕ} (q b r : ℕ) → Top t q b → b ≤ t.directBits → r < 2 ^ b → x ≡ q * 2 ^ b + r → Slotted t x b
-  sub : {x c : ℕ} (q b r : ℕ) → Top t q b → t.directBits < b → r < 2 ^ b → x ≡ q * 2 ^ b + r → Slotted t r c → Slotted t x c
+  top : {x : ℕ} (q b r : ℕ) → Top t q b → b ≤ t.direct_bits → r < 2 ^ b → x ≡ q * 2 ^ b + r → Slotted t x b
+  sub : {x c : ℕ} (q b r : ℕ) → Top t q b → t.direct_bits < b → r < 2 ^ b → x ≡ q * 2 ^ b + r → Slotted t r c → Slotted t x c
 
 module _ (t : Table) where
   pub slotted-unique : {x c : ℕ} → Slotted t x c → (y d : ℕ) → x ≡ y → Slotted t y d → c ≡ d
@@ -48,25 +48,25 @@ module _ (t : Table) where
       let e'' : q * 2 ^ b + r ≡ q' * 2 ^ b + r' = sym e ∙ p ∙ e' ∙ ap (λ (k : ℕ). q' * 2 ^ k + r') (sym z) in
       slotted-unique s r' d (digits-unique q q' b r r' h h'' e'').1 s'
 
-  slot-in-is : (f x : ℕ) → t.startBits ≤ t.directBits → x < 2 ^ f → x < 2 ^ t.heapBits → Slotted t x (slotBitsIn t f x)
-  unfolding slotBitsIn
+  slot-in-is : (f x : ℕ) → t.start_bits ≤ t.direct_bits → x < 2 ^ f → x < 2 ^ t.heap_bits → Slotted t x (slot_bits_in t f x)
+  unfolding slot_bits_in
   slot-in-is zero x g h k =
-      let e : x ≡ 0 * 2 ^ t.startBits + x = omega arith in
-      top 0 t.startBits x (record { lo = omega arith; up = pow_pos (suc t.width_bits); hi = λ l. absurd (omega arith) }) g (lt_of_lt_of_le h (pow_mono zero-le)) e
-  slot-in-is (suc f) x g h k = go (leb (rowBits t (row_of t x)) t.directBits) refl (slot-in-is f (x % 2 ^ rowBits t (row_of t x)) g)
+      let e : x ≡ 0 * 2 ^ t.start_bits + x = omega arith in
+      top 0 t.start_bits x (record { lo = omega arith; up = pow_pos (suc t.width_bits); hi = λ l. absurd (omega arith) }) g (lt_of_lt_of_le h (pow_mono zero-le)) e
+  slot-in-is (suc f) x g h k = go (leb (row_bits t (row_of t x)) t.direct_bits) refl (slot-in-is f (x % 2 ^ row_bits t (row_of t x)) g)
     where
       b : ℕ
-      b = rowBits t (row_of t x)
+      b = row_bits t (row_of t x)
 
-      T : Top t (x / 2 ^ rowBits t (row_of t x)) (rowBits t (row_of t x))
+      T : Top t (x / 2 ^ row_bits t (row_of t x)) (row_bits t (row_of t x))
       T = top-row t x (heap-rows t x k)
 
-      go : (v : Bool) → leb (rowBits t (row_of t x)) t.directBits ≡ v
-          → (x % 2 ^ rowBits t (row_of t x) < 2 ^ f → x % 2 ^ rowBits t (row_of t x) < 2 ^ t.heapBits → Slotted t (x % 2 ^ rowBits t (row_of t x)) (slotBitsIn t f (x % 2 ^ rowBits t (row_of t x))))
-          → Slotted t x (elim v [ true ↦ rowBits t (row_of t x) | false ↦ slotBitsIn t f (x % 2 ^ rowBits t (row_of t x)) ])
+      go : (v : Bool) → leb (row_bits t (row_of t x)) t.direct_bits ≡ v
+          → (x % 2 ^ row_bits t (row_of t x) < 2 ^ f → x % 2 ^ row_bits t (row_of t x) < 2 ^ t.heap_bits → Slotted t (x % 2 ^ row_bits t (row_of t x)) (slot_bits_in t f (x % 2 ^ row_bits t (row_of t x))))
+          → Slotted t x (elim v [ true ↦ row_bits t (row_of t x) | false ↦ slot_bits_in t f (x % 2 ^ row_bits t (row_of t x)) ])
       go true e ih = top (x / 2 ^ b) b (x % 2 ^ b) T (leb-true _ _ e) (mod-lt x (pow_pos b)) (sym (split x b))
       go false e ih =
-          let l : t.directBits < b = leb-false _ _ e in
+          let l : t.direct_bits < b = leb-false _ _ e in
           let m : x % 2 ^ b < 2 ^ b = mod-lt x (pow_pos b) in
           let q : 2 ^ t.width_bits ≤ x / 2 ^ b = T.hi (omega arith) in
           let q1 : 1 ≤ x / 2 ^ b = le_trans (pow_pos t.width_bits) q in
@@ -76,9 +76,9 @@ module _ (t : Table) where
           let bm : 2 ^ b ≤ 2 ^ f = pow_mono (omega arith) in
           sub (x / 2 ^ b) b (x % 2 ^ b) T l m (sym sp) (ih (omega arith) (omega arith))
 
-  pub slot-bits-is : (x : ℕ) → t.startBits ≤ t.directBits → x < 2 ^ t.heapBits → Slotted t x (slotBits t x)
-  unfolding slotBits
-  slot-bits-is x g h = slot-in-is t.heapBits x g h h
+  pub slot-bits-is : (x : ℕ) → t.start_bits ≤ t.direct_bits → x < 2 ^ t.heap_bits → Slotted t x (slot_bits t x)
+  unfolding slot_bits
+  slot-bits-is x g h = slot-in-is t.heap_bits x g h h
 
 -- x is where a direct slot begins
 pub record Start (t : Table) (x : ℕ) : Type 0 where
@@ -88,42 +88,42 @@ pub record Start (t : Table) (x : ℕ) : Type 0 where
   pub here : x ≡ nth * 2 ^ bits
 
 module _ (t : Table) where
-  pub slotted-lo : {x c : ℕ} → Slotted t x c → t.startBits ≤ c
+  pub slotted-lo : {x c : ℕ} → Slotted t x c → t.start_bits ≤ c
   slotted-lo (top q b r T l h e) = T.lo
   slotted-lo (sub q b r T l h e s) = slotted-lo s
 
-  top-hi : (q c r b : ℕ) → Top t q c → t.startBits ≤ b → q * 2 ^ c + r < 2 ^ b → c ≤ b
+  top-hi : (q c r b : ℕ) → Top t q c → t.start_bits ≤ b → q * 2 ^ c + r < 2 ^ b → c ≤ b
   top-hi q c r b T l h = le_of_not_lt (λ g.
       let q1 : 1 ≤ q = le_trans (pow_pos t.width_bits) (T.hi (omega arith)) in
       let q2 : 1 * 2 ^ c ≤ q * 2 ^ c = mul-le-mul_right (2 ^ c) q1 in
       let m : 2 ^ b ≤ 2 ^ c = pow_mono (omega arith) in
       omega arith)
 
-  pub slotted-hi : {x c : ℕ} → Slotted t x c → (b : ℕ) → t.startBits ≤ b → x < 2 ^ b → c ≤ b
+  pub slotted-hi : {x c : ℕ} → Slotted t x c → (b : ℕ) → t.start_bits ≤ b → x < 2 ^ b → c ≤ b
   slotted-hi (top q b r T l h e) k lo u = top-hi q b r k T lo (subst (λ (y : ℕ). y < 2 ^ k) e u)
   slotted-hi (sub q b r T l h e s) k lo u =
       let z = top-hi q b r k T lo (subst (λ (y : ℕ). y < 2 ^ k) e u) in
       let w = slotted-hi s b T.lo h in omega arith
 
-  module _ (good : t.startBits ≤ t.directBits) where
-    slotted-zero : Slotted t 0 t.startBits
+  module _ (good : t.start_bits ≤ t.direct_bits) where
+    slotted-zero : Slotted t 0 t.start_bits
     slotted-zero =
-        let e : 0 ≡ 0 * 2 ^ t.startBits + 0 = omega arith in
-        top 0 t.startBits 0 (record { lo = omega arith; up = pow_pos (suc t.width_bits); hi = λ l. absurd (omega arith) }) good (pow_pos t.startBits) e
+        let e : 0 ≡ 0 * 2 ^ t.start_bits + 0 = omega arith in
+        top 0 t.start_bits 0 (record { lo = omega arith; up = pow_pos (suc t.width_bits); hi = λ l. absurd (omega arith) }) good (pow_pos t.start_bits) e
 
     pub top_start : (q b : ℕ) → Top t q b → Start t (q * 2 ^ b)
-    top_start q b T = go (dec_le b t.directBits)
+    top_start q b T = go (dec_le b t.direct_bits)
       where
         e : q * 2 ^ b ≡ q * 2 ^ b + 0
         e = omega arith
 
-        go : Dec (b ≤ t.directBits) → Start t (q * 2 ^ b)
+        go : Dec (b ≤ t.direct_bits) → Start t (q * 2 ^ b)
         go (yes l) = record { bits = b; slotted = top q b 0 T l (pow_pos b) e; nth = q; here = refl }
         go (no n) = record {
-          bits = t.startBits;
+          bits = t.start_bits;
           slotted = sub q b 0 T (omega arith) (pow_pos b) e slotted-zero;
-          nth = q * 2 ^ (b - t.startBits) + 0;
-          here = e ∙ (let z : 0 ≡ 0 * 2 ^ t.startBits = omega arith in ap (λ (y : ℕ). q * 2 ^ b + y) z) ∙ join q b t.startBits 0 T.lo;
+          nth = q * 2 ^ (b - t.start_bits) + 0;
+          here = e ∙ (let z : 0 ≡ 0 * 2 ^ t.start_bits = omega arith in ap (λ (y : ℕ). q * 2 ^ b + y) z) ∙ join q b t.start_bits 0 T.lo;
         }
 
     top-next : (q b : ℕ) → Top t q b → Start t (suc q * 2 ^ b)
@@ -214,50 +214,50 @@ module _ (t : Table) where
 
   pub slot-some : (c : ℕ) → 0 < (slot_at t c).size
   unfolding slot_at
-  slot-some c = pow_pos (slotBits t c)
+  slot-some c = pow_pos (slot_bits t c)
 
   -- a slot ends past what it holds
-  pub end-gt : (c : ℕ) → c < slotEnd (slot_at t c)
+  pub end-gt : (c : ℕ) → c < slot_end (slot_at t c)
   unfolding slot_at
-  end-gt c = lt-div-mul-add (pow_pos (slotBits t c))
+  end-gt c = lt-div-mul-add (pow_pos (slot_bits t c))
 
   -- and no later than the heap
-  pub end-le : (c : ℕ) → t.startBits ≤ t.directBits → t.startBits ≤ t.heapBits → c < 2 ^ t.heapBits → slotEnd (slot_at t c) ≤ 2 ^ t.heapBits
+  pub end-le : (c : ℕ) → t.start_bits ≤ t.direct_bits → t.start_bits ≤ t.heap_bits → c < 2 ^ t.heap_bits → slot_end (slot_at t c) ≤ 2 ^ t.heap_bits
   unfolding slot_at
   end-le c g k h =
-      let b = slotBits t c in
+      let b = slot_bits t c in
       let q = c / 2 ^ b in
-      let bl : b ≤ t.heapBits = slotted-hi t (slot-bits-is t c g h) t.heapBits k h in
-      let ps : 2 ^ t.heapBits ≡ 2 ^ (t.heapBits - b) * 2 ^ b = pow-split bl in
+      let bl : b ≤ t.heap_bits = slotted-hi t (slot-bits-is t c g h) t.heap_bits k h in
+      let ps : 2 ^ t.heap_bits ≡ 2 ^ (t.heap_bits - b) * 2 ^ b = pow-split bl in
       let lo : q * 2 ^ b ≤ c = div-mul-le_self c (2 ^ b) in
-      let ql : q < 2 ^ (t.heapBits - b) = lt_of_not-le (λ (g : 2 ^ (t.heapBits - b) ≤ q). let z : 2 ^ (t.heapBits - b) * 2 ^ b ≤ q * 2 ^ b = mul-le-mul_right (2 ^ b) g in omega arith) in
-      let z : suc q * 2 ^ b ≤ 2 ^ (t.heapBits - b) * 2 ^ b = mul-le-mul_right (2 ^ b) ql in
+      let ql : q < 2 ^ (t.heap_bits - b) = lt_of_not-le (λ (g : 2 ^ (t.heap_bits - b) ≤ q). let z : 2 ^ (t.heap_bits - b) * 2 ^ b ≤ q * 2 ^ b = mul-le-mul_right (2 ^ b) g in omega arith) in
+      let z : suc q * 2 ^ b ≤ 2 ^ (t.heap_bits - b) * 2 ^ b = mul-le-mul_right (2 ^ b) ql in
       omega arith
 
-module _ (t : Table) (g : t.startBits ≤ t.directBits) (k : t.startBits ≤ t.heapBits) where
-  pub start-bits : (c : ℕ) (s : Start t c) → c < 2 ^ t.heapBits → s.bits ≡ slotBits t c
-  start-bits c s h = slotted-unique t s.slotted c (slotBits t c) refl (slot-bits-is t c g h)
+module _ (t : Table) (g : t.start_bits ≤ t.direct_bits) (k : t.start_bits ≤ t.heap_bits) where
+  pub start-bits : (c : ℕ) (s : Start t c) → c < 2 ^ t.heap_bits → s.bits ≡ slot_bits t c
+  start-bits c s h = slotted-unique t s.slotted c (slot_bits t c) refl (slot-bits-is t c g h)
 
   -- at a slot's start the slot begins there
-  pub start-here : (c : ℕ) → Start t c → c < 2 ^ t.heapBits → (slot_at t c).start ≡ c
+  pub start-here : (c : ℕ) → Start t c → c < 2 ^ t.heap_bits → (slot_at t c).start ≡ c
   unfolding slot_at
   start-here c s h =
       let e = start-bits c s h in
-      let b = slotBits t c in
+      let b = slot_bits t c in
       let x : c ≡ s.nth * 2 ^ b = s.here ∙ ap (λ (y : ℕ). s.nth * 2 ^ y) e in
       ap (λ (y : ℕ). y / 2 ^ b * 2 ^ b) x ∙ ap (λ (y : ℕ). y * 2 ^ b) (mul-div_cancel s.nth (pow_pos b)) ∙ sym x
 
-  pub start-next : (c : ℕ) → Start t c → c < 2 ^ t.heapBits → Start t (slotEnd (slot_at t c))
+  pub start-next : (c : ℕ) → Start t c → c < 2 ^ t.heap_bits → Start t (slot_end (slot_at t c))
   unfolding slot_at
   start-next c s h =
-      let e : c + 2 ^ s.bits ≡ slotEnd (slot_at t c) = ap (λ (y : ℕ). c + 2 ^ y) (start-bits c s h) ∙ ap (λ (y : ℕ). y + 2 ^ slotBits t c) (sym (start-here c s h)) in
+      let e : c + 2 ^ s.bits ≡ slot_end (slot_at t c) = ap (λ (y : ℕ). c + 2 ^ y) (start-bits c s h) ∙ ap (λ (y : ℕ). y + 2 ^ slot_bits t c) (sym (start-here c s h)) in
       subst (Start t) e (next t g s.slotted s.nth s.here)
 
   -- the slot of any offset begins where a slot begins, and it is the slot that is found there
-  pub slot-start : (c : ℕ) → c < 2 ^ t.heapBits → Start t (slot_at t c).start
+  pub slot-start : (c : ℕ) → c < 2 ^ t.heap_bits → Start t (slot_at t c).start
   unfolding slot_at
   slot-start c h =
-      let b = slotBits t c in
+      let b = slot_bits t c in
       record {
         bits = b;
         slotted = down t (slot-bits-is t c g h) (c / 2 ^ b) (c % 2 ^ b) (sym (split c b)) (mod-lt c (pow_pos b));
@@ -265,26 +265,26 @@ module _ (t : Table) (g : t.startBits ≤ t.directBits) (k : t.startBits ≤ t.h
         here = refl;
       }
 
-  pub slot-again : (c : ℕ) → c < 2 ^ t.heapBits → slotBits t (slot_at t c).start ≡ slotBits t c
+  pub slot-again : (c : ℕ) → c < 2 ^ t.heap_bits → slot_bits t (slot_at t c).start ≡ slot_bits t c
   unfolding slot_at slot-start
   slot-again c h =
-      let b = slotBits t c in
+      let b = slot_bits t c in
       let lo : c / 2 ^ b * 2 ^ b ≤ c = div-mul-le_self c (2 ^ b) in
       sym (start-bits (c / 2 ^ b * 2 ^ b) (slot-start c h) (omega (arith, lo, h)))
 
   -- where the slot of any offset ends, the next begins
-  pub end-start : (c : ℕ) → c < 2 ^ t.heapBits → Start t (slotEnd (slot_at t c))
+  pub end-start : (c : ℕ) → c < 2 ^ t.heap_bits → Start t (slot_end (slot_at t c))
   unfolding slot_at
   end-start c h =
-      let b = slotBits t c in
+      let b = slot_bits t c in
       next t g (down t (slot-bits-is t c g h) (c / 2 ^ b) (c % 2 ^ b) (sym (split c b)) (mod-lt c (pow_pos b))) (c / 2 ^ b) refl
 
   -- no slot begins inside another
-  pub apart : (c b : ℕ) → Start t c → Start t b → c < 2 ^ t.heapBits → c < b → slotEnd (slot_at t c) ≤ b
+  pub apart : (c b : ℕ) → Start t c → Start t b → c < 2 ^ t.heap_bits → c < b → slot_end (slot_at t c) ≤ b
   unfolding slot_at
   apart c b s r h l =
       let e = start-here c s h in
-      let q = slotBits t c in
+      let q = slot_bits t c in
       let sc : s.bits ≡ q = slotted-unique t s.slotted c q refl (slot-bits-is t c g h) in
       let pe : 2 ^ s.bits ≡ 2 ^ q = ap (λ (y : ℕ). 2 ^ y) sc in
       le_of_not_lt (λ u.

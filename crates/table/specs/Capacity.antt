@@ -2,18 +2,18 @@
 -- Block', Object Data.
 use Rattle.std.specs.Prelude.{ℕ, zero, suc, ◌-◌, ◌*◌, ◌^◌, nat_le, if◌then◌else◌, List, [], ◌∷◌, ◌++◌, take}
 use Rattle.numbers.specs.Sums.{sum}
-use Rattle.table.specs.Table.{Table, rowBits}
+use Rattle.table.specs.Table.{Table, row_bits}
 
 -- a block of row r: a direct one holds what its header of h bytes leaves, an indirect one what its own rows
 -- hold, whose capacities stand in front in l
-unfoldable pub blockCapacity : Table → ℕ → ℕ → List ℕ → ℕ
-blockCapacity t h r l =
-    if nat_le (rowBits t r) t.directBits then 2 ^ rowBits t r - h else 2 ^ t.width_bits * sum (take (r - t.width_bits) l)
+unfoldable pub block_capacity : Table → ℕ → ℕ → List ℕ → ℕ
+block_capacity t h r l =
+    if nat_le (row_bits t r) t.direct_bits then 2 ^ row_bits t r - h else 2 ^ t.width_bits * sum (take (r - t.width_bits) l)
 
 -- the capacities of a block of each of the rows before n
 unfoldable pub capacities : Table → ℕ → ℕ → List ℕ
 capacities t h zero = []
-capacities t h (suc n) = capacities t h n ++ (blockCapacity t h n (capacities t h n) ∷ [])
+capacities t h (suc n) = capacities t h n ++ (block_capacity t h n (capacities t h n) ∷ [])
 
 -- the rows before n together
 unfoldable pub capacity : Table → ℕ → ℕ → ℕ

@@ -5,21 +5,21 @@ use Rattle.std.specs.Prelude.{ℕ, ◌+◌, ◌-◌, ◌*◌, ◌/◌, ◌^◌, 
 use Rattle.table.specs.Table.{Table, fixed}
 
 -- Block Offset takes as many bytes as the bits of Maximum Heap Size need
-unfoldable pub offsetBytes : Table → ℕ
-offsetBytes t = (t.heapBits + 7) / 8
+unfoldable pub offset_bytes : Table → ℕ
+offset_bytes t = (t.heap_bits + 7) / 8
 
 -- Signature, Version, Heap Header Address, Block Offset, Checksum
-unfoldable pub directHeader : Table → ℕ → ℕ
-directHeader t w = 4 + 1 + w + offsetBytes t + 4
+unfoldable pub direct_header : Table → ℕ → ℕ
+direct_header t w = 4 + 1 + w + offset_bytes t + 4
 
 -- the largest object that a direct block holds ('Fractal Heap Header': Maximum Direct Block Size)
-unfoldable pub maxManaged : Table → ℕ → ℕ
-maxManaged t w = 2 ^ t.directBits - directHeader t w
+unfoldable pub max_managed : Table → ℕ → ℕ
+max_managed t w = 2 ^ t.direct_bits - direct_header t w
 
 -- Signature, Version, Heap Header Address, Block Offset, one child's address for each slot of n rows, Checksum
-unfoldable pub indirectSize : Table → ℕ → ℕ → ℕ
-indirectSize t w n = 4 + 1 + w + offsetBytes t + n * 2 ^ t.width_bits * w + 4
+unfoldable pub indirect_size : Table → ℕ → ℕ → ℕ
+indirect_size t w n = 4 + 1 + w + offset_bytes t + n * 2 ^ t.width_bits * w + 4
 
-sizes-fixed : (directHeader fixed 8 ≡ 22) × (maxManaged fixed 8 ≡ 65514) × (indirectSize fixed 8 3 ≡ 118)
-unfolding directHeader maxManaged indirectSize offsetBytes
+sizes-fixed : (direct_header fixed 8 ≡ 22) × (max_managed fixed 8 ≡ 65514) × (indirect_size fixed 8 3 ≡ 118)
+unfolding direct_header max_managed indirect_size offset_bytes
 sizes-fixed = (refl, refl, refl)

@@ -6,52 +6,52 @@ use Rattle.table.specs.declared.RowCol.{RowCol}
 
 pub record Table : Type 0 where
   pub width_bits : ℕ
-  pub startBits : ℕ
-  pub directBits : ℕ
-  pub heapBits : ℕ
+  pub start_bits : ℕ
+  pub direct_bits : ℕ
+  pub heap_bits : ℕ
 
 -- the table of every heap that we write: Table Width 4, Starting Block Size 1,024, Maximum Direct Block Size 65,536,
 -- Maximum Heap Size 2 ^ 40
 abbrev pub fixed : Table
-fixed = record { width_bits = 2; startBits = 10; directBits = 16; heapBits = 40 }
+fixed = record { width_bits = 2; start_bits = 10; direct_bits = 16; heap_bits = 40 }
 
--- a block of row r has 2 ^ rowBits r bytes: rows 0 and 1 the starting size, each later row twice the one before
-unfoldable pub rowBits : Table → ℕ → ℕ
-rowBits t r = t.startBits + (r - 1)
+-- a block of row r has 2 ^ row_bits r bytes: rows 0 and 1 the starting size, each later row twice the one before
+unfoldable pub row_bits : Table → ℕ → ℕ
+row_bits t r = t.start_bits + (r - 1)
 
 -- where row r begins, which is also what the rows before it span
-unfoldable pub rowOffset : Table → ℕ → ℕ
-rowOffset t zero = 0
-rowOffset t (suc r) = 2 ^ (t.startBits + t.width_bits + r)
+unfoldable pub row_offset : Table → ℕ → ℕ
+row_offset t zero = 0
+row_offset t (suc r) = 2 ^ (t.start_bits + t.width_bits + r)
 
 -- the last of the rows 0 to n that begins at or before x
 unfoldable pub row_in : Table → ℕ → ℕ → ℕ
 row_in t zero x = 0
-row_in t (suc n) x = if nat_le (rowOffset t (suc n)) x then suc n else row_in t n x
+row_in t (suc n) x = if nat_le (row_offset t (suc n)) x then suc n else row_in t n x
 
 -- the row of an offset below the heap's size
 unfoldable pub row_of : Table → ℕ → ℕ
-row_of t x = row_in t t.heapBits x
+row_of t x = row_in t t.heap_bits x
 
 -- row and column of an offset
 unfoldable pub place_of : Table → ℕ → RowCol
-place_of t x = record { row = row_of t x; col = (x - rowOffset t (row_of t x)) / 2 ^ rowBits t (row_of t x) }
+place_of t x = record { row = row_of t x; col = (x - row_offset t (row_of t x)) / 2 ^ row_bits t (row_of t x) }
 
 -- the most rows that a root has: as many as the heap space holds ('Fractal Heap Header': Starting # of Rows in Root
 -- Indirect Block, its value 0). The format does not give their number; it is our rule (docs/RULES.md)
-unfoldable pub maxRows : Table → ℕ
-maxRows t = t.heapBits - (t.startBits + t.width_bits) + 1
+unfoldable pub max_rows : Table → ℕ
+max_rows t = t.heap_bits - (t.start_bits + t.width_bits) + 1
 
 -- of the f row counts from n on the first whose rows span at least x bytes
-unfoldable pub coveringIn : Table → ℕ → ℕ → ℕ → Option ℕ
-coveringIn t zero n x = None
-coveringIn t (suc f) n x = if nat_le x (rowOffset t n) then Some n else coveringIn t f (suc n) x
+unfoldable pub covering_in : Table → ℕ → ℕ → ℕ → Option ℕ
+covering_in t zero n x = None
+covering_in t (suc f) n x = if nat_le x (row_offset t n) then Some n else covering_in t f (suc n) x
 
 -- the fewest rows of a root that span at least x bytes, if the table has as many
 unfoldable pub covering : Table → ℕ → Option ℕ
-covering t x = coveringIn t (maxRows t) 1 x
+covering t x = covering_in t (max_rows t) 1 x
 
 -- rows 0 and 1 alike, row 7 the last direct one, 29 rows at most
-rows-fixed : (rowBits fixed 0 ≡ 10) × (rowBits fixed 1 ≡ 10) × (rowBits fixed 7 ≡ 16) × (maxRows fixed ≡ 29)
-unfolding rowBits maxRows
+rows-fixed : (row_bits fixed 0 ≡ 10) × (row_bits fixed 1 ≡ 10) × (row_bits fixed 7 ≡ 16) × (max_rows fixed ≡ 29)
+unfolding row_bits max_rows
 rows-fixed = (refl, refl, refl, refl)

@@ -1,11 +1,15 @@
 //! The doubling table of a fractal heap at the fixed geometry: width 4, starting block 1,024, largest
-//! direct block 65,536, heap space 2^40. The definitions in specs/ have the table as a parameter; they also serve the
-//! functions of table_rows, table_sizes, table_slots and table_capacity.
+//! direct block 65,536, heap space 2^40. The definitions in specs/ have the table as a parameter.
 //! Functions with a `requires` serve our own crates and are no part of the interface.
 #![tactic(auto)]
 
+pub mod block_sizes;
+pub mod capacities;
+pub mod row_counts;
+pub mod slot_places;
+
 ghost use Rattle.std.specs.Prelude.{◌≡◌, ◌^◌, ◌<◌, ◌≤◌, nat_le};
-ghost use Rattle.table.specs.Table.{fixed, rowBits, rowOffset, row_of, place_of};
+ghost use Rattle.table.specs.Table.{fixed, row_bits, row_offset, row_of, place_of};
 
 /// Row and column of a slot.
 #[derive(Clone, Copy)]
@@ -32,14 +36,14 @@ pub struct TableSlot {
 /// The size of a block of a row.
 pub fn row_block_size(row: u64) -> u64
     requires { row < 30 }
-    ensures { result ≡ 2 ^ rowBits fixed row }
+    ensures { result ≡ 2 ^ row_bits fixed row }
 {
     if row <= 1 { 1024 } else { 1024 << (row - 1) }
 }
 
 /// Whether a row's slots are direct blocks; those of later rows are indirect.
 pub fn is_direct(row: u64) -> bool
-    ensures { result ≡ nat_le (rowBits fixed row) fixed.directBits }
+    ensures { result ≡ nat_le (row_bits fixed row) fixed.direct_bits }
 {
     row < 8
 }
@@ -47,7 +51,7 @@ pub fn is_direct(row: u64) -> bool
 /// Where a row begins, from its indirect block's own offset on.
 pub fn row_offset(row: u64) -> u64
     requires { row < 30 }
-    ensures { result ≡ rowOffset fixed row }
+    ensures { result ≡ row_offset fixed row }
 {
     if row == 0 { 0 } else { 4096 << (row - 1) }
 }

@@ -7,8 +7,8 @@ use native.Mathlib.Omega.{arith}
 use native.Mathlib.Nat.{div-mul-le_self}
 use lib.Dec.{ltb}
 use borrow.Author.Tests.{lt-ltb, ltb-true}
-use Rattle.table.specs.Table.{Table, rowOffset, maxRows}
-use Rattle.table.specs.Slots.{Direct, slotBits, slot_at, slotEnd}
+use Rattle.table.specs.Table.{Table, row_offset, max_rows}
+use Rattle.table.specs.Slots.{Direct, slot_bits, slot_at, slot_end}
 use Rattle.table.specs.declared.Slot.{Slot}
 use Rattle.table.proofs.Slots.{Start, start-here, slot-start, slot-again, end-gt, end-le, end-start, apart}
 use Rattle.table_laws.specs.Count.{InBody}
@@ -24,13 +24,13 @@ same-slot a b e f = λ i. record { start = e i; size = f i }
 same-test : (a b : Bool) → (a ≡ true → b ≡ true) → (b ≡ true → a ≡ true) → a ≡ b
 same-test a b f g = grind arith
 
-module _ (t : Table) (g : t.startBits ≤ t.directBits) (k : t.startBits ≤ t.heapBits) where
+module _ (t : Table) (g : t.start_bits ≤ t.direct_bits) (k : t.start_bits ≤ t.heap_bits) where
   begins : (x : ℕ) → (slot_at t x).start ≤ x
   unfolding slot_at
-  begins x = div-mul-le_self x (2 ^ slotBits t x)
+  begins x = div-mul-le_self x (2 ^ slot_bits t x)
 
   -- what is found at an offset is a slot
-  found : (x : ℕ) → x < 2 ^ t.heapBits → SlotOf t (slot_at t x).start (slot_at t x).size
+  found : (x : ℕ) → x < 2 ^ t.heap_bits → SlotOf t (slot_at t x).start (slot_at t x).size
   unfolding slot_at
   found x h = record {
     starts = slot-start t g k x h;
@@ -38,9 +38,9 @@ module _ (t : Table) (g : t.startBits ≤ t.directBits) (k : t.startBits ≤ t.h
     size_is = ap (λ (b : ℕ). 2 ^ b) (sym (slot-again t g k x h));
   }
 
-  one : (x y : ℕ) → x < 2 ^ t.heapBits → (slot_at t x).start ≤ y → y < slotEnd (slot_at t x) → slot_at t y ≡ slot_at t x
+  one : (x y : ℕ) → x < 2 ^ t.heap_bits → (slot_at t x).start ≤ y → y < slot_end (slot_at t x) → slot_at t y ≡ slot_at t x
   one x y h lo hi =
-      let l : y < 2 ^ t.heapBits = omega (arith, hi, end-le t x g k h) in
+      let l : y < 2 ^ t.heap_bits = omega (arith, hi, end-le t x g k h) in
       let S = found x h in
       let R = found y l in
       let e : (slot_at t y).start ≡ (slot_at t x).start = slots-meet t g y k R S (begins y) (end-gt t y) lo hi in
@@ -48,9 +48,9 @@ module _ (t : Table) (g : t.startBits ≤ t.directBits) (k : t.startBits ≤ t.h
 
   aligned : (x : ℕ) → (n : ℕ) × ((slot_at t x).start ≡ n * (slot_at t x).size)
   unfolding slot_at
-  aligned x = (x / 2 ^ slotBits t x, refl)
+  aligned x = (x / 2 ^ slot_bits t x, refl)
 
-  distinct : (x y : ℕ) → x < 2 ^ t.heapBits → y < 2 ^ t.heapBits → (slot_at t x).start < (slot_at t y).start → slotEnd (slot_at t x) ≤ (slot_at t y).start
+  distinct : (x y : ℕ) → x < 2 ^ t.heap_bits → y < 2 ^ t.heap_bits → (slot_at t x).start < (slot_at t y).start → slot_end (slot_at t x) ≤ (slot_at t y).start
   distinct x y h l u =
       let S = found x h in
       let a = apart t g k (slot_at t x).start (slot_at t y).start S.starts (found y l).starts S.inside u in
@@ -62,23 +62,23 @@ module _ (t : Table) (g : t.startBits ≤ t.directBits) (k : t.startBits ≤ t.h
     one = one;
     aligned = λ x h. aligned x;
     inside = λ x h. end-le t x g k h;
-    next = λ x h l. start-here t g k (slotEnd (slot_at t x)) (end-start t g k x h) l;
+    next = λ x h l. start-here t g k (slot_end (slot_at t x)) (end-start t g k x h) l;
     apart = distinct;
   }
 
 module _ (t : Table) (T : IsTable t) where
-  starts-below : t.startBits ≤ t.heapBits
+  starts-below : t.start_bits ≤ t.heap_bits
   starts-below = omega (arith, T.heap)
 
-  of-format : (s z : ℕ) → Direct t (maxRows t) s z ↔ ((s < 2 ^ t.heapBits) × (slot_at t s ≡ record { start = s; size = z }))
+  of-format : (s z : ℕ) → Direct t (max_rows t) s z ↔ ((s < 2 ^ t.heap_bits) × (slot_at t s ≡ record { start = s; size = z }))
   of-format s z = (there, back)
     where
-      there : Direct t (maxRows t) s z → (s < 2 ^ t.heapBits) × (slot_at t s ≡ record { start = s; size = z })
+      there : Direct t (max_rows t) s z → (s < 2 ^ t.heap_bits) × (slot_at t s ≡ record { start = s; size = z })
       there D =
           let S = direct-start t T.direct T.width T.heap D in
           (S.inside, same-slot (slot_at t s) (record { start = s; size = z }) (start-here t T.direct starts-below s S.starts S.inside) (sym S.size_is))
 
-      back : (s < 2 ^ t.heapBits) × (slot_at t s ≡ record { start = s; size = z }) → Direct t (maxRows t) s z
+      back : (s < 2 ^ t.heap_bits) × (slot_at t s ≡ record { start = s; size = z }) → Direct t (max_rows t) s z
       back (l, e) =
           start-direct t T.direct T.width T.heap
           (record {
@@ -87,22 +87,22 @@ module _ (t : Table) (T : IsTable t) where
             size_is = sym (ap (λ (b : Slot). b.size) e);
           })
 
-  module _ (h n : ℕ) (u : rowOffset t (suc n) ≤ 2 ^ t.heapBits) where
+  module _ (h n : ℕ) (u : row_offset t (suc n) ≤ 2 ^ t.heap_bits) where
     abbrev below-and : ℕ → Bool
-    below-and x = in_body t h x && ltb x (rowOffset t (suc n))
+    below-and x = in_body t h x && ltb x (row_offset t (suc n))
 
     passes : (x : ℕ) → (below-and x ≡ true) ↔ InBody t h (suc n) x
     passes x = (only, always)
       where
         only : below-and x ≡ true → InBody t h (suc n) x
         only e =
-            let p = (and-eq-true_iff (in_body t h x) (ltb x (rowOffset t (suc n)))).0 e in
-            body-out t T.direct T.width h n x u (ltb-true x (rowOffset t (suc n)) p.1) p.0
+            let p = (and-eq-true_iff (in_body t h x) (ltb x (row_offset t (suc n)))).0 e in
+            body-out t T.direct T.width h n x u (ltb-true x (row_offset t (suc n)) p.1) p.0
 
         always : InBody t h (suc n) x → below-and x ≡ true
         always B =
             let p = body-in t T.direct T.width h n x u B in
-            (and-eq-true_iff (in_body t h x) (ltb x (rowOffset t (suc n)))).1 (p.1, lt-ltb x (rowOffset t (suc n)) p.0)
+            (and-eq-true_iff (in_body t h x) (ltb x (row_offset t (suc n)))).1 (p.1, lt-ltb x (row_offset t (suc n)) p.0)
 
     held : BodiesCounted t h (suc n)
     held = record {
@@ -110,7 +110,7 @@ module _ (t : Table) (T : IsTable t) where
       test = below-and;
       passes = passes;
       every = λ q Q.
-          count-ext q (in_body t h) (rowOffset t (suc n)) (λ x l. same-test (q x) (in_body t h x)
+          count-ext q (in_body t h) (row_offset t (suc n)) (λ x l. same-test (q x) (in_body t h x)
           (λ e. (body-in t T.direct T.width h n x u ((Q x).0 e)).1)
           (λ e. (Q x).1 (body-out t T.direct T.width h n x u l e)))
           ∙ bodies t h T.direct T.width (suc n) u;

@@ -13,7 +13,7 @@ count p (suc n) = count p n + bit (p n)
 -- a direct slot of z bytes at s, of the managed space of a heap with n root rows: at 0 rows the one at 0, of
 -- the starting size
 abbrev pub Managed : Table → ℕ → ℕ → ℕ → Type 0
-Managed t zero s z = (s ≡ 0) × (z ≡ 2 ^ t.startBits)
+Managed t zero s z = (s ≡ 0) × (z ≡ 2 ^ t.start_bits)
 Managed t (suc n) s z = Direct t (suc n) s z
 
 -- x lies in the body of such a slot, past its header of h bytes

@@ -5,26 +5,26 @@ use Rattle.std.specs.Prelude.{ℕ, ◌-◌, ◌^◌, ◌≤◌, ◌<◌, max, �
 use Rattle.refusals.specs.declared.FormatError.{FormatError}
 use Rattle.refusals.specs.declared.FormatError.TheVariants.{UnexpectedEof, ObjectTooLarge}
 use Rattle.checksum.specs.Lookup3.{hashlittle}
-use Rattle.table.specs.Table.{fixed, rowBits, rowOffset, covering}
+use Rattle.table.specs.Table.{fixed, row_bits, row_offset, covering}
 use Rattle.plan.specs.declared.ManagedPlan.{ManagedPlan}
-use Rattle.plan_steps.specs.Steps.{planOffsets, planStarts}
-use Rattle.plan.specs.Answer.{plannedFor}
-use Rattle.region_blocks.specs.Site.{siteOf}
-use Rattle.region_write.specs.Region.{region, rootBytes}
-use Rattle.id_write.specs.Checks.{idChecked}
-use Rattle.id_write.specs.Ids.{managedId}
-use Rattle.read_rows.specs.declared.DoublingTable.{DoublingTable}
-use Rattle.read_rows.specs.Rows.{blockSize, directRows, sizeToRows, slotSize}
-use Rattle.read_walk.specs.declared.place.Place.{Place}
-use Rattle.id_decode.specs.Id.{decoded_id}
-use Rattle.id_tiny.specs.Tiny.{tiny_at}
+use Rattle.planner.specs.Steps.{plan_offsets, plan_starts}
+use Rattle.plan.specs.Answer.{planned_for}
+use Rattle.region_blocks.specs.Site.{site_of}
+use Rattle.region_write.specs.Region.{region, root_bytes}
+use Rattle.ids.specs.Checks.{id_checked}
+use Rattle.ids.specs.Written.{managed_id}
+use Rattle.reading.specs.declared.rows.DoublingTable.{DoublingTable}
+use Rattle.reading.specs.Rows.{block_size, direct_rows, size_to_rows, slot_size}
+use Rattle.reading.specs.declared.walk.place.Place.{Place}
+use Rattle.ids.specs.Decoded.{decoded_id}
+use Rattle.ids.specs.Tiny.{tiny_at}
 use Rattle.fractal_heap.specs.declared.header.FractalHeapHeader.{FractalHeapHeader}
 use Rattle.fractal_heap.specs.Read.{managed_at}
 use Rattle.heap_kept.specs.HeapKept.{Call, Written, HoldsRegion, HeaderOf, offset_of}
 
 -- the fixed geometry as a header has it
-abbrev pub fixedTable : DoublingTable
-fixedTable =
+abbrev pub fixed_table : DoublingTable
+fixed_table =
     record { table_width = 4; starting_block_size = 1024; max_direct_block_size = 65536; max_heap_size = 40 }
 
 -- sizes with their offsets, block starts, plan and region; sizes that are refused; sizes with the index of an empty
@@ -45,38 +45,38 @@ pub data Case : Type 0 where
 
 -- the region of a plan, whatever the addresses and the bytes of the objects: its size, and the root at its place
 pub record Region (w : ℕ) (xs : List ℕ) (p : ManagedPlan) : Type 0 where
-  pub size : (header address : ℕ) (js : List ℕ) → length (region (siteOf w header address) p.root_rows xs js) ≡ p.region_size
+  pub size : (header address : ℕ) (js : List ℕ) → length (region (site_of w header address) p.root_rows xs js) ≡ p.region_size
   pub root : (header address : ℕ) (js : List ℕ)
-      → take (length (rootBytes (siteOf w header address) p.root_rows xs js)) (drop p.root_place (region (siteOf w header address) p.root_rows xs js))
-      ≡ rootBytes (siteOf w header address) p.root_rows xs js
+      → take (length (root_bytes (site_of w header address) p.root_rows xs js)) (drop p.root_place (region (site_of w header address) p.root_rows xs js))
+      ≡ root_bytes (site_of w header address) p.root_rows xs js
 
 -- a call of the writer for the sizes xs
-abbrev pub callFor : ℕ → List ℕ → List ℕ → ℕ → ℕ → ℕ → ℕ → ℕ → Call
-callFor w xs js header address offsets blocks region =
-    record { sizes = xs; objects = js; site = siteOf w header address; offset_places = offsets; block_places = blocks; region_bytes = region }
+abbrev pub call_for : ℕ → List ℕ → List ℕ → ℕ → ℕ → ℕ → ℕ → ℕ → Call
+call_for w xs js header address offsets blocks region =
+    record { sizes = xs; objects = js; site = site_of w header address; offset_places = offsets; block_places = blocks; region_bytes = region }
 
 -- the i-th object is empty, and whatever else is handed to the writer and stands in the file, by its ID the reader
 -- answers 1, with its offset and the file's length
 pub record Unfound (w : ℕ) (xs : List ℕ) (i : ℕ) : Type 0 where
   pub there : i < length xs
   pub empty : slice_index xs i ≡ 0
-  pub read : (js : List ℕ) (header address offsets blocks region : ℕ) (p : ManagedPlan) → Written (callFor w xs js header address offsets blocks region) p
-      → (file : List ℕ) → HoldsRegion file (callFor w xs js header address offsets blocks region) p
-      → (h : FractalHeapHeader) → HeaderOf h (callFor w xs js header address offsets blocks region) p
-      → managed_at h file (managedId fixed (offset_of w xs i) 0) w ≡ Err (UnexpectedEof (offset_of w xs i) (length file))
+  pub read : (js : List ℕ) (header address offsets blocks region : ℕ) (p : ManagedPlan) → Written (call_for w xs js header address offsets blocks region) p
+      → (file : List ℕ) → HoldsRegion file (call_for w xs js header address offsets blocks region) p
+      → (h : FractalHeapHeader) → HeaderOf h (call_for w xs js header address offsets blocks region) p
+      → managed_at h file (managed_id fixed (offset_of w xs i) 0) w ≡ Err (UnexpectedEof (offset_of w xs i) (length file))
 
 abbrev pub Holds : Case → Type 0
 Holds (plans w xs offsets bs p) =
-    (plannedFor xs (length xs) (max 1 (length xs)) w ≡ Ok p) × (planOffsets fixed w xs ≡ offsets) × (planStarts fixed w xs ≡ bs) × Region w xs p
-Holds (refuses w xs e) = plannedFor xs (length xs) (max 1 (length xs)) w ≡ Err e
+    (planned_for xs (length xs) (max 1 (length xs)) w ≡ Ok p) × (plan_offsets fixed w xs ≡ offsets) × (plan_starts fixed w xs ≡ bs) × Region w xs p
+Holds (refuses w xs e) = planned_for xs (length xs) (max 1 (length xs)) w ≡ Err e
 Holds (unfound w xs i) = Unfound w xs i
 Holds (covers span n) = covering fixed span ≡ Some n
 Holds (direct r) =
-    (rowBits fixed r ≤ fixed.directBits) × (r < directRows fixedTable) × (slotSize fixedTable r ≡ 2 ^ rowBits fixed r)
+    (row_bits fixed r ≤ fixed.direct_bits) × (r < direct_rows fixed_table) × (slot_size fixed_table r ≡ 2 ^ row_bits fixed r)
 Holds (indirect r n) =
-    (fixed.directBits < rowBits fixed r) × (r - fixed.width_bits ≡ n) × (rowOffset fixed n ≡ 2 ^ rowBits fixed r)
-    × (directRows fixedTable ≤ r) × (sizeToRows fixedTable (blockSize fixedTable r) ≡ n) × (slotSize fixedTable r ≡ 2 ^ rowBits fixed r)
-Holds (writes offset len id) = (managedId fixed offset len ≡ id) × (idChecked fixed offset len (length id) ≡ Ok tt)
+    (fixed.direct_bits < row_bits fixed r) × (r - fixed.width_bits ≡ n) × (row_offset fixed n ≡ 2 ^ row_bits fixed r)
+    × (direct_rows fixed_table ≤ r) × (size_to_rows fixed_table (block_size fixed_table r) ≡ n) × (slot_size fixed_table r ≡ 2 ^ row_bits fixed r)
+Holds (writes offset len id) = (managed_id fixed offset len ≡ id) × (id_checked fixed offset len (length id) ≡ Ok tt)
 Holds (decodes bits id offset len) = decoded_id bits id ≡ Ok (record { offset = offset; length = len })
 Holds (tiny n id found) = tiny_at n id ≡ found
 Holds (hashes bytes n) = hashlittle bytes ≡ n

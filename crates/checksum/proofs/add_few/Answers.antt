@@ -1,12 +1,14 @@
--- What is left of `add_few`: the last bytes belong to the second or the third word.
-use Rattle.std.proofs.Common.{arith}
-use Rattle.checksum.proofs.Tails.{in_two, in_three}
+-- What is left of `add_few`: 9 bytes or more are in three words, and 4 to 8 in two.
+use Rattle.std.proofs.Common.{refl, arith}
+use Rattle.checksum.specs.Words.{add32}
+use Rattle.checksum.specs.Lookup3.{grouped}
+use Rattle.checksum.proofs.Tails.{in_two}
 use Rattle.checksum.proofs.add_few.Goals as goal
 
-pub returns-then-bytes-le8 : goal.returns-then-bytes-le8
-returns-then-bytes-le8 c =
-    rw (c.add_word-a.ensures, c.add_last-last.ensures) (in_two c.args.bytes.now (omega arith) c.requires.more c.if-bytes-le8.true)
+pub returns-then-bytes-gt8 : goal.returns-then-bytes-gt8
+unfolding add32 grouped
+returns-then-bytes-gt8 c = rw (c.add_word-a.ensures, c.add_word.ensures, c.third_word.ensures) refl
 
 pub returns : goal.returns
-returns c =
-    rw (c.add_word-a.ensures, c.add_last-last.ensures, c.add_word.ensures) (in_three c.args.bytes.now (omega arith) c.if-bytes-le8.false c.requires.most)
+unfolding add32
+returns c = rw (c.add_word-a.ensures, c.second_word.ensures) (in_two c.args.bytes.now (omega arith) c.if-bytes-gt8.false)

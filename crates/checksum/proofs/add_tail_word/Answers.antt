@@ -1,6 +1,6 @@
 -- What is left of `add_tail_word`: the last word that there is, shifted down, is what is to be added.
 use Rattle.std.proofs.Common.{arith}
-use Rattle.checksum_mix.specs.Words.{add32}
+use Rattle.checksum.specs.Words.{add32}
 use Rattle.checksum.proofs.Tails.{tail-word-added}
 use Rattle.checksum.proofs.add_tail_word.Goals as goal
 

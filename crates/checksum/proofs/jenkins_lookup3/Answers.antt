@@ -3,9 +3,9 @@ use Rattle.std.proofs.Common.{ℕ, ◌≡◌, ◌<◌, Bool, false, sym, ap, ◌
 use Rattle.std.specs.Prelude.{◌==◌}
 use borrow.Author.Tests.{eqb-true}
 use Rattle.std.proofs.lemmas.Bool.Decides.{nat_tests}
-use Rattle.checksum_mix.specs.Mix.{finalMixed}
-use Rattle.checksum_mix.specs.Words.{add32}
-use Rattle.checksum_mix.specs.declared.State.{State}
+use Rattle.checksum.specs.Mix.{final_mixed}
+use Rattle.checksum.specs.Words.{add32}
+use Rattle.checksum.specs.declared.mixing.State.{State}
 use Rattle.checksum.proofs.Tails.{in_one}
 use Rattle.checksum.proofs.Walk.{few-ended, none-ended}
 use Rattle.checksum.proofs.jenkins_lookup3.Goals as goal
@@ -13,8 +13,8 @@ use Rattle.checksum.proofs.jenkins_lookup3.Goals as goal
 nonempty : {n : ℕ} {b : Bool} → b ≡ (n == 0) → b ≡ false → 0 < n
 nonempty e f = grind (arith, nat_tests)
 
-pub returns-then-bytes-gt4 : goal.returns-then-bytes-gt4
-returns-then-bytes-gt4 c =
+pub returns-then-bytes-ge4 : goal.returns-then-bytes-ge4
+returns-then-bytes-ge4 c =
     rw (c.ended.ensures, c.add_few.ensures) (few-ended _ _ c.begun-first.ensures (record { some = omega arith; most = omega arith }))
 
 pub returns-then-is_empty : goal.returns-then-is_empty
@@ -24,5 +24,5 @@ pub returns : goal.returns
 unfolding add32
 returns c =
     rw (c.ended-2.ensures, c.short_word.ensures)
-    (ap (λ (t : State). (finalMixed t).c) (in_one c.args.bytes.now (omega arith) c.if-bytes-gt4.false)
+    (ap (λ (t : State). (final_mixed t).c) (in_one c.args.bytes.now (omega arith) (omega arith))
     ∙ few-ended _ _ c.begun-first.ensures (record { some = nonempty c.is_empty.ensures c.if-is_empty.false; most = omega arith }))

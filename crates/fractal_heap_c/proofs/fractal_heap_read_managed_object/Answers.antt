@@ -1,8 +1,8 @@
 -- What is left of `fractal_heap_read_managed_object`: by the theorem C finds the place of the object that was given the ID.
 use Rattle.std.proofs.Common.{arith, ap, ◌∙◌}
-use Rattle.c_slot.specs.Slot.{slot_number, slot_bytes}
+use Rattle.fields.specs.Slot.{slot_number, slot_bytes}
 use Rattle.refusals.specs.Refusals.{report_of}
-use Rattle.read_walk.specs.Walk.{place_report}
+use Rattle.reading.specs.Walk.{place_report}
 use Rattle.fractal_heap_c.proofs.Naming.{names-kept}
 use Rattle.fractal_heap_c.proofs.fractal_heap_read_managed_object.Goals as goal
 

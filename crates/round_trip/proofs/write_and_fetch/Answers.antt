@@ -4,9 +4,9 @@ use Rattle.std.specs.Prelude.{OnOk, OnErr, slice_index}
 use Rattle.plan.specs.declared.ManagedPlan.{ManagedPlan}
 use Rattle.round_trip.specs.RoundTrip.{came_back}
 use Rattle.refusals.specs.declared.FormatError.{FormatError}
-use Rattle.object_bytes.specs.Kept.{IsFetched}
-use Rattle.object_bytes.proofs.Keeping.{size-is}
-use Rattle.round_trip_read.proofs.Objects.{id_written}
+use Rattle.heap_kept.specs.Kept.{IsFetched}
+use Rattle.heap_kept.proofs.Keeping.{size-is}
+use Rattle.round_trip.proofs.ReadBack.{id_written}
 use Rattle.round_trip.proofs.WholeWay.{root-sum, rows-small}
 use Rattle.round_trip.proofs.Fetching.{holds, placed, its-id, accepted-id}
 use Rattle.round_trip.proofs.write_and_fetch.Goals as goal

@@ -1,7 +1,7 @@
 -- What is left of `Planner::open`: what the search finds is the step of the object.
 use Rattle.std.proofs.Common.{◌+◌, arith}
 use Rattle.table.proofs.Locating.{entered-small}
-use Rattle.plan_steps.proofs.Reaching.{reached-step, reached-bounded}
+use Rattle.planner.proofs.Reaching.{reached-step, reached-bounded}
 use Rattle.planner.proofs.Adding.{opens-at, opens-none, if_none}
 use Rattle.planner.proofs.Planner.open.Goals as goal
 

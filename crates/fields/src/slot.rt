@@ -1,0 +1,22 @@
+//! How an answer is handed to C: the number is returned, the two values go into a lent slot.
+ghost use Rattle.std.specs.Prelude.{◌≡◌};
+ghost use Rattle.fields.specs.Slot.{slot_number, slot_bytes};
+
+use crate::stores::Writer;
+use refusals::Answer;
+
+/// Puts the two values into the first 16 bytes of `slot`, little-endian, and returns the number. A shorter slot is left
+/// as it is and gives 13.
+#[tactic(auto, unfolding(crate::specs::Slot::slot_number, crate::specs::Slot::slot_bytes))]
+pub fn put_answer(slot: &mut [u8], answer: Answer) -> u32
+    ensures number { result ≡ slot_number slot.old answer }
+    ensures slot_after { slot.new ≡ slot_bytes slot.old answer }
+{
+    if slot.len() < 16 {
+        return 13;
+    }
+    let mut writer = Writer::new(slot);
+    writer.put_number(answer.first, 8);
+    writer.put_number(answer.second, 8);
+    answer.number
+}

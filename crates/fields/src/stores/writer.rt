@@ -1,0 +1,75 @@
+//! A lent slice that is written from its front on.
+ghost use Rattle.std.specs.Prelude.{◌≡◌, ◌+◌, ◌-◌, ◌++◌, ◌≤◌, length, drop, replicate, []};
+ghost use Rattle.fields.specs.LittleEndian.{le};
+ghost use Rattle.fields.specs.Writing.{written, behind};
+
+/// A writer that goes through a lent slice: the bytes before `at` are written, those from there on are as they were.
+#[derive(Drop)]
+pub struct Writer<'a> {
+    bytes: &'a mut [u8],
+    at: usize,
+}
+
+impl<'a> Writer<'a> {
+    /// At the slice's front.
+    pub fn new(bytes: &'a mut [u8]) -> Writer<'a>
+        ensures same_reference { result.bytes.ghost_name ≡ bytes.entry.ghost_name }
+        ensures at { result.at ≡ 0 }
+        ensures bytes { result.bytes.now ≡ bytes.old }
+    {
+        Writer { bytes, at: 0 }
+    }
+
+    /// Puts all of `bytes`.
+    pub fn put(&mut self, bytes: &[u8])
+        requires room { self.old.at + length bytes.now ≤ length self.old.bytes.now }
+        ensures same_reference { self.new.bytes.ghost_name ≡ self.old.bytes.ghost_name }
+        ensures at { self.new.at ≡ self.old.at + length bytes.now }
+        ensures len { length self.new.bytes.now ≡ length self.old.bytes.now }
+        ensures written { written self.new ≡ written self.old ++ bytes.now }
+        ensures behind { behind self.new ≡ drop (length bytes.now) (behind self.old) }
+    {
+        let end = self.at + bytes.len();
+        self.bytes[self.at..end].copy_from_slice(bytes);
+        self.at = end;
+    }
+
+    /// Puts the same byte `count` times.
+    pub fn fill(&mut self, byte: u8, count: usize)
+        requires room { self.old.at + count ≤ length self.old.bytes.now }
+        ensures same_reference { self.new.bytes.ghost_name ≡ self.old.bytes.ghost_name }
+        ensures at { self.new.at ≡ self.old.at + count }
+        ensures len { length self.new.bytes.now ≡ length self.old.bytes.now }
+        ensures written { written self.new ≡ written self.old ++ replicate count byte }
+        ensures behind { behind self.new ≡ drop count (behind self.old) }
+    {
+        let end = self.at + count;
+        self.bytes[self.at..end].fill(byte);
+        self.at = end;
+    }
+
+    /// Puts the `width` low bytes of a number, the lowest first.
+    pub fn put_number(&mut self, number: u64, width: u8)
+        requires narrow { width ≤ 8 }
+        requires room { self.old.at + width ≤ length self.old.bytes.now }
+        ensures same_reference { self.new.bytes.ghost_name ≡ self.old.bytes.ghost_name }
+        ensures at { self.new.at ≡ self.old.at + width }
+        ensures len { length self.new.bytes.now ≡ length self.old.bytes.now }
+        ensures written { written self.new ≡ written self.old ++ le width number }
+        ensures behind { behind self.new ≡ drop width (behind self.old) }
+    {
+        self.put(&number.to_le_bytes()[..usize::from(width)]);
+    }
+
+    /// Puts a number's four bytes, the lowest first.
+    pub fn put_u32(&mut self, number: u32)
+        requires room { self.old.at + 4 ≤ length self.old.bytes.now }
+        ensures same_reference { self.new.bytes.ghost_name ≡ self.old.bytes.ghost_name }
+        ensures at { self.new.at ≡ self.old.at + 4 }
+        ensures len { length self.new.bytes.now ≡ length self.old.bytes.now }
+        ensures written { written self.new ≡ written self.old ++ le 4 number }
+        ensures behind { behind self.new ≡ drop 4 (behind self.old) }
+    {
+        self.put(&number.to_le_bytes());
+    }
+}

@@ -1,0 +1,22 @@
+-- The writer's answer: planning's, then that of its own tests.
+use Rattle.std.specs.Prelude.{ℕ, ◌≡◌, List, Result, Ok}
+use Rattle.refusals.specs.Steps.{◌>>=◌}
+use Rattle.refusals.specs.declared.FormatError.{FormatError}
+use Rattle.numbers.specs.Sums.{sum}
+use Rattle.plan.specs.declared.ManagedPlan.{ManagedPlan}
+use Rattle.plan.specs.Answer.{planned_for}
+use Rattle.region_blocks.specs.declared.Site.{Site}
+use Rattle.fractal_heap_write.specs.declared.checks.Lent.{Lent}
+use Rattle.fractal_heap_write.specs.Checks.{Fit, output_checked}
+
+-- the answer for the sizes xs, what is lent and the site: planning's refusals, then those of writing
+unfoldable pub serialized_for : List ℕ → Lent → Site → Result ManagedPlan FormatError
+serialized_for xs lent site = do
+  plan ← planned_for xs lent.offset_places lent.block_places site.offset_size
+  _ ← output_checked site lent (sum xs) plan.region_size
+  Ok plan
+
+-- p is the plan of the sizes xs, and passed the tests
+pub record Accepted (xs : List ℕ) (lent : Lent) (site : Site) (p : ManagedPlan) : Type 0 where
+  pub planned : planned_for xs lent.offset_places lent.block_places site.offset_size ≡ Ok p
+  pub fit : Fit site lent (sum xs) p.region_size

@@ -1,0 +1,37 @@
+-- The tests between planning and writing, in their order.
+use Rattle.std.specs.Prelude.{ℕ, ◌+◌, ◌≡◌, ◌≤◌, ◌<◌, ◌==◌, nat_le, nat_lt, Result}
+use Rattle.refusals.specs.Steps.{◌>>=◌, required}
+use Rattle.refusals.specs.declared.FormatError.{FormatError}
+use Rattle.refusals.specs.declared.FormatError.TheVariants.{ObjectBytesMismatch, HeaderAddressTooLarge, RegionAddressTooLarge}
+use Rattle.fields.specs.Undefined.{undefined_address}
+use Rattle.plan.specs.Checks.{places_checked}
+use Rattle.region_blocks.specs.declared.Site.{Site}
+use Rattle.fractal_heap_write.specs.declared.checks.Lent.{Lent}
+
+-- m bytes of objects whose sizes have the sum n: else 14
+unfoldable pub bytes_checked : ℕ → ℕ → Result (Unit {0}) FormatError
+bytes_checked n m = required (n == m) (ObjectBytesMismatch n m)
+
+-- the address of the heap's header is a defined one: else 15
+unfoldable pub header_address_checked : ℕ → ℕ → Result (Unit {0}) FormatError
+header_address_checked w a = required (nat_lt a (undefined_address w)) (HeaderAddressTooLarge a)
+
+-- a region of n bytes ends at or before the undefined address: else 15
+unfoldable pub region_address_checked : ℕ → ℕ → ℕ → Result (Unit {0}) FormatError
+region_address_checked w a n = required (nat_le (a + n) (undefined_address w)) (RegionAddressTooLarge a n)
+
+-- objects whose sizes have the sum n, in a region of so many bytes, at a site, with what is lent: 14, 13 region, 15
+-- header, 15 region
+unfoldable pub output_checked : Site → Lent → ℕ → ℕ → Result (Unit {0}) FormatError
+output_checked site lent n size = do
+  _ ← bytes_checked n lent.object_bytes
+  _ ← places_checked size lent.region_bytes
+  _ ← header_address_checked site.offset_size site.heap_header_address
+  region_address_checked site.offset_size site.region_address size
+
+-- what they let pass: as many bytes as sizes, room, and addresses below the undefined one
+pub record Fit (site : Site) (lent : Lent) (n size : ℕ) : Type 0 where
+  pub bytes : n ≡ lent.object_bytes
+  pub room : size ≤ lent.region_bytes
+  pub heap : site.heap_header_address < undefined_address site.offset_size
+  pub end : site.region_address + size ≤ undefined_address site.offset_size

@@ -1,3 +1,0 @@
-pub mod FieldList
-pub mod Groups
-pub mod Reading

@@ -1,0 +1,43 @@
+//! The bytes of an object, by the ID that it was given: `fetch` is lent the file, a header and the ID, and never sees what
+//! was written.
+ghost use Rattle.std.specs.Prelude.{◌≡◌, ◌≤◌, ◌++◌, length, take, drop, Ok, OnOk, OnErr};
+ghost use Rattle.reading.specs.declared.walk.place.Place.{Place};
+ghost use Rattle.fractal_heap.specs.Read.{managed_at};
+ghost use Rattle.heap_kept.specs.Kept.{ForKept, IsFetched, fetched};
+
+use fractal_heap::header::FractalHeapHeader;
+use refusals::FormatError;
+
+/// Copies the bytes of the managed object that an ID names into the front of `found`, and answers how many they are.
+/// Refused as `read_managed_object` refuses, and by 13 where they have no room; then `found` stays as it is.
+///
+/// Of a heap that our writer wrote, and by an ID that it gave, early in a run or at its end, these are the object's bytes.
+pub fn fetch(
+    header: &FractalHeapHeader,
+    file: &[u8],
+    id: &[u8],
+    offset_size: u8,
+    found: &mut [u8],
+) -> Result<usize, FormatError>
+    ensures kept { ForKept header.now file.now offset_size id.now
+        (λ bytes. length bytes ≤ length found.old → IsFetched result found.old found.new bytes) }
+
+    ensures answer { result
+        ≡ fetched (managed_at header.now file.now id.now offset_size) (length found.old) }
+    ensures copied { (place : Place) → managed_at header.now file.now id.now offset_size ≡ Ok place
+        → OnOk result (found.new
+        ≡ take place.length (drop place.position file.now) ++ drop place.length found.old) }
+    ensures untouched { OnErr result (found.new ≡ found.old) }
+{
+    let place = header.read_managed_object(file, id, offset_size)?;
+    let start = place.position as usize;
+    let count = place.length as usize;
+    if found.len() < count {
+        return Err(FormatError::SliceTooShort {
+            needed: place.length,
+            lent: found.len() as u64,
+        });
+    }
+    found[..count].copy_from_slice(&file[start..start + count]);
+    Ok(count)
+}

@@ -1,0 +1,13 @@
+-- What is left of `ensure_end`: where bytes end is where as many more bytes from the front on end.
+use Rattle.std.proofs.Common.{◌≡◌, ◌+◌, ℕ, List, arith}
+use Rattle.fields.specs.Fields.{len_ensured}
+use Rattle.ids.proofs.tiny.ensure_end.Goals as goal
+
+end_alone : (s : List ℕ) (p n : ℕ) → len_ensured s 0 (p + n) ≡ len_ensured s p n
+unfolding len_ensured
+end_alone s p n =
+    let e : 0 + (p + n) ≡ p + n = omega arith in
+    rw e
+
+pub returns-clause-value : goal.returns-clause-value
+returns-clause-value c = rw (c.ensure_len.ensures.value, c.from.ensures, c.from-2.ensures) (end_alone _ _ _)

@@ -1,0 +1,5 @@
+pub mod Checks
+pub mod Written
+pub mod IdTypes
+pub mod Decoded
+pub mod Tiny

@@ -1,0 +1,30 @@
+-- Tiny objects. HDF5 File Format Specification 3.0, III.G, 'Fractal Heap ID for Tiny Objects', sub-types 1, 'Normal',
+-- and 2, 'Extended': Version, Type, and Length, Extended Length, Data. Where the original reads an ID otherwise than
+-- the format, its reading stands here (docs/DIFFERENCES.md).
+use Rattle.std.specs.Prelude.{ℕ, ◌+◌, ◌*◌, ◌%◌, List, nat_lt, slice_index, if◌then◌else◌, Result, Ok}
+use Rattle.fields.specs.Fields.{len_ensured}
+use Rattle.refusals.specs.Steps.{◌>>=◌}
+use Rattle.refusals.specs.declared.FormatError.{FormatError}
+use Rattle.reading.specs.declared.walk.place.Place.{Place}
+
+-- len bytes at start of the ID s
+unfoldable pub tiny_in : List ℕ → ℕ → ℕ → Result Place FormatError
+tiny_in s start len = do
+  _ ← len_ensured s start len
+  Ok (record { position = start; length = len })
+
+-- a length of 12 bits in two bytes; one is added
+abbrev pub extended_at : List ℕ → Result Place FormatError
+extended_at s = do
+  _ ← len_ensured s 0 2
+  tiny_in s 2 (slice_index s 0 % 16 * 256 + slice_index s 1 + 1)
+
+-- a length of 4 bits in one byte; one is added
+abbrev pub normal_at : List ℕ → Result Place FormatError
+normal_at s = do
+  _ ← len_ensured s 0 1
+  tiny_in s 1 (slice_index s 0 % 16 + 1)
+
+-- the tiny object in the ID s, where Heap ID Length is l: extended above 17, in the text above 18
+unfoldable pub tiny_at : ℕ → List ℕ → Result Place FormatError
+tiny_at l s = if nat_lt 17 l then extended_at s else normal_at s

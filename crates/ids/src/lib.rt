@@ -1,0 +1,6 @@
+//! The IDs of a heap's objects: those of managed objects written and decoded, tiny objects read.
+#![tactic(auto)]
+
+pub mod decode;
+pub mod tiny;
+pub mod write;

@@ -1,2 +1,0 @@
-pub mod LittleEndian
-pub mod Widths

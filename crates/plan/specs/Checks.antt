@@ -1,0 +1,32 @@
+-- The tests before any planning, in their order.
+use Rattle.std.specs.Prelude.{ℕ, suc, max, List, [], ◌∷◌, length, nat_le, Result, Ok}
+use Rattle.fields.specs.Widths.{legal}
+use Rattle.refusals.specs.Steps.{◌>>=◌, required}
+use Rattle.refusals.specs.declared.FormatError.{FormatError}
+use Rattle.refusals.specs.declared.FormatError.TheVariants.{InvalidOffsetSize, ObjectTooLarge, SliceTooShort}
+use Rattle.table.specs.Table.{fixed}
+use Rattle.table.specs.Sizes.{max_managed}
+
+-- no size is above the limit; else the first that is, counted from i on: 11
+unfoldable pub sizes_checked : ℕ → ℕ → List ℕ → Result (Unit {0}) FormatError
+sizes_checked limit i [] = Ok tt
+sizes_checked limit i (x ∷ xs) = do
+  _ ← required (nat_le x limit) (ObjectTooLarge i x)
+  sizes_checked limit (suc i) xs
+
+-- a list of m places holds n numbers: else 13
+unfoldable pub places_checked : ℕ → ℕ → Result (Unit {0}) FormatError
+places_checked n m = required (nat_le n m) (SliceTooShort n m)
+
+-- addresses may have w bytes: else 2
+unfoldable pub width_checked : ℕ → Result (Unit {0}) FormatError
+width_checked w = required (legal w) (InvalidOffsetSize w)
+
+-- the tests before any planning, for lists of o and b places: 2, 13 offsets, 13 blocks, 11. Without objects there is
+-- still one block
+unfoldable pub input_checked : List ℕ → ℕ → ℕ → ℕ → Result (Unit {0}) FormatError
+input_checked xs o b w = do
+  _ ← width_checked w
+  _ ← places_checked (length xs) o
+  _ ← places_checked (max 1 (length xs)) b
+  sizes_checked (max_managed fixed w) 0 xs

@@ -1,0 +1,16 @@
+-- What the totals ask of a state, so that none falls below zero or leaves 64 bits.
+use Rattle.std.specs.Prelude.{ℕ, ◌+◌, ◌≤◌, ◌<◌, ◌≡◌}
+use Rattle.table.specs.Table.{fixed}
+use Rattle.table.specs.Sizes.{direct_header}
+use Rattle.table.specs.Capacity.{capacity}
+use Rattle.planner.specs.declared.State.{State}
+use Rattle.planner.specs.Steps.{block_end}
+use Rattle.planner.specs.Requires.{Bounded}
+use Rattle.plan.specs.End.{rows_of_root}
+
+-- a state after the last object: some block is placed, and the objects lie in the root's slots
+pub record Totalled (w : ℕ) (s : State) : Type 0 where
+  pub some : 0 < block_end s
+  pub bounded : Bounded s
+  pub one : block_end s ≡ 1024 → direct_header fixed w + s.used ≤ 1024
+  pub more : (block_end s ≡ 1024 → ⊥) → s.used ≤ capacity fixed (direct_header fixed w) (rows_of_root fixed (block_end s))

@@ -1,0 +1,37 @@
+//! A plan's answer as numbers in a lent list, for the C functions over planning and writing.
+ghost use Rattle.std.specs.Prelude.{◌≡◌, ◌≤◌, length};
+ghost use Rattle.plan.specs.Answer.{planned_number};
+ghost use Rattle.plan.specs.Report.{planned_totals};
+
+use crate::ManagedPlan;
+use refusals::{FormatError, Reported};
+
+/// The answer's number, 0 or the refusal's. The plan's eight numbers in the order of its fields, or the refusal's two
+/// values, go into the first places of `totals`.
+#[tactic(auto, unfolding(fields::specs::LittleEndian::put))]
+pub fn put_planned(totals: &mut [u64], answer: Result<ManagedPlan, FormatError>) -> u32
+    requires { 8 ≤ length totals.old }
+    ensures value { result ≡ planned_number answer }
+    ensures totals_after { totals.new ≡ planned_totals totals.old answer }
+{
+    match answer {
+        Ok(p) => {
+            totals[..8].copy_from_slice(&[
+                p.block_count,
+                p.region_size,
+                p.root_rows,
+                p.root_place,
+                p.managed_space,
+                p.allocated_space,
+                p.free_space,
+                p.allocation_iterator,
+            ]);
+            0
+        }
+        Err(e) => {
+            let refusal = e.answer();
+            totals[..2].copy_from_slice(&[refusal.first, refusal.second]);
+            refusal.number
+        }
+    }
+}

@@ -1,0 +1,31 @@
+//! The search for the next slot that is large enough. Functions with a `requires` serve our own crates and are no part
+//! of the interface.
+ghost use Rattle.std.specs.Prelude.{◌≡◌, ◌^◌, ◌≤◌, IfSome};
+ghost use Rattle.table.specs.Table.{fixed};
+ghost use Rattle.planner.specs.Steps.{open_at};
+ghost use Rattle.planner.specs.Requires.{InHeap};
+
+use table::Slot;
+use table::slot_places::locate;
+
+/// The first slot from the heap offset `cursor` on, where a slot begins, that has `need` bytes; `None` where the heap
+/// space has none. A slot begins at a multiple of its size, so from one that is too small the search goes on at the
+/// next multiple of the least power of two that is large enough.
+pub fn find_slot(cursor: u64, need: u64) -> Option<Slot>
+    requires cursor_in_heap { cursor ≤ 2 ^ 40 }
+    requires need_in_block { need ≤ 65536 }
+    ensures value { result ≡ open_at fixed need cursor }
+    ensures in_heap { IfSome result InHeap }
+{
+    let span = need.next_power_of_two();
+    let mut from = cursor;
+    while from < 0x100_0000_0000 {
+        let slot = locate(from);
+        if need <= slot.size {
+            return Some(slot);
+        }
+        let end = slot.start + slot.size + (span - 1);
+        from = end - (end & (span - 1));
+    }
+    None
+}

@@ -1,0 +1,4 @@
+pub mod RowSizes
+pub mod Scanning
+pub mod Walking
+pub mod Inside

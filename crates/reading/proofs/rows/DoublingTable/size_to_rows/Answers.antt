@@ -1,0 +1,10 @@
+-- What is left of `size_to_rows`: a logarithm is at most 63.
+use Rattle.std.proofs.Common.{arith}
+use Rattle.numbers.proofs.Log2.{log2-le}
+use Rattle.reading.proofs.rows.DoublingTable.size_to_rows.Goals as goal
+
+pub overflow_add-start : goal.overflow_add-start
+overflow_add-start c = omega (arith, log2-le)
+
+pub overflow_add-result : goal.overflow_add-result
+overflow_add-result c = omega (arith, log2-le)

@@ -1,0 +1,134 @@
+//! The child of an indirect block that holds a heap offset, sought row by row.
+ghost use Rattle.std.specs.Prelude.{◌≡◌};
+ghost use Rattle.reading.specs.Blocks.{holds_offset, child_of, slot_rows, child_in_slots, child_in, child_at};
+
+use crate::Search;
+use crate::rows::DoublingTable;
+use fields::convert::{is_undefined_addr, to_usize};
+use fields::little_endian::read_u32_le;
+use fields::{ensure_len, is_width, read_offset};
+use numbers::saturating_mul;
+use refusals::FormatError;
+
+/// A child of an indirect block.
+#[derive(Clone, Copy, Debug, PartialEq, Eq)]
+pub enum HeapChild {
+    Direct {
+        addr: u64,
+        block_size: u64,
+        heap_offset: u64,
+    },
+    Indirect {
+        addr: u64,
+        nrows: u64,
+        heap_offset: u64,
+    },
+}
+
+// The child in a slot of a row.
+#[tactic(auto, unfolding(crate::specs::Blocks::child_of))]
+fn child_of(table: &DoublingTable, row: u64, addr: u64, heap_offset: u64) -> HeapChild
+    ensures { result ≡ child_of table.now row addr heap_offset }
+{
+    let block_size = table.block_size_for_row(row);
+    if row < table.max_direct_rows() {
+        HeapChild::Direct {
+            addr,
+            block_size,
+            heap_offset,
+        }
+    } else {
+        let nrows = table.size_to_rows(block_size);
+        HeapChild::Indirect {
+            addr,
+            nrows,
+            heap_offset,
+        }
+    }
+}
+
+// Whether a block at `addr` that spans the offsets from `start` to `end` is there and holds the target.
+#[tactic(auto, unfolding(crate::specs::Blocks::holds_offset))]
+fn holds(addr: u64, offset_size: u8, start: u64, end: u64, target: u64) -> bool
+    ensures { result ≡ holds_offset addr offset_size start end target }
+{
+    start <= target && target < end && !is_undefined_addr(addr, offset_size)
+}
+
+impl Search<'_> {
+    // The child that holds the target, of the rows whose entries begin at `at` of a block. A row that ends at or before
+    // the target is passed at once, where all its entries are there.
+    #[tactic(auto, using(crate::proofs::Scanning::rows_none, crate::proofs::Scanning::row_begun, crate::proofs::Scanning::slots_none, crate::proofs::Scanning::slot_taken, crate::proofs::Scanning::slot_refused, crate::proofs::Scanning::slot_passed, crate::proofs::Scanning::row_passed), unfolding(numbers::specs::Numbers::saturated))]
+    fn find_child_in_rows(
+        &self,
+        block: &[u8],
+        at: usize,
+        nrows: u64,
+        start: u64,
+    ) -> Result<Option<HeapChild>, FormatError>
+        ensures { result ≡ child_in_slots self.now.table block.now self.now.offset_size
+            self.now.target (slot_rows self.now.table nrows 0) at start }
+    {
+        let width = self.table.table_width;
+        let entries = usize::from(width) * usize::from(self.offset_size);
+        let mut pos = at;
+        let mut heap_offset = start;
+        for row in 0..nrows {
+            let size = self.table.slot_size(row);
+            let row_end = heap_offset.saturating_add(saturating_mul(size, width));
+            let are_there = pos <= block.len() && entries <= block.len() - pos;
+            if row_end <= self.target && is_width(self.offset_size) && are_there {
+                pos += entries;
+                heap_offset = row_end;
+                continue;
+            }
+            for column in 0..width {
+                let addr = read_offset(block, pos, self.offset_size)?;
+                let end = heap_offset.saturating_add(size);
+                if holds(addr, self.offset_size, heap_offset, end, self.target) {
+                    return Ok(Some(child_of(&self.table, row, addr, heap_offset)));
+                }
+                pos += usize::from(self.offset_size);
+                heap_offset = end;
+            }
+        }
+        Ok(None)
+    }
+
+    /// The child that holds the target, of the block whose bytes these begin with: `nrows` rows, the first slot at the
+    /// heap offset `start`. Filtered heaps have been refused before: their entries are longer.
+    #[tactic(auto, unfolding(crate::specs::Blocks::child_in, crate::specs::Blocks::entries_place, fields::specs::LittleEndian::value))]
+    pub fn find_child_for_offset(
+        &self,
+        block: &[u8],
+        nrows: u64,
+        start: u64,
+    ) -> Result<Option<HeapChild>, FormatError>
+        ensures { result
+            ≡ child_in self.now.table block.now nrows start self.now.target self.now.offset_size }
+    {
+        ensure_len(block, 0, 4)?;
+        if read_u32_le(block, 0) != 0x4249_4846 {
+            return Err(FormatError::InvalidFractalHeapSignature);
+        }
+        let offset_bytes = (usize::from(self.table.max_heap_size) + 7) / 8;
+        let at = 5 + usize::from(self.offset_size) + offset_bytes;
+        self.find_child_in_rows(block, at, nrows, start)
+    }
+
+    /// The same of the block at `addr` of the file.
+    #[tactic(auto, using(crate::proofs::Scanning::part_all), unfolding(crate::specs::Blocks::child_at))]
+    pub fn find_child_at(
+        &self,
+        addr: u64,
+        nrows: u64,
+        start: u64,
+    ) -> Result<Option<HeapChild>, FormatError>
+        ensures { result ≡ child_at self.now.table self.now.file.now addr nrows start
+            self.now.target self.now.offset_size }
+    {
+        let at = to_usize(addr);
+        ensure_len(self.file, at, 4)?;
+        self.find_child_for_offset(&self.file[at..], nrows, start)
+    }
+}

@@ -1,6 +1,0 @@
--- What is left of `direct_blocks_fill_their_slots`: the theorem.
-use Rattle.region_laws.proofs.Laws.{directs-fill}
-use Rattle.region_laws.proofs.direct_blocks_fill_their_slots.Goals as goal
-
-pub returns : goal.returns
-returns c = directs-fill

@@ -1,6 +1,0 @@
--- What is left of `indirect_blocks_are_as_planned`: the theorem.
-use Rattle.region_laws.proofs.Laws.{indirects-planned-all}
-use Rattle.region_laws.proofs.indirect_blocks_are_as_planned.Goals as goal
-
-pub returns : goal.returns
-returns c = indirects-planned-all

@@ -1,6 +1,0 @@
--- What is left of `objects_lie_in_their_blocks`: the theorem.
-use Rattle.region_laws.proofs.Laws.{objects-lie}
-use Rattle.region_laws.proofs.objects_lie_in_their_blocks.Goals as goal
-
-pub returns : goal.returns
-returns c = objects-lie

@@ -1,6 +1,0 @@
--- What is left of `regions_are_as_long_as_planned`: the theorem.
-use Rattle.region_laws.proofs.Laws.{regions-fill}
-use Rattle.region_laws.proofs.regions_are_as_long_as_planned.Goals as goal
-
-pub returns : goal.returns
-returns c = regions-fill

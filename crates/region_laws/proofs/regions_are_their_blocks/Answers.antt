@@ -1,6 +1,0 @@
--- What is left of `regions_are_their_blocks`: the theorem.
-use Rattle.region_laws.proofs.Laws.{regions-summed}
-use Rattle.region_laws.proofs.regions_are_their_blocks.Goals as goal
-
-pub returns : goal.returns
-returns c = regions-summed

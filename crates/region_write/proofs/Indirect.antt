@@ -1,0 +1,172 @@
+-- The indirect blocks of a plan's region are as long as the plan says, and lead to all of its direct blocks.
+use Prim.Native.Nat.{ℕ, ◌+◌, ◌≤◌, ◌<◌}
+use mathlib.Core.Path.{◌≡◌, refl, sym, ap, ◌∙◌, subst}
+use mathlib.Core.List.{List, [], ◌∷◌}
+use native.Mathlib.Omega.{arith}
+use native.Mathlib.Nat.{zero-add}
+use native.Mathlib.Decide.{ℕ_discrete}
+use borrow.Author.Tests.{eq-eqb, ne_eqb}
+use Rattle.table.specs.Table.{Table, fixed, row_offset}
+use Rattle.table.specs.Sizes.{indirect_size}
+use Rattle.table_laws.proofs.Format.{slot-least}
+use Rattle.planner.specs.declared.State.{State}
+use Rattle.std.specs.Prelude.{Ok}
+use Rattle.plan.specs.declared.ManagedPlan.{ManagedPlan}
+use Rattle.planner.specs.Steps.{initial, block_end, run, plan_offsets, plan_starts}
+use Rattle.plan.specs.End.{end_state, rows_of_root}
+use Rattle.plan.specs.Answer.{bare_totals, row_totals, totals, planned_for}
+use Rattle.plan.proofs.Answering.{accepted}
+use Rattle.plan.proofs.Room.{Reach, reach, no_rows}
+use Rattle.plan_laws.proofs.Laying.{Laid, end, same, new, blocks, still-ok, starts-some, ran-ok, ran-laid}
+use Rattle.plan_laws.proofs.Root.{no-root-rows, one-block, starts_none}
+use Rattle.plan_laws.proofs.Tally.{tallied}
+use Rattle.region_write.specs.Planned.{IndirectPlanned, BareRegion}
+use Rattle.region_write.proofs.Starts.{Placed, none, more, last_end}
+use Rattle.region_write.proofs.Counting.{opened_by, whole}
+
+-- ---- the blocks that planning places
+
+module _ {t : Table} {w : ℕ} where
+  laid-placed : {s s' : State} {xs os bs : List ℕ} → Laid t w s xs os bs s' → Placed t (block_end s) bs
+  laid-placed end = none
+  laid-placed {s} (same {s₁ = s₁} {bs = bs} P n L) =
+      let a = n.start_is in
+      let b = n.size_is in
+      subst (λ (y : ℕ). Placed t y bs) (let z : block_end s₁ ≡ block_end s = omega arith in z) (laid-placed L)
+  laid-placed (new {s₁ = s₁} {bs = bs} P n L) =
+      more n.after (record { starts = n.starts; inside = n.inside; size_is = refl })
+      (subst (λ (y : ℕ). Placed t (s₁.start + y) bs) n.size_is (laid-placed L))
+
+  -- the last block's end
+  laid_end : {s s' : State} {xs os bs : List ℕ} → Laid t w s xs os bs s' → last_end t (block_end s) bs ≡ block_end s'
+  unfolding last_end
+  laid_end end = refl
+  laid_end {s} (same {s₁ = s₁} {bs = bs} P n L) =
+      let a = n.start_is in
+      let b = n.size_is in
+      ap (λ (y : ℕ). last_end t y bs) (let z : block_end s ≡ block_end s₁ = omega arith in z) ∙ laid_end L
+  laid_end (new {s₁ = s₁} {bs = bs} P n L) = ap (λ (y : ℕ). last_end t (s₁.start + y) bs) (sym n.size_is) ∙ laid_end L
+
+  -- the bytes of the indirect blocks add up
+  laid-opened : {s s' : State} {xs os bs : List ℕ} → Laid t w s xs os bs s' → s'.indirect ≡ s.indirect + opened_by t w (block_end s) bs
+  unfolding opened_by
+  laid-opened {s} end = omega arith
+  laid-opened {s} (same {s₁ = s₁} {bs = bs} P n L) =
+      let a = n.start_is in
+      let b = n.size_is in
+      let c = n.indirect-is in
+      let d = ap (λ (y : ℕ). opened_by t w y bs) (let z : block_end s₁ ≡ block_end s = omega arith in z) in
+      let e = laid-opened L in
+      omega arith
+  laid-opened (new {s₁ = s₁} {bs = bs} P n L) =
+      let c = n.indirect-is in
+      let d = ap (λ (y : ℕ). opened_by t w (s₁.start + y) bs) n.size_is in
+      let e = laid-opened L in
+      omega arith
+
+-- ---- the totals
+
+totals-bare : (w : ℕ) (s : State) → rows_of_root fixed (block_end s) ≡ 0 → totals fixed w s ≡ bare_totals fixed w s
+unfolding totals
+totals-bare w s e = rw (eq-eqb (rows_of_root fixed (block_end s)) 0 e)
+
+totals-rows : (w : ℕ) (s : State) → (rows_of_root fixed (block_end s) ≡ 0 → ⊥) → totals fixed w s ≡ row_totals fixed w s (rows_of_root fixed (block_end s))
+unfolding totals
+totals-rows w s e = rw (ne_eqb (rows_of_root fixed (block_end s)) 0 e)
+
+-- no rows mean the totals of a bare root
+bare-totals : (w : ℕ) (p : ManagedPlan) (s : State) → p ≡ totals fixed w s → p.root_rows ≡ 0 → p ≡ bare_totals fixed w s
+bare-totals w p s q z = go (ℕ_discrete (rows_of_root fixed (block_end s)) 0)
+  where
+    go : Dec (rows_of_root fixed (block_end s) ≡ 0) → p ≡ bare_totals fixed w s
+    go (yes e) = q ∙ totals-bare w s e
+    go (no e) = absurd (e (sym (ap (λ (y : ManagedPlan). y.root_rows) (q ∙ totals-rows w s e)) ∙ z))
+
+-- a plan whose root has rows: they reach the last of its blocks
+pub record Rooted (w : ℕ) (xs : List ℕ) (p : ManagedPlan) : Type 0 where
+  pub state : State
+  pub totals-are : p ≡ row_totals fixed w state p.root_rows
+  pub few : p.root_rows ≤ 29
+  pub placed : Placed fixed 0 (plan_starts fixed w xs)
+  pub reaches : last_end fixed 0 (plan_starts fixed w xs) ≤ row_offset fixed p.root_rows
+  pub opened : state.indirect ≡ opened_by fixed w 0 (plan_starts fixed w xs)
+
+module _ (w x : ℕ) (xs : List ℕ) (p : ManagedPlan) (s : State) (ran : run fixed w (x ∷ xs) ≡ Ok s) (is : p ≡ totals fixed w (end_state fixed w s)) (some : 0 < p.root_rows) where
+  laid-all : Laid fixed w (initial fixed w) (x ∷ xs) (plan_offsets fixed w (x ∷ xs)) (plan_starts fixed w (x ∷ xs)) s
+  laid-all = subst (λ (bs : List ℕ). Laid fixed w (initial fixed w) (x ∷ xs) (plan_offsets fixed w (x ∷ xs)) bs s) (sym (starts-some w (x ∷ xs) (omega arith))) (ran-laid w (x ∷ xs) s ran)
+
+  is-closed : end_state fixed w s ≡ s
+  unfolding end_state
+  is-closed = let c = (blocks laid-all).counted in rw (ne_eqb s.count 0 (λ z. omega arith), end_state)
+
+  rows-reach : rows_of_root fixed (block_end s) ≡ p.root_rows → Reach (block_end s)
+  rows-reach n =
+      let l = slot-least fixed (omega arith) (blocks laid-all).block.slot in
+      reach (block_end s) (omega arith) (still-ok (ran-ok w) laid-all).heap (λ z. omega (arith, no_rows (block_end s) z))
+
+  rooted-some : Rooted w (x ∷ xs) p
+  rooted-some = go (ℕ_discrete (rows_of_root fixed (block_end s)) 0)
+    where
+      are : p ≡ totals fixed w s
+      are = is ∙ ap (totals fixed w) is-closed
+
+      go : Dec (rows_of_root fixed (block_end s) ≡ 0) → Rooted w (x ∷ xs) p
+      go (yes z) = absurd (let e = ap (λ (y : ManagedPlan). y.root_rows) (are ∙ totals-bare w s z) in omega arith)
+      go (no z) =
+          let q = are ∙ totals-rows w s z in
+          let n : rows_of_root fixed (block_end s) ≡ p.root_rows = sym (ap (λ (y : ManagedPlan). y.root_rows) q) in
+          let R = rows-reach n in
+          let m = R.most in
+          let f = R.far in
+          let e = laid_end laid-all in
+          let k = ap (row_offset fixed) n in
+          record {
+            state = s;
+            totals-are = q ∙ ap (row_totals fixed w s) n;
+            few = omega arith;
+            placed = laid-placed laid-all;
+            reaches = omega arith;
+            opened = laid-opened laid-all ∙ zero-add _;
+          }
+
+pub rooted : (xs : List ℕ) (o b w : ℕ) (p : ManagedPlan) → planned_for xs o b w ≡ Ok p → 0 < p.root_rows → Rooted w xs p
+rooted [] o b w p e l = absurd (let z = one-block [] o b w p e (starts_none w) in omega arith)
+rooted (x ∷ xs) o b w p e l = let G = (accepted (x ∷ xs) o b w p e).1 in rooted-some w x xs p G.state G.ran G.totals-is l
+
+-- ---- the theorems
+
+module _ (xs : List ℕ) (o b w : ℕ) (p : ManagedPlan) (e : planned_for xs o b w ≡ Ok p) where
+  -- the root's place is the length of the indirect blocks before it
+  pub indirect-planned : 0 < p.root_rows → (header first directs : ℕ) → IndirectPlanned w xs p header first directs
+  indirect-planned l header first directs =
+      let R = rooted xs o b w p e l in
+      let f = R.few in
+      let i : opened_by fixed w 0 (plan_starts fixed w xs) ≡ p.root_place = sym (ap (λ (y : ManagedPlan). y.root_place) R.totals-are ∙ R.opened) in
+      let W = whole fixed (omega arith) (omega arith) (omega arith) w header p.root_rows (plan_starts fixed w xs) first directs (omega arith) R.placed R.reaches in
+      record {
+        children = W.children-are ∙ i;
+        bytes = W.bytes-are ∙ ap (λ (y : ℕ). y + indirect_size fixed w p.root_rows) i;
+        next = W.next-is ∙ ap (λ (y : ℕ). directs + y) (sym (tallied xs o b w p e).allocated);
+        rest = W.rest-is;
+      }
+
+  -- the region is the indirect blocks, the root the last of them, and the direct blocks
+  pub region-planned : 0 < p.root_rows → p.region_size ≡ p.root_place + indirect_size fixed w p.root_rows + p.allocated_space
+  region-planned l =
+      let q = (rooted xs o b w p e l).totals-are in
+      let r = ap (λ (y : ManagedPlan). y.region_size) q in
+      let i = ap (λ (y : ManagedPlan). y.root_place) q in
+      let a = ap (λ (y : ManagedPlan). y.allocated_space) q in
+      omega arith
+
+  -- or it is the one direct block
+  pub bare-planned : p.root_rows ≡ 0 → BareRegion w xs p
+  bare-planned z =
+      let G = (accepted xs o b w p e).1 in
+      let q = bare-totals w p (end_state fixed w G.state) G.totals-is z in
+      record {
+        blocks = (no-root-rows xs o b w p e z).blocks;
+        region = ap (λ (y : ManagedPlan). y.region_size) q;
+        allocated = ap (λ (y : ManagedPlan). y.allocated_space) q;
+        place = ap (λ (y : ManagedPlan). y.root_place) q;
+      }

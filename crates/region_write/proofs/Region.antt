@@ -1,0 +1,89 @@
+-- Of every plan: the region of its objects is as long as planned, and its root stands at the planned place.
+use Prim.Native.Nat.{ℕ, zero, suc, ◌+◌, ◌<◌}
+use mathlib.Core.Path.{◌≡◌, refl, sym, ap, ◌∙◌}
+use mathlib.Core.Bool.{Bool, true, false, cond}
+use mathlib.Core.List.{List}
+use native.Mathlib.Omega.{arith}
+use lib.Dec.{eqb}
+use lib.ListN.{length, take, drop, length-append}
+use Rattle.fields.proofs.Widths.{legal-small}
+use Rattle.table.specs.Table.{fixed}
+use Rattle.planner.specs.Steps.{plan_offsets, plan_starts}
+use Rattle.planner.specs.declared.State.{State}
+use Rattle.plan.specs.declared.ManagedPlan.{ManagedPlan}
+use Rattle.std.specs.Prelude.{Ok}
+use Rattle.plan.specs.End.{one_block, end_state}
+use Rattle.plan.specs.Answer.{planned_for}
+use Rattle.plan.proofs.Answering.{accepted}
+use Rattle.plan_laws.proofs.Tally.{counted, tallied}
+use Rattle.region_blocks.specs.Site.{site_of}
+use Rattle.region_indirects.specs.Walk.{all_slots}
+use Rattle.region_directs.specs.Directs.{directs}
+use Rattle.region_directs.proofs.Lengths.{directs-length}
+use Rattle.region_write.specs.Region.{indirects, indirect_bytes, region, root_bytes}
+use Rattle.region_write.proofs.Root.{indirects-none, indirects-some, root-bare, root-rows}
+use Rattle.region_write.proofs.Indirect.{indirect-planned, region-planned, bare-planned}
+
+closed-space : (w : ℕ) (s : State) → (end_state fixed w s).allocated ≡ cond (eqb s.count 0) 1024 s.allocated
+unfolding end_state
+closed-space w s = go (eqb s.count 0)
+  where
+    go : (b : Bool) → (cond b (one_block fixed w) s).allocated ≡ cond b 1024 s.allocated
+    go true = refl
+    go false = refl
+
+module _ (xs : List ℕ) (o b w : ℕ) (p : ManagedPlan) (e : planned_for xs o b w ≡ Ok p) where
+  abbrev n : ℕ
+  n = p.root_rows
+
+  abbrev ss : List ℕ
+  ss = plan_starts fixed w xs
+
+  directs-planned : (header : ℕ) (js : List ℕ) → length (directs fixed w header (plan_offsets fixed w xs) xs js ss) ≡ p.allocated_space
+  directs-planned header js =
+      let A = accepted xs o b w p e in
+      let G = A.1 in
+      let l = legal-small w A.0.width in
+      directs-length w header js xs G.state (omega arith) G.ran ∙ sym (closed-space w G.state) ∙ (counted w xs G.state G.ran).sizes-are
+      ∙ sym (tallied xs o b w p e).allocated
+
+  -- the indirect blocks are what the direct ones leave of the region, whatever the addresses in them
+  pub indirects-planned : (header address direct : ℕ) → length (indirects w header n ss address direct) + p.allocated_space ≡ p.region_size
+  indirects-planned header address direct = go n refl
+    where
+      go : (m : ℕ) → n ≡ m → length (indirects w header n ss address direct) + p.allocated_space ≡ p.region_size
+      go zero z =
+          let B = bare-planned xs o b w p e z in
+          let a = ap length (indirects-none w header n ss address direct z) in
+          omega (arith, B.region, B.allocated)
+      go (suc m) z =
+          let l : 0 < n = omega arith in
+          let a = ap length (indirects-some w header n ss address direct l) in
+          let c = (indirect-planned xs o b w p e l header address direct).bytes in
+          let d = region-planned xs o b w p e l in
+          omega arith
+
+  pub indirect-bytes : (header : ℕ) → indirect_bytes w header n ss + p.allocated_space ≡ p.region_size
+  unfolding indirect_bytes
+  indirect-bytes header = indirects-planned header 0 0
+
+  module _ (header address : ℕ) (js : List ℕ) where
+    -- the region is as long as planned, for objects of any bytes
+    pub region-length : length (region (site_of w header address) n xs js) ≡ p.region_size
+    unfolding region
+    region-length =
+        let d : ℕ = address + indirect_bytes w header n ss in
+        length-append (indirects w header n ss address d) (directs fixed w header (plan_offsets fixed w xs) xs js ss)
+        ∙ (let a = indirects-planned header address d in let c = directs-planned header js in omega arith)
+
+    -- and the root's bytes begin at the planned place
+    pub root-place : take (length (root_bytes (site_of w header address) n xs js)) (drop p.root_place (region (site_of w header address) n xs js)) ≡ root_bytes (site_of w header address) n xs js
+    root-place = go n refl
+      where
+        go : (m : ℕ) → n ≡ m → take (length (root_bytes (site_of w header address) n xs js)) (drop p.root_place (region (site_of w header address) n xs js)) ≡ root_bytes (site_of w header address) n xs js
+        go zero z = rw (z, (bare-planned xs o b w p e z).place) (root-bare w header address xs js)
+        go (suc m) z =
+            let l : 0 < n = omega arith in
+            let d : ℕ = address + indirect_bytes w header n ss in
+            let c : length (all_slots fixed w header (suc m) 0 ss address (address + indirect_bytes w header (suc m) ss)).bytes ≡ p.root_place = rw z at (indirect-planned xs o b w p e l header address d).children in
+            rw z (root-rows w header address m xs js p.root_place c)

@@ -1,0 +1,23 @@
+-- What the theorems say of a plan's region.
+use Rattle.std.specs.Prelude.{ℕ, ◌+◌, ◌≡◌, List, [], ◌∷◌, length}
+use Rattle.table.specs.Table.{fixed}
+use Rattle.table.specs.Sizes.{indirect_size}
+use Rattle.plan.specs.declared.ManagedPlan.{ManagedPlan}
+use Rattle.planner.specs.Steps.{plan_starts}
+use Rattle.region_indirects.specs.Walk.{all_slots, block}
+
+-- the indirect blocks of the plan p of the sizes xs, the first at the address `first`, where the direct blocks
+-- begin at the address `directs`: how long those before the root are, and all of them, the address behind the
+-- direct blocks, and no direct block without an entry
+pub record IndirectPlanned (w : ℕ) (xs : List ℕ) (p : ManagedPlan) (header first directs : ℕ) : Type 0 where
+  pub children : length (all_slots fixed w header p.root_rows 0 (plan_starts fixed w xs) first directs).bytes ≡ p.root_place
+  pub bytes : length (block fixed w header p.root_rows 0 (plan_starts fixed w xs) first directs).bytes ≡ p.root_place + indirect_size fixed w p.root_rows
+  pub next : (block fixed w header p.root_rows 0 (plan_starts fixed w xs) first directs).next ≡ directs + p.allocated_space
+  pub rest : (block fixed w header p.root_rows 0 (plan_starts fixed w xs) first directs).rest ≡ []
+
+-- the region of a root without rows is the one block
+pub record BareRegion (w : ℕ) (xs : List ℕ) (p : ManagedPlan) : Type 0 where
+  pub blocks : plan_starts fixed w xs ≡ 0 ∷ []
+  pub region : p.region_size ≡ 1024
+  pub allocated : p.allocated_space ≡ 1024
+  pub place : p.root_place ≡ 0

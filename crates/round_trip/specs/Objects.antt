@@ -1,0 +1,32 @@
+-- Reading an object of a heap by the ID that the writer gives it.
+use Rattle.std.specs.Prelude.{ℕ, List, Result}
+use Rattle.refusals.specs.Steps.{◌>>=◌}
+use Rattle.refusals.specs.declared.FormatError.{FormatError}
+use Rattle.table.specs.Table.{fixed}
+use Rattle.reading.specs.declared.walk.place.Place.{Place}
+use Rattle.fractal_heap.specs.declared.header.FractalHeapHeader.{FractalHeapHeader}
+use Rattle.fractal_heap.specs.Read.{managed_at}
+use Rattle.ids.specs.Written.{managed_id}
+use Rattle.ids.specs.Checks.{id_length, id_checked}
+
+-- the header of an unfiltered heap with the fixed geometry, with its root and the root's rows; no reader heeds the
+-- other fields
+abbrev pub fixed_header : ℕ → ℕ → FractalHeapHeader
+fixed_header root rows = record {
+  heap_id_length = 4097;
+  io_filter_encoded_length = 0;
+  max_managed_object_size = 7;
+  btree_huge_objects_address = 0x123456789ABCDEF;
+  managed_objects_count = 77777;
+  table = record { table_width = 4; starting_block_size = 1024; max_direct_block_size = 65536; max_heap_size = 40 };
+  start_root_rows = 999;
+  root_block_address = root;
+  current_rows_in_root_indirect_block = rows;
+}
+
+-- what the file s answers for the object of n bytes at the heap offset o, by its ID; in eight bytes an ID is refused
+-- by 16 alone
+unfoldable pub object_at : FractalHeapHeader → List ℕ → ℕ → ℕ → ℕ → Result Place FormatError
+object_at h s w o n = do
+  _ ← id_checked fixed o n (id_length fixed)
+  managed_at h s (managed_id fixed o n) w

@@ -1,0 +1,39 @@
+//! A region written into a part of a file: the part from the region's address on is lent to the writer.
+ghost use Rattle.std.specs.Prelude.{◌≡◌, IfOk, OnOk, OnErr};
+ghost use Rattle.fields.specs.LittleEndian.{put};
+ghost use Rattle.table.specs.Table.{fixed};
+ghost use Rattle.planner.specs.Steps.{plan_offsets, plan_starts};
+ghost use Rattle.region_write.specs.Region.{region};
+ghost use Rattle.fractal_heap_write.specs.Answer.{serialized_for};
+ghost use Rattle.round_trip.specs.InFile.{lent_in};
+
+use fractal_heap_write::serialize;
+use plan::ManagedPlan;
+use refusals::FormatError;
+use region_blocks::Site;
+
+/// Writes the region of the objects into `file` from the region's address on, as `serialize` does. A refusal leaves all
+/// that is lent as it was.
+pub fn serialize_at(
+    sizes: &[u64],
+    objects: &[u8],
+    site: Site,
+    offsets: &mut [u64],
+    blocks: &mut [u64],
+    file: &mut [u8],
+) -> Result<ManagedPlan, FormatError>
+    ensures answer { result
+        ≡ serialized_for sizes.now (lent_in site offsets.old blocks.old objects.now file.old) site }
+    ensures written { IfOk result (λ plan. file.new
+        ≡ put file.old site.region_address (region site plan.root_rows sizes.now objects.now)) }
+    ensures offsets_listed { OnOk result (offsets.new
+        ≡ put offsets.old 0 (plan_offsets fixed site.offset_size sizes.now)) }
+    ensures blocks_listed { OnOk result (blocks.new
+        ≡ put blocks.old 0 (plan_starts fixed site.offset_size sizes.now)) }
+    ensures untouched { OnErr result ((offsets.new ≡ offsets.old) × (blocks.new ≡ blocks.old)
+        × (file.new ≡ file.old)) }
+{
+    // at the file's end where the address lies past it
+    let start = (site.region_address as usize).min(file.len());
+    serialize(sizes, objects, site, offsets, blocks, &mut file[start..])
+}

@@ -1,0 +1,30 @@
+//! The sizes of block headers, of the largest object and of indirect blocks at the fixed geometry. The function
+//! with a `requires` serves our own crates and is no part of the interface.
+ghost use Rattle.std.specs.Prelude.{◌≡◌, ◌^◌, ◌<◌};
+ghost use Rattle.table.specs.Table.{fixed};
+ghost use Rattle.table.specs.Sizes.{direct_header, max_managed, indirect_size};
+
+/// The bytes of a direct block before its objects.
+#[tactic(auto, unfolding(crate::specs::Sizes::direct_header, crate::specs::Sizes::offset_bytes))]
+pub fn direct_block_header(offset_size: u8) -> u64
+    ensures { result ≡ direct_header fixed offset_size }
+{
+    offset_size as u64 + 14
+}
+
+/// The largest object that a direct block holds.
+#[tactic(auto, unfolding(crate::specs::Sizes::max_managed, crate::specs::Sizes::direct_header, crate::specs::Sizes::offset_bytes))]
+pub fn max_managed_object(offset_size: u8) -> u64
+    ensures { result ≡ max_managed fixed offset_size }
+{
+    65_536 - direct_block_header(offset_size)
+}
+
+/// The bytes of an indirect block of `nrows` rows.
+#[tactic(auto, unfolding(crate::specs::Sizes::indirect_size, crate::specs::Sizes::offset_bytes))]
+pub fn indirect_block_size(nrows: u64, offset_size: u8) -> u64
+    requires { nrows < 2 ^ 16 }
+    ensures { result ≡ indirect_size fixed offset_size nrows }
+{
+    14 + offset_size as u64 + nrows * 4 * offset_size as u64
+}

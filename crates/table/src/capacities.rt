@@ -1,0 +1,54 @@
+//! How many object bytes the rows of the table hold. Functions with a `requires` serve our own crates and are
+//! no part of the interface.
+ghost use Rattle.std.specs.Prelude.{◌≡◌, ◌-◌, ◌*◌, ◌^◌, ◌<◌, ◌≤◌, nat_le, if◌then◌else◌, take};
+ghost use Rattle.table.specs.Table.{fixed, row_bits};
+ghost use Rattle.table.specs.Sizes.{direct_header};
+ghost use Rattle.numbers.specs.Sums.{sum};
+ghost use Rattle.table.specs.Capacity.{capacities};
+
+use crate::block_sizes::direct_block_header;
+use crate::{is_direct, row_block_size};
+
+// What a block of a row holds, `below` being what the blocks of the rows that fill an indirect one hold,
+// one of each row.
+fn block_capacity(row: u64, below: u64, header: u64) -> u64
+    requires row_of_root { row < 29 }
+    requires below_in_heap { below ≤ 2 ^ 40 }
+    requires header_in_block { header ≤ 1024 }
+    ensures { result
+        ≡ if nat_le (row_bits fixed row) 16 then 2 ^ row_bits fixed row - header else 4 * below }
+{
+    if is_direct(row) {
+        row_block_size(row) - header
+    } else {
+        4 * below
+    }
+}
+
+/// What a block of each row holds, upward: an indirect row's blocks hold what the rows below that fill
+/// them hold. Rows 0 and 1 are alike and filled at once.
+pub fn rows_capacity(offset_size: u8) -> [u64; 29]
+    ensures { result ≡ capacities fixed (direct_header fixed offset_size) 29 }
+{
+    let header = direct_block_header(offset_size);
+    let mut per_block = [1024 - header; 29];
+    let mut below = 0;
+    for row in 2..29 {
+        per_block[row] = block_capacity(row as u64, below, header);
+        below += per_block[row - 2];
+    }
+    per_block
+}
+
+/// What `nrows` rows hold, from the capacities of their blocks.
+pub fn capacity_sum(per_block: [u64; 29], nrows: usize) -> u64
+    requires rows_of_root { nrows ≤ 29 }
+    requires sum_in_heap { 4 * sum (take nrows per_block) ≤ 2 ^ 40 }
+    ensures { result ≡ 4 * sum (take nrows per_block) }
+{
+    let mut total = 0;
+    for row in 0..nrows {
+        total += per_block[row];
+    }
+    4 * total
+}

@@ -1,0 +1,78 @@
+//! The slots of the table: the one that holds an offset, and the indirect blocks that a direct block opens.
+//! The functions have a `requires`; they serve our own crates and are no part of the interface.
+ghost use Rattle.std.specs.Prelude.{◌≡◌, ◌^◌, ◌<◌, ◌≤◌, nat_le, if◌then◌else◌};
+ghost use Rattle.table.specs.Table.{fixed, row_of};
+ghost use Rattle.table.specs.Sizes.{indirect_size};
+ghost use Rattle.table.specs.Slots.{table_slot, slot_at, entered_bytes};
+
+use crate::block_sizes::indirect_block_size;
+use crate::row_counts::size_to_rows;
+use crate::{Slot, TableSlot, is_direct, lookup, row_block_size, row_offset};
+
+/// The table's own slot that holds an offset.
+pub fn table_slot(offset: u64) -> TableSlot
+    requires { offset < 2 ^ 40 }
+    ensures { result ≡ table_slot fixed offset }
+{
+    let at = lookup(offset);
+    let size = row_block_size(at.row);
+    TableSlot {
+        row: at.row,
+        start: row_offset(at.row) + at.col * size,
+        size,
+    }
+}
+
+/// The direct slot that holds an offset.
+pub fn locate(offset: u64) -> Slot
+    requires { offset < 2 ^ 40 }
+    ensures { result ≡ slot_at fixed offset }
+{
+    let mut base = 0;
+    let mut local = offset;
+    loop {
+        let at = table_slot(local);
+        if is_direct(at.row) {
+            return Slot {
+                start: base + at.start,
+                size: at.size,
+            };
+        }
+        base += at.start;
+        local -= at.start;
+    }
+}
+
+// The bytes of an indirect block in a slot of `size` bytes that begins at `start`, or 0 where the block
+// before, which ended at `end`, lies in it too.
+fn entered_here(end: u64, start: u64, size: u64, offset_size: u8) -> u64
+    requires { size ≤ 2 ^ 40 }
+    ensures { result
+        ≡ if nat_le end start then indirect_size fixed offset_size (row_of fixed size) else 0 }
+{
+    if end <= start {
+        indirect_block_size(size_to_rows(size), offset_size)
+    } else {
+        0
+    }
+}
+
+/// The bytes of the indirect blocks that a direct block at `start` opens, where the one before ended at
+/// `end`.
+pub fn entered_blocks(end: u64, start: u64, offset_size: u8) -> u64
+    requires { start < 2 ^ 40 }
+    ensures { result ≡ entered_bytes fixed offset_size end start }
+{
+    let mut total = 0;
+    let mut base = 0;
+    let mut local = start;
+    loop {
+        let at = table_slot(local);
+        if is_direct(at.row) {
+            return total;
+        }
+        base += at.start;
+        local -= at.start;
+        total += entered_here(end, base, at.size, offset_size);
+    }
+}

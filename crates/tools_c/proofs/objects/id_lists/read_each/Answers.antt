@@ -1,0 +1,16 @@
+-- What is left of `read_each`: at the start all is left to store, each turn stores one answer, at the end none is left.
+use Rattle.std.proofs.Common.{sym, ap, ◌∙◌, arith}
+use Rattle.refusals.specs.Refusals.{report_of}
+use Rattle.reading.specs.Walk.{place_report}
+use Rattle.tools_c.proofs.Storing.{rest-start, rest_more, rest-done}
+use Rattle.tools_c.proofs.objects.id_lists.read_each.Goals as goal
+
+pub loop-i-init : goal.loop-i-init
+loop-i-init c = rest-start _ _ _ _ _ _ c.requires
+
+pub loop-i-preserved : goal.loop-i-preserved
+loop-i-preserved c =
+    c.loop-i.invariant ∙ rest_more _ _ _ _ _ _ _ _ _ (omega arith) c.from.ensures (c.answer-a.ensures ∙ ap (report_of place_report) c.read_managed_object.ensures.value)
+
+pub returns : goal.returns
+returns c = sym (c.loop-i.invariant ∙ rest-done _ _ _ _ _ _ _ (omega arith))

@@ -1,0 +1,10 @@
+//! C functions for the command, the tests and the comparisons; the loader's functions are apart from these. Each that may
+//! be refused returns the refusal's number, 0 where there is none.
+#![tactic(auto)]
+
+pub mod checksums;
+pub mod field_reads;
+pub mod headers;
+pub mod objects;
+pub mod stores;
+pub mod writing;

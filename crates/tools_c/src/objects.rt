@@ -1,0 +1,106 @@
+//! IDs and objects.
+mod id_lists;
+
+ghost use Rattle.std.specs.Prelude.{◌≡◌};
+ghost use Rattle.refusals.specs.Refusals.{report_of};
+ghost use Rattle.fields.specs.Slot.{slot_number, slot_bytes};
+ghost use Rattle.reading.specs.Walk.{place_report};
+ghost use Rattle.fractal_heap.specs.Header.{header_at};
+ghost use Rattle.fractal_heap.specs.Read.{object_by};
+ghost use Rattle.ids.specs.IdTypes.{id_type, type_report};
+ghost use Rattle.ids.specs.Tiny.{tiny_at};
+ghost use Rattle.tools_c.specs.ObjectTools.{each_number, each_list};
+
+use crate::objects::id_lists::read_each;
+use fields::convert::to_usize;
+use fields::slot::put_answer;
+use fractal_heap::header::FractalHeapHeader;
+use ids::tiny::read_tiny_object;
+use reading::walk::place::Place;
+use refusals::{FormatError, Reported};
+
+fn read(
+    file: &[u8],
+    at: u64,
+    offset_size: u8,
+    length_size: u8,
+    read_size: u8,
+    id: &[u8],
+) -> Result<Place, FormatError>
+    ensures { result ≡ object_by file.now at offset_size length_size id.now read_size }
+{
+    let header = FractalHeapHeader::parse(file, to_usize(at), offset_size, length_size)?;
+    header.read_managed_object(file, id, read_size)
+}
+
+/// Reading with an offset size of its own, which may be any byte.
+#[unsafe(no_mangle)]
+pub extern "C" fn tools_read_managed_object(
+    file: &[u8],
+    at: u64,
+    offset_size: u8,
+    length_size: u8,
+    read_size: u8,
+    id: &[u8],
+    slot: &mut [u8],
+) -> u32
+    ensures number { result ≡ slot_number slot.old
+        (report_of place_report
+        (object_by file.now at offset_size length_size id.now read_size)) }
+    ensures slot_after { slot.new ≡ slot_bytes slot.old
+        (report_of place_report
+        (object_by file.now at offset_size length_size id.now read_size)) }
+{
+    put_answer(
+        slot,
+        read(file, at, offset_size, length_size, read_size, id).answer(),
+    )
+}
+
+/// Where a tiny object lies in its ID, and its length.
+#[unsafe(no_mangle)]
+pub extern "C" fn tools_read_tiny_object(heap_id_length: u16, id: &[u8], slot: &mut [u8]) -> u32
+    ensures number { result
+        ≡ slot_number slot.old (report_of place_report (tiny_at heap_id_length id.now)) }
+    ensures slot_after { slot.new
+        ≡ slot_bytes slot.old (report_of place_report (tiny_at heap_id_length id.now)) }
+{
+    put_answer(slot, read_tiny_object(heap_id_length, id).answer())
+}
+
+/// The type's number is the first value.
+#[unsafe(no_mangle)]
+pub extern "C" fn tools_heap_id_type(id: &[u8], slot: &mut [u8]) -> u32
+    ensures number { result ≡ slot_number slot.old (report_of type_report (id_type id.now)) }
+    ensures slot_after { slot.new ≡ slot_bytes slot.old (report_of type_report (id_type id.now)) }
+{
+    put_answer(slot, FractalHeapHeader::heap_id_type(id).answer())
+}
+
+/// The header once, then every ID; 13 and nothing stored where the list is too short for all.
+#[tactic(auto, unfolding(crate::specs::ObjectTools::too_few, crate::specs::ObjectTools::each_number, crate::specs::ObjectTools::each_list))]
+#[unsafe(no_mangle)]
+pub extern "C" fn tools_read_each(
+    file: &[u8],
+    at: u64,
+    offset_size: u8,
+    length_size: u8,
+    ids: &[u8],
+    found: &mut [u64],
+) -> u32
+    ensures number { result
+        ≡ each_number found.old ids.now (header_at file.now at offset_size length_size) }
+    ensures found_after { found.new ≡ each_list found.old ids.now file.now offset_size
+        (header_at file.now at offset_size length_size) }
+{
+    if found.len() / 3 < ids.len() / 8 {
+        return 13;
+    }
+    match FractalHeapHeader::parse(file, to_usize(at), offset_size, length_size) {
+        Ok(h) => {
+            read_each(&h, file, offset_size, ids, found);
+            0
+        }
+        Err(e) => e.answer().number,
+    }
+}

@@ -1,9 +1,0 @@
--- What is left to store, stored from here, is the whole store.
-use Rattle.std.proofs.Common.{◌≡◌, ◌*◌, ◌++◌, drop}
-use Rattle.tools_objects.specs.ObjectNumbers.{answers_from}
-use Rattle.tools_objects.proofs.Stores.{rest}
-use Rattle.tools_objects.proofs.id_lists.read_each.Given as goal
-
-abbrev pub invariant-loop-i : goal.invariant-loop-i
-invariant-loop-i l =
-    answers_from l.h l.file l.offset_size l.n l.ids ++ drop (3 * l.n) l.fn.found ≡ rest l.h l.file l.offset_size l.found l.ids l.n l.i

@@ -1,2 +1,0 @@
-pub mod ObjectNumbers
-pub mod ObjectTools
