@@ -3,7 +3,6 @@ definitions, its must-fail edits, and the lists of functions in docs."""
 import re
 from pathlib import Path
 
-ROOT = Path(__file__).resolve().parent.parent
 FUNCTION = re.compile(r'^( *)(pub(?:\(\w+\))? )?((?:const |unsafe |extern "\w+" )*)fn (\w+)', re.M)
 IMPL = re.compile(r"^impl(?:<[^>]*>)? (?:([\w:]+) for )?(\w+|\(\))(?:<[^>]*>)? \{.*?^\}", re.M | re.S)
 TRAIT = re.compile(r"^pub trait (\w+)", re.M)
