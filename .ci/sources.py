@@ -28,7 +28,7 @@ class Function(Part):
         self.lines = range(self.lines.start, self.lines.stop + 1)
         attributes = re.search(r"(?: *#\[.*\]\n)*\Z", whole[: match.start()])[0]
         self.told_at = range(self.lines.start - attributes.count("\n"), self.lines.stop)  # an error's line
-        self.public, self.of_c = public, "extern" in kind
+        self.public, self.of_c, self.of_trait = public, "extern" in kind, ""
         self.contract, _, self.body = self.text.partition(f"\n{indent}{{")
         self.asks = re.search(r"^ +requires( \w+)? \{", self.contract, re.M) is not None
         self.is_law = last[0].endswith("{}") and whole[match.end() :].startswith("()")  # it is given and does nothing
@@ -39,11 +39,16 @@ def line_at(text, position):
 
 
 def functions(file, text, traits):
-    """The functions of a file. What a type has of a public trait of ours is public, too."""
-    impls = [(m.start(), m.end(), m[2], m[1] in traits) for m in IMPL.finditer(text)]
+    """The functions of a file. What a type has of a public trait of ours is public, too, and promises what the trait says
+    of the ghost members that the type gives."""
+    impls = list(IMPL.finditer(text))
     for m in FUNCTION.finditer(text):
-        owner, of_trait = next(((name + "::", t) for start, end, name, t in impls if start < m.start() < end), ("", False))
-        yield Function(file, owner + m[4], text, m, m[2] == "pub " or of_trait)
+        impl = next((impl for impl in impls if impl.start() < m.start() < impl.end()), None)
+        of_trait = impl is not None and impl[1] in traits
+        function = Function(file, f"{impl[2]}::{m[4]}" if impl else m[4], text, m, m[2] == "pub " or of_trait)
+        if of_trait:
+            function.of_trait = "".join(re.findall(r"^ +ghost \w+ = \{[^}]*\};\n", impl[0], re.M))
+        yield function
 
 
 def constants(file, text):
