@@ -6,6 +6,7 @@ import runpy
 import shutil
 import sys
 import tempfile
+import unittest
 from pathlib import Path
 from unittest import mock
 
@@ -46,3 +47,13 @@ class Repository:
 
     def close(self):
         self.room.cleanup()
+
+
+def run_tests(title):
+    """Runs the tests of the script that is run, and says in a line how many held."""
+    told = io.StringIO()
+    result = unittest.main(exit=False, testRunner=unittest.TextTestRunner(told)).result
+    if not result.wasSuccessful():
+        print(told.getvalue())
+        sys.exit(1)
+    print(f"{title}: {result.testsRun} tests held")
