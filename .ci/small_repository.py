@@ -10,7 +10,7 @@ import unittest
 from pathlib import Path
 from unittest import mock
 
-SCRIPTS = Path(os.environ.get("SCRIPTS", Path(__file__).resolve().parent))  # others can be tried in their place
+SCRIPTS = Path(os.environ.get("TRIED_SCRIPTS", Path(__file__).resolve().parent))  # others can be tried in their place
 
 
 class Repository:

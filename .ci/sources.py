@@ -3,8 +3,8 @@ definitions, its must-fail edits, and the lists of functions in docs."""
 import re
 from pathlib import Path
 
-FUNCTION = re.compile(r'^( *)(pub(?:\(\w+\))? )?((?:const |unsafe |extern "\w+" )*)fn (\w+)', re.M)
-IMPL = re.compile(r"^impl(?:<[^>]*>)? (?:([\w:]+) for )?(\w+|\(\))(?:<[^>]*>)? \{.*?^\}", re.M | re.S)
+FUNCTION = re.compile(r'^( *)(pub(?:\([^)]*\))? )?((?:const |unsafe |extern (?:"[^"]*" )?)*)fn (\w+)', re.M)
+IMPL = re.compile(r"^impl(?:<[^>]*>)? (?:([\w:]+)(?:<[^>]*>)? for )?(\w+|\(\))(?:<[^>]*>)? \{.*?^\}", re.M | re.S)
 TRAIT = re.compile(r"^pub trait (\w+)", re.M)
 CONSTANT = re.compile(r"^(?:pub )?const (\w+):[^;]*;", re.M)
 DEFINITION = re.compile(r"^(?:  )?(?:unfoldable |abbrev )?(?:pub )?(?:(?:record|data) ([^\s:(]+)|([^\s:(]+) :)", re.M)
