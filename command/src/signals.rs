@@ -1,7 +1,7 @@
 //! What reaches the program from outside: a mapped file that fails, Ctrl-C, a limit on the size of files.
 //!
 //! A handler may come at any moment, so it only loads two pointers and calls what a handler may call: write, unlink,
-//! raise and _exit.
+//! signal, raise, pthread_sigmask and _exit. Neither handler returns: nothing goes on whose file is gone.
 use libc::{c_char, c_int};
 use std::ffi::CString;
 use std::os::unix::ffi::OsStrExt;
@@ -24,11 +24,12 @@ pub fn install() {
     unsafe {
         // A write past the limit then fails as one on a full disk does, and what was written is taken away.
         libc::signal(libc::SIGXFSZ, libc::SIG_IGN);
-        handle(libc::SIGBUS, mapped_failed);
+        // Ending signals may come in this handler: it may have to wait until its words are taken.
+        handle(libc::SIGBUS, mapped_failed, &[]);
         for signal in ENDING {
             // Whoever started us may want it ignored.
             if !is_ignored(signal) {
-                handle(signal, ended);
+                handle(signal, ended, &ENDING);
             }
         }
     }
@@ -42,34 +43,58 @@ fn is_ignored(signal: c_int) -> bool {
     }
 }
 
-/// Sets a handler that is taken off when it is called.
-unsafe fn handle(signal: c_int, handler: extern "C" fn(c_int)) {
-    // SAFETY: all of sigaction is plain numbers, and zeros are an empty mask.
+/// A set of signals. A handler may call it.
+fn set(signals: &[c_int]) -> libc::sigset_t {
+    // SAFETY: a set of signals is plain numbers.
+    unsafe {
+        let mut set: libc::sigset_t = std::mem::zeroed();
+        libc::sigemptyset(&mut set);
+        for &signal in signals {
+            libc::sigaddset(&mut set, signal);
+        }
+        set
+    }
+}
+
+/// Sets a handler that stays set. While it runs, its signal and those of `blocked` wait.
+///
+/// With SA_RESETHAND the system would take it off as it takes the signal, and only then block the signal: the same
+/// signal once more in between ends the program before the handler has begun, and what is half written is left.
+unsafe fn handle(signal: c_int, handler: extern "C" fn(c_int), blocked: &[c_int]) {
+    // SAFETY: all of sigaction is plain numbers, and zeros are no flags.
     unsafe {
         let mut action: libc::sigaction = std::mem::zeroed();
         action.sa_sigaction = handler as *const () as usize;
-        action.sa_flags = libc::SA_RESETHAND;
+        action.sa_mask = set(blocked);
         libc::sigaction(signal, &action, null_mut());
     }
 }
 
-/// The bytes of a mapped file cannot be had: it was cut short meanwhile, or its disk failed.
+/// The bytes of a mapped file cannot be had: it was cut short meanwhile, or its disk failed. Should the handler itself
+/// meet such bytes, the system ends the program, since the signal is blocked.
 extern "C" fn mapped_failed(_: c_int) {
     let words = MAPPED.get().map_or("poilures: a bus error\n", |w| w);
     // SAFETY: the words are not changed once they are set.
     unsafe {
-        libc::write(2, words.as_ptr().cast(), words.len());
         remove_unfinished();
+        libc::write(2, words.as_ptr().cast(), words.len());
         libc::_exit(2);
     }
 }
 
-/// Takes away what is half written, and ends as the signal does.
+/// Takes away what is half written, and ends as the signal does. The signal gets its default back only when the file is
+/// gone: from then on it is deadly wherever it comes. All that end the program are blocked here, so of several that
+/// come the first that was taken tells how the program ended.
 extern "C" fn ended(signal: c_int) {
-    // SAFETY: the handler is taken off by now, so the signal ends the program.
+    // SAFETY: a handler may call all of these, and the set outlives the call.
     unsafe {
         remove_unfinished();
+        libc::signal(signal, libc::SIG_DFL);
         libc::raise(signal);
+        // It is raised but blocked; here it comes, and the others still wait.
+        libc::pthread_sigmask(libc::SIG_UNBLOCK, &set(&[signal]), null_mut());
+        // The first process of a container is not ended by a default.
+        libc::_exit(128 + signal);
     }
 }
 
@@ -83,15 +108,10 @@ unsafe fn remove_unfinished() {
 
 /// Does something that no ending signal comes between; it comes after.
 pub fn uninterrupted<T>(work: impl FnOnce() -> T) -> T {
-    // SAFETY: a set of signals is plain numbers, and both sets outlive the calls.
+    let mut before = set(&[]);
+    // SAFETY: both sets outlive the calls.
     unsafe {
-        let mut ending: libc::sigset_t = std::mem::zeroed();
-        let mut before: libc::sigset_t = std::mem::zeroed();
-        libc::sigemptyset(&mut ending);
-        for signal in ENDING {
-            libc::sigaddset(&mut ending, signal);
-        }
-        libc::pthread_sigmask(libc::SIG_BLOCK, &ending, &mut before);
+        libc::pthread_sigmask(libc::SIG_BLOCK, &set(&ENDING), &mut before);
         let done = work();
         libc::pthread_sigmask(libc::SIG_SETMASK, &before, null_mut());
         done
