@@ -23,7 +23,10 @@ class Function(Part):
 
     def __init__(self, file, name, whole, match, public):
         indent, _, kind, _ = match.groups()
-        last = re.compile(rf"\n{indent}(?:\{{\}}|\}})").search(whole, match.start())  # rt fmt writes an empty body as {}
+        # rt fmt writes an empty body as {}, behind a signature without clauses in its line; a trait's function may have none
+        opened = re.compile(rf"\n{indent}\{{|\{{\}}?$|;$", re.M).search(whole, match.start())
+        whole_body = re.compile(rf"\n{indent}(?:\{{\}}|\}})")
+        last = opened if opened[0] in ("{}", ";") else whole_body.search(whole, match.start())
         super().__init__(file, name, whole, match.start(), last.start())
         self.lines = range(self.lines.start, self.lines.stop + 1)
         attributes = re.search(r"(?: *#\[.*\]\n)*\Z", whole[: match.start()])[0]
@@ -31,7 +34,7 @@ class Function(Part):
         self.public, self.of_c, self.of_trait = public, "extern" in kind, ""
         self.contract, _, self.body = self.text.partition(f"\n{indent}{{")
         self.asks = re.search(r"^ +requires( \w+)? \{", self.contract, re.M) is not None
-        self.is_law = last[0].endswith("{}") and whole[match.end() :].startswith("()")  # it is given and does nothing
+        self.is_law = last[0] == f"\n{indent}{{}}" and whole[match.end() :].startswith("()")  # it is given and does nothing
 
 
 def line_at(text, position):

@@ -103,3 +103,6 @@ pub extern "C" fn fractal_heap_read_managed_object(
 {
     put_answer(slot, read(file, at, offset_size, length_size, id).answer())
 }
+
+#[cfg(test)]
+mod tests;

@@ -1,14 +1,14 @@
 -- Whatever the writer accepts comes back, all of it: the count of what comes back is that of the nonempty objects.
 use Prim.Native.Nat.{ℕ, suc, ◌+◌, ◌-◌, ◌^◌, ◌≤◌, ◌<◌}
 use mathlib.Core.Path.{◌≡◌, refl, sym, ap, ap₂, ◌∙◌, subst}
-use mathlib.Core.Bool.{true}
+use mathlib.Core.Bool.{Bool, true, false}
 use mathlib.Core.List.{List, [], ◌∷◌, ◌++◌}
 use native.Mathlib.Omega.{arith}
 use native.Mathlib.Decide.{ℕ_discrete, dec_le}
 use lib.ListN.{length, take, drop, get_or, length-append, length-drop, get_or-append}
 use lib.Seq.{drop-drop}
 use lib.Dec.{ltb}
-use borrow.Author.Tests.{lt-ltb, le-ltb, le-leb, eq-eqb}
+use borrow.Author.Tests.{lt-ltb, le-ltb}
 use Rattle.table.specs.Table.{fixed}
 use Rattle.numbers.specs.Sums.{sum, bit}
 use Rattle.planner.specs.Steps.{plan_offsets}
@@ -21,15 +21,11 @@ use Rattle.region_write.specs.Region.{region}
 use Rattle.region_write.proofs.Region.{region-length}
 use Rattle.fractal_heap_write.proofs.Answering.{below-undefined}
 use Rattle.fractal_heap.specs.declared.header.FractalHeapHeader.{FractalHeapHeader}
-use Rattle.fractal_heap.proofs.ReadLaws.{read-in-file}
-use Rattle.ids.specs.Written.{managed_id}
-use Rattle.round_trip.specs.Back.{holds_at, comes_back}
-use Rattle.round_trip.specs.Backs.{back_one, backs}
+use Rattle.round_trip.specs.Backs.{comes_back, backs}
 use Rattle.round_trip.specs.Objects.{object_at}
 use Rattle.ids.specs.Checks.{id_length}
 use Rattle.table.specs.Sizes.{offset_bytes}
 use Rattle.std.proofs.lemmas.Slice.Eq.{bytes_eq-Decides}
-use Rattle.round_trip.proofs.Backs.{one-empty, one-nonempty}
 use Rattle.heap_kept.specs.HeapKept.{Call, Written, HoldsRegion, HeaderOf, ComesBack, part_of}
 use Rattle.heap_kept.proofs.FromRoot.{planned, tests, width-legal}
 use Rattle.heap_kept.proofs.Theorem.{heap-kept}
@@ -37,14 +33,14 @@ use Rattle.round_trip.specs.RoundTrip.{nonempty}
 
 -- ---- one object
 
-module _ (h : FractalHeapHeader) (F : List ℕ) (w o x : ℕ) (bs : List ℕ) (C : ComesBack F h w o x bs) where
-  came : comes_back h F w o x bs ≡ true
-  unfolding comes_back holds_at object_at id_length offset_bytes
-  came =
-      rw (C.id-accepted 8 (omega arith), C.read, eq-eqb x x refl, le-leb (C.position + x) (length F) (read-in-file h F (managed_id fixed o x) w C.position x C.read), C.same, (bytes_eq-Decides bs bs).1 refl)
+module _ (h : FractalHeapHeader) (F : List ℕ) (w o x : ℕ) (bs : List ℕ) where
+  came : 0 < x → ComesBack F h w o x bs → comes_back h F w o x bs ≡ true
+  unfolding comes_back object_at id_length offset_bytes
+  came s C = rw (lt-ltb 0 x s, C.id-accepted 8 (omega arith), C.read, C.same, (bytes_eq-Decides bs bs).1 refl)
 
-  one-back : 0 < x → back_one h F w o x bs ≡ 1
-  one-back s = one-nonempty h F w o x bs true (λ e. omega arith) came
+  empty : x ≡ 0 → comes_back h F w o x bs ≡ false
+  unfolding comes_back
+  empty e = rw (le-ltb 0 x (omega arith))
 
 -- ---- all of them
 
@@ -54,19 +50,19 @@ module _ (h : FractalHeapHeader) (F : List ℕ) (w : ℕ) where
   unfolding part_of sum
   part-next y ys ks n = ap (take (get_or ys n 0)) (sym (drop-drop (sum (take n ys)) y ks))
 
-  first_back : (o y : ℕ) (ks : List ℕ) → (0 < y → ComesBack F h w o y (take y ks)) → back_one h F w o y (take y ks) ≡ bit (ltb 0 y)
+  first_back : (o y : ℕ) (ks : List ℕ) → (0 < y → ComesBack F h w o y (take y ks)) → comes_back h F w o y (take y ks) ≡ ltb 0 y
   first_back o y ks C = go (ℕ_discrete y 0)
     where
-      go : Dec (y ≡ 0) → back_one h F w o y (take y ks) ≡ bit (ltb 0 y)
-      go (yes e) = one-empty h F w o y (take y ks) e ∙ sym (ap bit (le-ltb 0 y (omega arith)))
-      go (no e) = one-back h F w o y (take y ks) (C (omega arith)) (omega arith) ∙ sym (ap bit (lt-ltb 0 y (omega arith)))
+      go : Dec (y ≡ 0) → comes_back h F w o y (take y ks) ≡ ltb 0 y
+      go (yes e) = empty h F w o y (take y ks) e ∙ sym (le-ltb 0 y (omega arith))
+      go (no e) = came h F w o y (take y ks) (omega arith) (C (omega arith)) ∙ sym (lt-ltb 0 y (omega arith))
 
   all_back : (ys os ks : List ℕ) → length ys ≤ length os → ((n : ℕ) → n < length ys → 0 < get_or ys n 0 → ComesBack F h w (get_or os n 0) (get_or ys n 0) (part_of ys ks n)) → backs h F w ys os ks ≡ nonempty ys
   unfolding backs nonempty part_of sum
   all_back [] os ks l C = refl
   all_back (y ∷ ys) [] ks l C = absurd (omega arith)
   all_back (y ∷ ys) (o ∷ os) ks l C =
-      ap₂ (λ (a b : ℕ). a + b) (first_back o y ks (C 0 (omega arith)))
+      ap₂ (λ (a : Bool) (b : ℕ). bit a + b) (first_back o y ks (C 0 (omega arith)))
       (all_back ys os (drop y ks) (omega arith) (λ n m s. subst (ComesBack F h w (get_or os n 0) (get_or ys n 0)) (part-next y ys ks n) (C (suc n) (omega arith) s)))
 
 -- ---- a call of the writer

@@ -1,7 +1,7 @@
 -- Laws of the count of what comes back, object by object.
 use Prim.Native.Nat.{ℕ, ◌+◌, ◌-◌, ◌≤◌, ◌<◌, min}
 use mathlib.Core.Path.{◌≡◌, refl, sym, ap, ◌∙◌}
-use mathlib.Core.Bool.{Bool, true, false, ◌&&◌}
+use mathlib.Core.Bool.{Bool, true, false}
 use mathlib.Core.Logic.{dite}
 use mathlib.Core.List.{List, [], ◌∷◌}
 use native.Mathlib.Omega.{arith}
@@ -9,31 +9,15 @@ use native.Mathlib.Decide.{dec_le}
 use native.Mathlib.Numerals.{add-one}
 use lib.ListN.{length, take, drop, get_or, drop_of_length-le, length-drop}
 use lib.Seq.{drop-cons, drop-drop}
-use lib.Dec.{ltb}
-use borrow.Author.Tests.{lt-ltb, le-ltb}
 use Rattle.numbers.specs.Sums.{bit}
 use Rattle.table.proofs.Lists.{take_min, drop_min}
 use Rattle.fractal_heap.specs.declared.header.FractalHeapHeader.{FractalHeapHeader}
-use Rattle.round_trip.specs.Back.{comes_back}
-use Rattle.round_trip.specs.Backs.{back_one, backs}
+use Rattle.round_trip.specs.Backs.{comes_back, backs}
 
-module _ (h : FractalHeapHeader) (s : List ℕ) (w o n : ℕ) (bs : List ℕ) where
-  -- what counts
-  pub one-empty : n ≡ 0 → back_one h s w o n bs ≡ 0
-  unfolding back_one
-  one-empty e = rw (le-ltb 0 n (omega arith))
-
-  pub one-nonempty : (t : Bool) → (n ≡ 0 → ⊥) → comes_back h s w o n bs ≡ t → back_one h s w o n bs ≡ bit t
-  unfolding back_one
-  one-nonempty t e k = rw (lt-ltb 0 n (omega arith)) (ap bit k)
-
-back-most : (h : FractalHeapHeader) (s : List ℕ) (w o n : ℕ) (bs : List ℕ) → back_one h s w o n bs ≤ 1
-unfolding back_one
-back-most h s w o n bs = by (ltb 0 n && comes_back h s w o n bs)
-  where
-    by : (b : Bool) → bit b ≤ 1
-    by true = omega arith
-    by false = omega arith
+-- no more than one comes back at a time
+bit_most : (b : Bool) → bit b ≤ 1
+bit_most true = omega arith
+bit_most false = omega arith
 
 module _ (h : FractalHeapHeader) (s : List ℕ) (w : ℕ) where
   none-back : (xs js : List ℕ) → backs h s w xs [] js ≡ 0
@@ -44,7 +28,7 @@ module _ (h : FractalHeapHeader) (s : List ℕ) (w : ℕ) where
   -- from one object to the next: its bytes are those from f to e
   back-next : (xs os js : List ℕ) (i f e : ℕ) → i < length xs → i < length os → f ≤ length js → e ≡ min (f + get_or xs i 0) (length js)
       → backs h s w (drop i xs) (drop i os) (drop f js)
-      ≡ back_one h s w (get_or os i 0) (get_or xs i 0) (take (e - f) (drop f js)) + backs h s w (drop (i + 1) xs) (drop (i + 1) os) (drop e js)
+      ≡ bit (comes_back h s w (get_or os i 0) (get_or xs i 0) (take (e - f) (drop f js))) + backs h s w (drop (i + 1) xs) (drop (i + 1) os) (drop e js)
   unfolding backs
   back-next xs os js i f e l m k d =
       let x : ℕ = get_or xs i 0 in
@@ -75,11 +59,11 @@ module _ (h : FractalHeapHeader) (s : List ℕ) (w : ℕ) (xs os js : List ℕ) 
       let all = I.rest in
       omega arith
 
-  module _ (l : i < min (length xs) (length os)) (e : ℕ) (d : e ≡ min (from + get_or xs i 0) (length js)) (n : ℕ) (q : n ≡ back_one h s w (get_or os i 0) (get_or xs i 0) (take (e - from) (drop from js))) where
+  module _ (l : i < min (length xs) (length os)) (e : ℕ) (d : e ≡ min (from + get_or xs i 0) (length js)) (n : ℕ) (q : n ≡ bit (comes_back h s w (get_or os i 0) (get_or xs i 0) (take (e - from) (drop from js)))) where
     pub one_more : back + n ≤ i + 1
     one_more =
         let a = I.few in
-        let m : back_one h s w (get_or os i 0) (get_or xs i 0) (take (e - from) (drop from js)) ≤ 1 = back-most h s w (get_or os i 0) (get_or xs i 0) (take (e - from) (drop from js)) in
+        let m : bit (comes_back h s w (get_or os i 0) (get_or xs i 0) (take (e - from) (drop from js))) ≤ 1 = bit_most (comes_back h s w (get_or os i 0) (get_or xs i 0) (take (e - from) (drop from js))) in
         omega arith
 
     pub counting-next : Counting h s w xs os js (back + n) e (i + 1)

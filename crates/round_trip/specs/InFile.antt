@@ -1,8 +1,21 @@
--- What is lent for a region in a file: the file's bytes from the region's address on.
-use Rattle.std.specs.Prelude.{List, ℕ, drop}
+-- A region written into a file: the file's bytes from the region's address on are lent to the writer.
+use Rattle.std.specs.Prelude.{List, ℕ, ◌+◌, drop, Result}
+use Rattle.refusals.specs.declared.FormatError.{FormatError}
+use Rattle.fields.specs.LittleEndian.{put}
+use Rattle.plan.specs.declared.ManagedPlan.{ManagedPlan}
 use Rattle.region_blocks.specs.declared.Site.{Site}
+use Rattle.region_write.specs.Region.{region}
 use Rattle.fractal_heap_write.specs.declared.checks.Lent.{Lent}
 use Rattle.fractal_heap_write.specs.Serialize.{lent_for}
+use Rattle.fractal_heap_write.specs.Answer.{serialized_for}
 
 abbrev pub lent_in : Site → List ℕ → List ℕ → List ℕ → List ℕ → Lent
 lent_in site offsets blocks objects file = lent_for offsets blocks objects (drop site.region_address file)
+
+-- what the writer answers for these sizes, with these lists, objects and file lent
+unfoldable pub serialized_in : Site → List ℕ → List ℕ → List ℕ → List ℕ → List ℕ → Result ManagedPlan FormatError
+serialized_in site sizes offsets blocks objects file = serialized_for sizes (lent_in site offsets blocks objects file) site
+
+-- the file with the region of the plan p in it
+abbrev pub file_with : Site → ManagedPlan → List ℕ → List ℕ → List ℕ → List ℕ
+file_with site p sizes objects file = put file site.region_address (region site p.root_rows sizes objects)

@@ -1,8 +1,10 @@
--- Reading an object of a heap by the ID that the writer gives it.
-use Rattle.std.specs.Prelude.{ℕ, List, Result}
+-- Headers of heaps with the fixed geometry, and an object read by the ID that the writer gives it.
+use Rattle.std.specs.Prelude.{ℕ, ◌+◌, List, Result}
 use Rattle.refusals.specs.Steps.{◌>>=◌}
 use Rattle.refusals.specs.declared.FormatError.{FormatError}
 use Rattle.table.specs.Table.{fixed}
+use Rattle.plan.specs.declared.ManagedPlan.{ManagedPlan}
+use Rattle.region_blocks.specs.declared.Site.{Site}
 use Rattle.reading.specs.declared.walk.place.Place.{Place}
 use Rattle.fractal_heap.specs.declared.header.FractalHeapHeader.{FractalHeapHeader}
 use Rattle.fractal_heap.specs.Read.{managed_at}
@@ -23,6 +25,10 @@ fixed_header root rows = record {
   root_block_address = root;
   current_rows_in_root_indirect_block = rows;
 }
+
+-- that of the heap of the plan p
+abbrev pub header_of : Site → ManagedPlan → FractalHeapHeader
+header_of site p = fixed_header (site.region_address + p.root_place) p.root_rows
 
 -- what the file s answers for the object of n bytes at the heap offset o, by its ID; in eight bytes an ID is refused
 -- by 16 alone

@@ -1,12 +1,18 @@
-//! One object of a written heap, read by the ID that the ID writer gives it.
-ghost use Rattle.std.specs.Prelude.{◌≡◌};
-ghost use Rattle.round_trip.specs.Objects.{fixed_header, object_at};
+//! The ID of an object of a run, and the object read by it.
+ghost use Rattle.std.specs.Prelude.{◌≡◌, ◌+◌, ◌^◌, ◌<◌, ◌≤◌, length, IfOk};
+ghost use Rattle.table.specs.Table.{fixed};
+ghost use Rattle.planner.specs.Steps.{plan_offsets, plan_starts};
+ghost use Rattle.plan.specs.Answer.{planned_for, written};
+ghost use Rattle.round_trip.specs.Objects.{fixed_header, header_of, object_at};
+ghost use Rattle.round_trip.specs.Early.{early_id};
 
 use fractal_heap::header::FractalHeapHeader;
 use ids::write::write_managed_id;
+use plan::ManagedPlan;
 use reading::rows::DoublingTable;
 use reading::walk::place::Place;
 use refusals::FormatError;
+use region_blocks::Site;
 
 /// The header of a heap with the fixed geometry; the reader does not heed the odd numbers.
 pub fn fixed_header(root: u64, rows: u16) -> FractalHeapHeader
@@ -30,6 +36,41 @@ pub fn fixed_header(root: u64, rows: u16) -> FractalHeapHeader
     }
 }
 
+/// The header of the heap of a plan.
+pub fn header_of(site: Site, plan: ManagedPlan) -> FractalHeapHeader
+    requires root { site.region_address + plan.root_place < 2 ^ 64 }
+    requires rows { plan.root_rows < 2 ^ 16 }
+    ensures { result ≡ header_of site plan }
+{
+    fixed_header(site.region_address + plan.root_place, plan.root_rows as u16)
+}
+
+/// The ID of the `i`-th object while its run has these sizes and no more: from their plan alone, which goes into the
+/// lists. Refused as planning refuses, and by 16 where the object has no ID.
+#[tactic(auto, using(crate::proofs::ReadBack::id_written), unfolding(crate::specs::Early::early_id, ids::specs::Checks::id_length, table::specs::Sizes::offset_bytes))]
+pub fn early_id(
+    sizes: &[u64],
+    i: usize,
+    offset_size: u8,
+    offsets: &mut [u64],
+    blocks: &mut [u64],
+) -> Result<[u8; 8], FormatError>
+    requires { i < length sizes.now }
+    ensures answer { result
+        ≡ early_id sizes.now i (length offsets.old) (length blocks.old) offset_size }
+    ensures offsets_after { offsets.new
+        ≡ written (planned_for sizes.now (length offsets.old) (length blocks.old) offset_size)
+        (plan_offsets fixed offset_size sizes.now) offsets.old }
+    ensures blocks_after { blocks.new
+        ≡ written (planned_for sizes.now (length offsets.old) (length blocks.old) offset_size)
+        (plan_starts fixed offset_size sizes.now) blocks.old }
+{
+    ManagedPlan::new(sizes, offsets, blocks, offset_size)?;
+    let mut id = [0u8; 8];
+    write_managed_id(offsets[i], sizes[i], &mut id)?;
+    Ok(id)
+}
+
 /// Writes the ID of the object of `size` bytes at the heap offset `offset`, and reads by it.
 #[tactic(auto, using(crate::proofs::ReadBack::id_written), unfolding(crate::specs::Objects::object_at, ids::specs::Checks::id_length, table::specs::Sizes::offset_bytes))]
 pub fn read_object(
@@ -39,7 +80,8 @@ pub fn read_object(
     size: u64,
     offset_size: u8,
 ) -> Result<Place, FormatError>
-    ensures { result ≡ object_at header.now file.now offset_size offset size }
+    ensures value { result ≡ object_at header.now file.now offset_size offset size }
+    ensures in_file { IfOk result (λ place. place.position + place.length ≤ length file.now) }
 {
     let mut id = [0u8; 8];
     write_managed_id(offset, size, &mut id)?;

@@ -1,23 +1,30 @@
-//! All objects of a written heap, read back by their IDs and compared: how many come back.
-ghost use Rattle.std.specs.Prelude.{◌≡◌, ◌+◌, min};
-ghost use Rattle.round_trip.specs.Backs.{back_one, backs};
+//! All objects of a written heap, read back by their IDs and compared with the bytes that they were written from: how many
+//! come back.
+ghost use Rattle.std.specs.Prelude.{◌≡◌};
+ghost use Rattle.round_trip.specs.Backs.{comes_back, backs};
 
-use crate::object::comes_back;
+use crate::by_id::read_object;
 use fractal_heap::header::FractalHeapHeader;
 
-// 1 for a nonempty object that comes back.
-#[tactic(auto, unfolding(crate::specs::Backs::back_one))]
-fn back_one(
+// Whether an object that is not empty is found by its ID, with these bytes.
+#[tactic(auto, unfolding(crate::specs::Backs::comes_back))]
+fn comes_back(
     file: &[u8],
     header: &FractalHeapHeader,
     offset: u64,
     size: u64,
     bytes: &[u8],
     offset_size: u8,
-) -> u64
-    ensures { result ≡ back_one header.now file.now offset_size offset size bytes.now }
+) -> bool
+    ensures { result ≡ comes_back header.now file.now offset_size offset size bytes.now }
 {
-    u64::from(size > 0 && comes_back(file, header, offset, size, bytes, offset_size))
+    if size == 0 {
+        return false;
+    }
+    match read_object(file, header, offset, size, offset_size) {
+        Ok(place) => &file[place.position as usize..][..place.length as usize] == bytes,
+        Err(_) => false,
+    }
 }
 
 /// How many nonempty objects come back. The objects' bytes are joined; the sizes and the heap offsets are taken as
@@ -37,14 +44,8 @@ pub fn read_back(
     for i in 0..sizes.len().min(offsets.len()) {
         let size = sizes[i];
         let end = from.saturating_add(size as usize).min(objects.len());
-        back += back_one(
-            file,
-            header,
-            offsets[i],
-            size,
-            &objects[from..end],
-            offset_size,
-        );
+        let bytes = &objects[from..end];
+        back += u64::from(comes_back(file, header, offsets[i], size, bytes, offset_size));
         from = end;
     }
     back

@@ -3,9 +3,7 @@ ghost use Rattle.std.specs.Prelude.{◌≡◌, IfOk, OnOk, OnErr};
 ghost use Rattle.fields.specs.LittleEndian.{put};
 ghost use Rattle.table.specs.Table.{fixed};
 ghost use Rattle.planner.specs.Steps.{plan_offsets, plan_starts};
-ghost use Rattle.region_write.specs.Region.{region};
-ghost use Rattle.fractal_heap_write.specs.Answer.{serialized_for};
-ghost use Rattle.round_trip.specs.InFile.{lent_in};
+ghost use Rattle.round_trip.specs.InFile.{serialized_in, file_with};
 
 use fractal_heap_write::serialize;
 use plan::ManagedPlan;
@@ -14,6 +12,7 @@ use region_blocks::Site;
 
 /// Writes the region of the objects into `file` from the region's address on, as `serialize` does. A refusal leaves all
 /// that is lent as it was.
+#[tactic(auto, unfolding(crate::specs::InFile::serialized_in))]
 pub fn serialize_at(
     sizes: &[u64],
     objects: &[u8],
@@ -23,9 +22,9 @@ pub fn serialize_at(
     file: &mut [u8],
 ) -> Result<ManagedPlan, FormatError>
     ensures answer { result
-        ≡ serialized_for sizes.now (lent_in site offsets.old blocks.old objects.now file.old) site }
-    ensures written { IfOk result (λ plan. file.new
-        ≡ put file.old site.region_address (region site plan.root_rows sizes.now objects.now)) }
+        ≡ serialized_in site sizes.now offsets.old blocks.old objects.now file.old }
+    ensures written { IfOk result
+        (λ plan. file.new ≡ file_with site plan sizes.now objects.now file.old) }
     ensures offsets_listed { OnOk result (offsets.new
         ≡ put offsets.old 0 (plan_offsets fixed site.offset_size sizes.now)) }
     ensures blocks_listed { OnOk result (blocks.new

@@ -105,7 +105,11 @@ fn fetched(
         let size = sizes[i] as usize;
         let (part, others) = rest.split_at(size.min(rest.len()));
         if size > 0 && size <= LARGEST {
-            let got = write_and_fetch(sizes, objects, site, offsets, blocks, file, i, &mut found);
+            // by the ID that it was given when the run had no more
+            let early = i + 1;
+            let got = write_and_fetch(
+                sizes, objects, site, offsets, blocks, file, early, i, &mut found,
+            );
             let same = got == Ok(size) && &found[..size] == part;
             count = count.saturating_add(u64::from(same));
         }

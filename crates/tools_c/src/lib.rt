@@ -7,4 +7,6 @@ pub mod field_reads;
 pub mod headers;
 pub mod objects;
 pub mod stores;
+#[cfg(test)]
+mod tests;
 pub mod writing;

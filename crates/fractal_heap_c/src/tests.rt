@@ -1,0 +1,84 @@
+//! What a caller gets by `fractal_heap_read_managed_object`, said from its clause `kept` alone, and so read from a file.
+ghost use Rattle.std.specs.Prelude.{◌≡◌, Ok, IsSomeAnd};
+ghost use Rattle.fractal_heap.specs.declared.header.FractalHeapHeader.{FractalHeapHeader};
+ghost use Rattle.fractal_heap.specs.Header.{header_at};
+ghost use Rattle.heap_kept.specs.Kept.{ForKept};
+
+use super::*;
+use fields::has_room;
+use fields::little_endian::read_u64_le;
+use fractal_heap_write::serialize;
+use ids::write::write_managed_id;
+use region_blocks::Site;
+use std::test::Fail;
+
+// The bytes of a managed object, as a caller takes them from the file by the slot.
+fn object_bytes<'a>(
+    file: &'a [u8],
+    at: u64,
+    offset_size: u8,
+    length_size: u8,
+    id: &[u8],
+) -> Option<&'a [u8]>
+    ensures { (h : FractalHeapHeader) → header_at file.now at offset_size length_size ≡ Ok h
+        → ForKept h file.now offset_size id.now
+        (λ bytes. IsSomeAnd result (λ found. found.now ≡ bytes)) }
+{
+    let mut slot = [0u8; 16];
+    let refusal = fractal_heap_read_managed_object(
+        file,
+        at,
+        offset_size,
+        length_size,
+        id,
+        &mut slot,
+    );
+    let start = read_u64_le(&slot, 0) as usize;
+    let count = read_u64_le(&slot, 8) as usize;
+    if refusal != 0 || !has_room(file.len(), start, count) {
+        return None;
+    }
+    Some(&file[start..start + count])
+}
+
+// An unfiltered header at 0 of a heap with the fixed geometry, at an offset size and a length size of 8: the fields that
+// the reader heeds, by the HDF5 File Format Specification 3.0, III.G, 'Fractal Heap Header'.
+fn header(root: u64, rows: u16) -> [u8; 146] {
+    let mut header = [0u8; 146];
+    header[..4].copy_from_slice(b"FRHP");
+    header[5] = 8;
+    header[110] = 4;
+    header[112..120].copy_from_slice(&1_024u64.to_le_bytes());
+    header[120..128].copy_from_slice(&65_536u64.to_le_bytes());
+    header[128] = 40;
+    header[132..140].copy_from_slice(&root.to_le_bytes());
+    header[140..142].copy_from_slice(&rows.to_le_bytes());
+    let sum = fractal_heap_checksum(&header[..142]);
+    header[142..].copy_from_slice(&sum.to_le_bytes());
+    header
+}
+
+// Objects of 1,002 bytes and of 1: the root has one row and begins the region, and the second object is at 1,046.
+#[test]
+fn an_object_is_found(rt: HostRuntime) -> Result<(), Fail> {
+    let mut objects = [5u8; 1_003];
+    objects[1_002] = 7;
+    let site = Site {
+        offset_size: 8,
+        heap_header_address: 0,
+        region_address: 146,
+    };
+    let mut file = [0u8; 2_248];
+    let (front, region) = file.split_at_mut(146);
+    front.copy_from_slice(&header(146, 1));
+    let (offsets, blocks) = (&mut [0; 2], &mut [0; 2]);
+    serialize(&[1_002, 1], &objects, site, offsets, blocks, region)?;
+    let mut id = [0u8; 8];
+    write_managed_id(1_046, 1, &mut id)?;
+    let found = object_bytes(&file, 0, 8, 8, &id).ok_or("the second object")?;
+    assert_eq!(rt; found, [7].as_slice());
+    write_managed_id(22, 1_002, &mut id)?;
+    let found = object_bytes(&file, 0, 8, 8, &id).ok_or("the first object")?;
+    assert_eq!(rt; found, &objects[..1_002]);
+    Ok(())
+}

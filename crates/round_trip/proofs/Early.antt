@@ -1,0 +1,39 @@
+-- The ID by a plan, step by step.
+use Rattle.std.proofs.Common.{◌≡◌, ℕ, ◌<◌, List, ◌++◌, Result, Ok, sym, ap, ◌∙◌, arith, length, drop, get_or}
+use Rattle.std.proofs.Math.ListN.{length-append, get_or-append}
+use Rattle.table.specs.Table.{fixed}
+use Rattle.table.specs.Sizes.{offset_bytes}
+use Rattle.refusals.specs.Steps.{◌>>=◌}
+use Rattle.refusals.specs.declared.FormatError.{FormatError}
+use Rattle.fields.specs.LittleEndian.{put}
+use Rattle.fields.proofs.LittleEndian.{put_front}
+use Rattle.planner.specs.Steps.{plan_offsets}
+use Rattle.plan.specs.declared.ManagedPlan.{ManagedPlan}
+use Rattle.plan.specs.Answer.{planned_for}
+use Rattle.plan_laws.proofs.Tally.{tallied}
+use Rattle.ids.specs.Written.{managed_id}
+use Rattle.ids.specs.Checks.{id_checked, id_length}
+use Rattle.heap_kept.specs.HeapKept.{offset_of}
+use Rattle.round_trip.specs.Early.{early_id}
+
+module _ (xs os left : List ℕ) (i o b w : ℕ) (p : ManagedPlan) (e : planned_for xs o b w ≡ Ok p) (l : i < length xs) (f : left ≡ put os 0 (plan_offsets fixed w xs)) where
+  many : length (plan_offsets fixed w xs) ≡ length xs
+  many = (tallied xs o b w p e).offsets
+
+  lists : left ≡ plan_offsets fixed w xs ++ drop (length (plan_offsets fixed w xs)) os
+  lists = f ∙ put_front os (plan_offsets fixed w xs)
+
+  pub placed : i < length left
+  placed = omega (arith, l, many, ap length lists, length-append (plan_offsets fixed w xs) (drop (length (plan_offsets fixed w xs)) os))
+
+  offset-is : get_or left i 0 ≡ offset_of w xs i
+  offset-is = ap (λ (v : List ℕ). get_or v i 0) lists ∙ get_or-append (plan_offsets fixed w xs) (drop (length (plan_offsets fixed w xs)) os) 0 i (omega (arith, l, many))
+
+  -- where planning accepts the ID writer decides
+  pub decided : (r : Result (Unit {0}) FormatError) → r ≡ id_checked fixed (get_or left i 0) (get_or xs i 0) 8
+      → early_id xs i o b w ≡ (r >>= λ _. Ok (managed_id fixed (get_or left i 0) (get_or xs i 0)))
+  unfolding early_id id_length offset_bytes
+  decided r d =
+      rw e
+      (ap (λ (x : ℕ). id_checked fixed x (get_or xs i 0) 8 >>= λ _. Ok (managed_id fixed x (get_or xs i 0))) (sym offset-is)
+      ∙ ap (λ (t : Result (Unit {0}) FormatError). t >>= λ _. Ok (managed_id fixed (get_or left i 0) (get_or xs i 0))) (sym d))
