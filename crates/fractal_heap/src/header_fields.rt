@@ -1,5 +1,6 @@
 //! The fields of a heap's header, read in groups by a reader that goes through it: its front, the numbers of objects,
-//! the doubling table, the root block. A field that is not there is refused, with the end that it would have (1).
+//! the doubling table, the root block. A field that is not there is refused, with the end that it would have (1), and then
+//! the reader stays before its group.
 #![tactic(auto, unfolding(crate::specs::FieldList::header_list, crate::specs::FieldList::span_of, crate::specs::FieldList::width_in, crate::specs::FieldList::field_place, crate::specs::Groups::front_at, crate::specs::Groups::objects_at, crate::specs::Groups::table_at, crate::specs::Groups::root_at))]
 
 pub mod reader;
@@ -34,7 +35,7 @@ pub struct RootFields {
 }
 
 impl Reader<'_> {
-    ghost use Rattle.std.specs.Prelude.{◌≡◌, ◌≤◌, OnOk};
+    ghost use Rattle.std.specs.Prelude.{◌≡◌, ◌≤◌, OnOk, OnErr};
     ghost use Rattle.fractal_heap.specs.HeaderReader.{field_at, MovedTo};
     ghost use Rattle.fractal_heap.specs.Groups.{front_at, objects_at, table_at, root_at};
 
@@ -45,12 +46,15 @@ impl Reader<'_> {
         ensures value { result ≡ front_at self.old.file.now self.old.start
             self.old.offset_size self.old.length_size }
         ensures moved { OnOk result (MovedTo self.old self.new (field_at self.old 5)) }
+        ensures kept { OnErr result (self.new ≡ self.old) }
     {
-        let heap_id_length = self.u16()?;
-        let io_filter_encoded_length = self.u16()?;
-        self.skip(1)?; // Flags
-        let max_managed_object_size = self.u32()?;
-        self.skip(usize::from(self.length_size))?; // Next Huge Object ID
+        let mut reader = *self;
+        let heap_id_length = reader.u16()?;
+        let io_filter_encoded_length = reader.u16()?;
+        reader.skip(1)?; // Flags
+        let max_managed_object_size = reader.u32()?;
+        reader.skip(usize::from(self.length_size))?; // Next Huge Object ID
+        *self = reader;
         Ok(FrontFields {
             heap_id_length,
             io_filter_encoded_length,
@@ -65,11 +69,14 @@ impl Reader<'_> {
         ensures value { result ≡ objects_at self.old.file.now self.old.start
             self.old.offset_size self.old.length_size }
         ensures moved { OnOk result (MovedTo self.old self.new (field_at self.old 12)) }
+        ensures kept { OnErr result (self.new ≡ self.old) }
     {
-        let btree_huge_objects_address = self.offset()?;
+        let mut reader = *self;
+        let btree_huge_objects_address = reader.offset()?;
         // free space, its manager, managed space, allocated space, allocation iterator
-        self.skip(4 * usize::from(self.length_size) + usize::from(self.offset_size))?;
-        let managed_objects_count = self.length()?;
+        reader.skip(4 * usize::from(self.length_size) + usize::from(self.offset_size))?;
+        let managed_objects_count = reader.length()?;
+        *self = reader;
         Ok(ObjectFields {
             btree_huge_objects_address,
             managed_objects_count,
@@ -84,12 +91,15 @@ impl Reader<'_> {
         ensures value { result ≡ table_at self.old.file.now self.old.start
             self.old.offset_size self.old.length_size }
         ensures moved { OnOk result (MovedTo self.old self.new (field_at self.old 20)) }
+        ensures kept { OnErr result (self.new ≡ self.old) }
     {
-        self.pos += 4 * usize::from(self.length_size);
-        let table_width = self.u16()?;
-        let starting_block_size = self.length()?;
-        let max_direct_block_size = self.length()?;
-        let max_heap_size = self.u16()?;
+        let mut reader = *self;
+        reader.pos += 4 * usize::from(self.length_size);
+        let table_width = reader.u16()?;
+        let starting_block_size = reader.length()?;
+        let max_direct_block_size = reader.length()?;
+        let max_heap_size = reader.u16()?;
+        *self = reader;
         Ok(DoublingTable {
             table_width,
             starting_block_size,
@@ -105,10 +115,13 @@ impl Reader<'_> {
         ensures value { result ≡ root_at self.old.file.now self.old.start
             self.old.offset_size self.old.length_size }
         ensures moved { OnOk result (MovedTo self.old self.new (field_at self.old 23)) }
+        ensures kept { OnErr result (self.new ≡ self.old) }
     {
-        let start_root_rows = self.u16()?;
-        let root_block_address = self.offset()?;
-        let current_rows_in_root_indirect_block = self.u16()?;
+        let mut reader = *self;
+        let start_root_rows = reader.u16()?;
+        let root_block_address = reader.offset()?;
+        let current_rows_in_root_indirect_block = reader.u16()?;
+        *self = reader;
         Ok(RootFields {
             start_root_rows,
             root_block_address,

@@ -7,9 +7,10 @@ use native.Mathlib.Omega.{arith}
 use native.Mathlib.Nat.{add-zero}
 use native.Mathlib.Numerals.{add-one}
 use lib.Dec.{leb}
-use lib.ListN.{length, drop, get_or, length-drop, drop_of_length-le}
+use lib.ListN.{length, take, drop, get_or, length-drop, drop_of_length-le}
 use lib.Seq.{drop-cons, drop-drop, get_or-drop}
 use borrow.Author.Tests.{le-leb, lt-leb, leb-true, leb-false}
+use Rattle.std.proofs.lemmas.List.{take-append-drop, take-take, drop-take}
 use Rattle.table.specs.Table.{Table, fixed}
 use Rattle.planner.specs.Steps.{filled, run_from, offsets_from, starts_from}
 use Rattle.planner.specs.Filling.{fill_state, fill_offsets}
@@ -41,7 +42,7 @@ module _ (s : State) (x : ℕ) (xs : List ℕ) where
 -- s' is the state after the first k of the sizes xs, which have the offsets os and open no block
 pub record Fill (t : Table) (w : ℕ) (s : State) (xs : List ℕ) (s' : State) (os : List ℕ) : Type 0 where
   pub inside : length os ≤ length xs
-  pub same-run : (i : ℕ) → run_from t w s xs i ≡ run_from t w s' (drop (length os) xs) (i + length os)
+  pub same-run : (ys : List ℕ) (i : ℕ) → run_from t w s (take (length os) xs ++ ys) i ≡ run_from t w s' ys (i + length os)
   pub same-offsets : offsets_from t w s xs ≡ os ++ offsets_from t w s' (drop (length os) xs)
   pub same-starts : starts_from t w s xs ≡ starts_from t w s' (drop (length os) xs)
   pub same_count : s'.count ≡ s.count
@@ -51,7 +52,7 @@ module _ (t : Table) (w : ℕ) where
   fill_none : (s : State) (xs : List ℕ) → (0 < length xs → s.size < s.fill + get_or xs 0 0) → Fill t w s xs s []
   fill_none s xs h = record {
     inside = zero-le;
-    same-run = λ i. ap (run_from t w s xs) (sym (add-zero i));
+    same-run = λ ys i. ap (run_from t w s ys) (sym (add-zero i));
     same-offsets = refl;
     same-starts = refl;
     same_count = refl;
@@ -64,8 +65,8 @@ module _ (t : Table) (w : ℕ) where
       let i1 = F.inside in
       record {
         inside = omega arith;
-        same-run = λ i. run-goes t w s x xs (filled s x) (s.start + s.fill) e i ∙ F.same-run (suc i)
-            ∙ ap (run_from t w s' (drop (length os) xs)) (let z : suc i + length os ≡ i + suc (length os) = omega arith in z);
+        same-run = λ ys i. run-goes t w s x (take (length os) xs ++ ys) (filled s x) (s.start + s.fill) e i ∙ F.same-run ys (suc i)
+            ∙ ap (run_from t w s' ys) (let z : suc i + length os ≡ i + suc (length os) = omega arith in z);
         same-offsets = offsets-go t w s x xs (filled s x) (s.start + s.fill) e ∙ ap (λ (y : List ℕ). (s.start + s.fill) ∷ y) F.same-offsets;
         same-starts = starts-go-same t w s x xs (filled s x) (s.start + s.fill) e (omega arith) ∙ F.same-starts;
         same_count = F.same_count;
@@ -91,6 +92,11 @@ sound-fill w l (x ∷ xs) s S = go (leb (s.fill + x) s.size) refl (sound-fill w 
         → Sound w (elim b [ true ↦ fill_state (filled s x) xs | false ↦ s ])
     go true e ih = ih (sound-step w s x (filled s x) (s.start + s.fill) l S (step_same fixed w s x (leb-true (s.fill + x) s.size e)))
     go false e ih = S
+
+-- the first of a list, and n more
+take_more-by : (xs : List ℕ) (i n : ℕ) → take (i + n) xs ≡ take i xs ++ take n (drop i xs)
+take_more-by xs i n =
+    sym (take-append-drop i (take (i + n) xs)) ∙ ap₂ (λ (ys zs : List ℕ). ys ++ zs) (take-take i (i + n) xs (omega arith)) (drop-take i n xs)
 
 -- the next object fits, or does not, or there is none
 module _ (xs : List ℕ) (s : State) (next : ℕ) where
@@ -134,11 +140,20 @@ module _ (w : ℕ) (xs : List ℕ) (s : State) (i : ℕ) (s' : State) (j : ℕ) 
   rest-is : drop (length (fill_offsets s (drop i xs))) (drop i xs) ≡ drop j xs
   rest-is = drop-drop (length (fill_offsets s (drop i xs))) i xs ∙ ap (λ (k : ℕ). drop k xs) (sym next-is)
 
+  -- the objects that fit, and any others behind them
+  pub run-then : (ys : List ℕ) → run_from fixed w s (take (length (fill_offsets s (drop i xs))) (drop i xs) ++ ys) i ≡ run_from fixed w s' ys j
+  run-then ys =
+      (fill fixed w (drop i xs) s).same-run ys i ∙ ap₂ (λ (y : State) (k : ℕ). run_from fixed w y ys k) (sym state-is) (sym next-is)
+
   pub run-from-next : run_from fixed w s (drop i xs) i ≡ run_from fixed w s' (drop j xs) j
   run-from-next =
-      (fill fixed w (drop i xs) s).same-run i
-      ∙ ap₂ (λ (y : State) (k : ℕ). run_from fixed w y (drop (length (fill_offsets s (drop i xs))) (drop i xs)) k) (sym state-is) (sym next-is)
-      ∙ ap (λ (ys : List ℕ). run_from fixed w s' ys j) rest-is
+      ap (λ (ys : List ℕ). run_from fixed w s ys i) (sym (take-append-drop (length (fill_offsets s (drop i xs))) (drop i xs)))
+      ∙ run-then (drop (length (fill_offsets s (drop i xs))) (drop i xs)) ∙ ap (λ (ys : List ℕ). run_from fixed w s' ys j) rest-is
+
+  -- the objects up to the next
+  pub take-next : take j xs ≡ take i xs ++ take (length (fill_offsets s (drop i xs))) (drop i xs)
+  take-next =
+      ap (λ (k : ℕ). take k xs) next-is ∙ take_more-by xs i (length (fill_offsets s (drop i xs)))
 
   pub offsets-from-next : offsets_from fixed w s (drop i xs) ≡ fill_offsets s (drop i xs) ++ offsets_from fixed w s' (drop j xs)
   offsets-from-next =

@@ -4,7 +4,7 @@
 
 pub mod search;
 
-ghost use Rattle.std.specs.Prelude.{◌≡◌, ◌+◌, ◌<◌, ◌≤◌, length, drop, Some, None, Ok, Err, IfSome, IfNone, IfErr, OnOk};
+ghost use Rattle.std.specs.Prelude.{◌≡◌, ◌+◌, ◌<◌, ◌≤◌, length, take, drop, Some, None, Ok, Err, IfSome, IfNone, IfErr, OnOk};
 ghost use Rattle.table.specs.Table.{fixed};
 ghost use Rattle.table.specs.Sizes.{max_managed};
 ghost use Rattle.planner.specs.Steps.{initial, step_of, run_from, offsets_from, starts_from};
@@ -146,7 +146,7 @@ impl Planner {
 
     /// Adds objects, a block at a time: one that has no room opens a block, and those after it that fit go there too.
     /// Their heap offsets and the starts of the blocks that they open are noted. `Err` is the index of the object at
-    /// which the heap space ends.
+    /// which the heap space ends; the plan is then that of the objects before it.
     pub fn extend<N: Noting>(
         &mut self,
         sizes: &[u64],
@@ -162,6 +162,9 @@ impl Planner {
             (run_from fixed self.old.offset_size self.old.state sizes.now 0 ≡ Ok self.new.state) }
         ensures ends { IfErr result (λ index.
             run_from fixed self.old.offset_size self.old.state sizes.now 0 ≡ Err index) }
+        ensures before_end { IfErr result (λ index.
+            run_from fixed self.old.offset_size self.old.state (take index sizes.now) 0
+            ≡ Ok self.new.state) }
         ensures offsets_noted { offsets.new ≡ noted_from N.noted offsets.old 0
             (offsets_from fixed self.old.offset_size self.old.state sizes.now) }
         ensures blocks_noted { blocks.new ≡ noted_from N.noted blocks.old self.old.state.count

@@ -4,8 +4,8 @@ ghost use Rattle.std.specs.Prelude.{◌≡◌, ◌+◌, ◌≤◌, length};
 use refusals::FormatError;
 
 /// A header in a file, and the place that is read next. Fields marked O have `offset_size` bytes, those
-/// marked L `length_size`.
-#[derive(Drop)]
+/// marked L `length_size`. What is refused leaves the reader where it was.
+#[derive(Clone, Copy)]
 pub struct Reader<'a> {
     pub file: &'a [u8],
     pub start: usize,
@@ -17,7 +17,7 @@ pub struct Reader<'a> {
 }
 
 impl Reader<'_> {
-    ghost use Rattle.std.specs.Prelude.{OnOk};
+    ghost use Rattle.std.specs.Prelude.{OnOk, OnErr};
     ghost use Rattle.fields.specs.Fields.{len_ensured, plain_at, offset_at, length_at};
     ghost use Rattle.fractal_heap.specs.HeaderReader.{field_at, MovedTo};
 
@@ -44,6 +44,7 @@ impl Reader<'_> {
     pub fn skip(&mut self, n: usize) -> Result<(), FormatError>
         ensures value { result ≡ len_ensured self.old.file.now self.old.pos n }
         ensures moved { OnOk result (MovedTo self.old self.new (self.old.pos + n)) }
+        ensures kept { OnErr result (self.new ≡ self.old) }
     {
         fields::ensure_len(self.file, self.pos, n)?;
         self.pos += n;
@@ -55,6 +56,7 @@ impl Reader<'_> {
     pub fn u16(&mut self) -> Result<u16, FormatError>
         ensures value { result ≡ plain_at self.old.file.now self.old.pos 2 }
         ensures moved { OnOk result (MovedTo self.old self.new (self.old.pos + 2)) }
+        ensures kept { OnErr result (self.new ≡ self.old) }
     {
         let number = fields::read_u16(self.file, self.pos)?;
         self.pos += 2;
@@ -66,6 +68,7 @@ impl Reader<'_> {
     pub fn u32(&mut self) -> Result<u32, FormatError>
         ensures value { result ≡ plain_at self.old.file.now self.old.pos 4 }
         ensures moved { OnOk result (MovedTo self.old self.new (self.old.pos + 4)) }
+        ensures kept { OnErr result (self.new ≡ self.old) }
     {
         let number = fields::read_u32(self.file, self.pos)?;
         self.pos += 4;
@@ -78,6 +81,7 @@ impl Reader<'_> {
         ensures value { result ≡ offset_at self.old.file.now self.old.pos self.old.offset_size }
         ensures moved { OnOk result
             (MovedTo self.old self.new (self.old.pos + self.old.offset_size)) }
+        ensures kept { OnErr result (self.new ≡ self.old) }
     {
         let addr = fields::read_offset(self.file, self.pos, self.offset_size)?;
         self.pos += usize::from(self.offset_size);
@@ -90,6 +94,7 @@ impl Reader<'_> {
         ensures value { result ≡ length_at self.old.file.now self.old.pos self.old.length_size }
         ensures moved { OnOk result
             (MovedTo self.old self.new (self.old.pos + self.old.length_size)) }
+        ensures kept { OnErr result (self.new ≡ self.old) }
     {
         let len = fields::read_length(self.file, self.pos, self.length_size)?;
         self.pos += usize::from(self.length_size);
