@@ -74,13 +74,8 @@ fn sum_ids(sizes: &[u64], offsets: &[u64]) -> u32 {
 }
 
 // Prints what came of a list: its objects, those that came back, and lookup3 of the IDs and of the file.
-fn came(rt: &impl Print, back: u64, file: &[u8], sizes: &[u64], offsets: &[u64]) -> io::Result<()> {
-    let ids = sum_ids(sizes, offsets);
-    println!(rt;
-        "; accepted {} {back} {ids} {}",
-        sizes.len(),
-        jenkins_lookup3(file)
-    )
+fn came(rt: &impl Print, objects: usize, back: u64, ids: u32, file: u32) -> io::Result<()> {
+    println!(rt; "; accepted {objects} {back} {ids} {file}")
 }
 
 fn refusal(rt: &impl Print, a: Answer) -> io::Result<()> {
@@ -138,10 +133,13 @@ fn go(
     match round_trip(sizes, objects, site, offsets, blocks, file) {
         Err(e) => refusal(rt, e.answer()),
         Ok(back) => {
+            // of what `round_trip` left, before `fetched` writes it anew
+            let ids = sum_ids(sizes, offsets);
+            let sum = jenkins_lookup3(file);
             let root = REGION.saturating_add(plan.root_place);
             let header = fixed_header(root, (plan.root_rows % 0x1_0000) as u16);
             let fetched = fetched(sizes, objects, site, offsets, blocks, file);
-            came(rt, back.min(fetched), file, sizes, offsets)?;
+            came(rt, sizes.len(), back.min(fetched), ids, sum)?;
             empties(rt, file, &header, sizes, offsets, width)
         }
     }
