@@ -1,0 +1,3 @@
+pub mod Words
+pub mod Counting
+pub mod Parts
