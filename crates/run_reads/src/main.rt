@@ -9,10 +9,11 @@
 // file, the ID. An accepted parse has twelve words, the header's fields; any other answer has two values.
 #![tactic(auto)]
 
-ghost use Rattle.std.specs.Prelude.{◌≡◌, ◌+◌, ◌^◌, ◌<◌, ◌≤◌, [], ◌∷◌, length, take, drop, if◌then◌else◌, is_some, IfSome};
+ghost use Rattle.std.specs.Prelude.{◌≡◌, ◌+◌, ◌*◌, ◌^◌, ◌<◌, ◌≤◌, ◌↔◌, [], ◌∷◌, length, take, drop, if◌then◌else◌, is_some, IsTrue, IfSome};
+ghost use Rattle.fields.specs.LittleEndian.{le_at};
 ghost use Rattle.std.specs.List.{sum_by, count_by};
 ghost use Rattle.run_reads.specs.Cases.{case_size, begins_case, IsCase, cases_of};
-ghost use Rattle.run_reads.specs.Recorded.{is_recorded, is_answer, is_header, is_parsed};
+ghost use Rattle.run_reads.specs.Recorded.{has_words, is_recorded, is_answer, is_header, is_parsed};
 ghost use Rattle.run_reads.specs.Answered.{header_of, id_of, object_of, answered_as_recorded, as_recorded, is_of, differs};
 
 use fields::convert::to_usize;
@@ -68,8 +69,21 @@ fn case_in(rest: &[u8]) -> Option<Case>
     }
 }
 
+// Whether these words stand in a head, one after another behind its 27 bytes.
+#[tactic(auto, using(crate::proofs::Words::words_next, crate::proofs::Words::words_other))]
+fn has_words(head: &[u8], words: &[u64]) -> bool
+    requires { length head.now ≡ 27 + 8 * length words.now }
+    ensures { result ≡ has_words head.now 27 words.now }
+{
+    for i in 0..words.len() {
+        if words[i] != read_u64_le(head, 27 + 8 * i) {
+            return false;
+        }
+    }
+    true
+}
+
 // Whether a head, which a case's words are a part of, records this number and these words.
-#[tactic(auto, using(crate::proofs::Words::words_next, crate::proofs::Words::words_other, crate::proofs::Words::words_done), unfolding(crate::specs::Recorded::is_recorded))]
 fn is_recorded(head: &[u8], number: u32, words: &[u64]) -> bool
     ensures { result ≡ is_recorded head.now number words.now }
 {
@@ -79,12 +93,7 @@ fn is_recorded(head: &[u8], number: u32, words: &[u64]) -> bool
     if number != read_u32_le(head, 22) {
         return false;
     }
-    for i in 0..words.len() {
-        if words[i] != read_u64_le(head, 27 + 8 * i) {
-            return false;
-        }
-    }
-    true
+    has_words(head, words)
 }
 
 // The same of an answer in numbers.
@@ -180,14 +189,31 @@ impl Tally {
     fn with(self, same: bool) -> Tally
         requires differing { self.differ ≤ self.cases }
         requires room { self.cases < 2 ^ 63 }
-        ensures counted { result.cases ≡ self.cases + 1 }
-        ensures differing { result.differ ≡ self.differ + (if same then 0 else 1) }
+        ensures cases { result.cases ≡ self.cases + 1 }
+        ensures differ { result.differ ≡ self.differ + (if same then 0 else 1) }
     {
         let differ = if same { self.differ } else { self.differ + 1 };
         Tally {
             cases: self.cases + 1,
             differ,
         }
+    }
+
+    // The case that some bytes begin with, if it is of the kind.
+    fn with_case(self, kind: u8, rest: &[u8], case: Case) -> Tally
+        requires case_in { IsCase case rest.now }
+        requires some { 0 < length rest.now }
+        requires differing { self.differ ≤ self.cases }
+        requires room { self.cases < 2 ^ 63 }
+        ensures cases { result.cases ≡ self.cases + (if is_of kind rest.now then 1 else 0) }
+        ensures differ { result.differ
+            ≡ self.differ + (if differs kind rest.now then 1 else 0) }
+    {
+        if kind != rest[0] {
+            return self;
+        }
+        let same = is_same_case(rest, case);
+        self.with(same)
     }
 }
 
@@ -203,9 +229,7 @@ fn count(list: &[u8], kind: u8) -> Tally
     };
     let mut rest = list;
     while let Some(case) = case_in(rest) {
-        if rest[0] == kind {
-            t = t.with(is_same_case(rest, case));
-        }
+        t = t.with_case(kind, rest, case);
         (_, rest) = rest.split_at(case.next);
     }
     t
