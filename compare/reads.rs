@@ -4,18 +4,35 @@
 //! each), heap ID length (2), bytes of the file (4), bytes of the ID (4), the header's place (8), number of
 //! the answer (4), how many words it has (1); then these words (8 each), the file, the ID. An accepted parse
 //! has twelve words, any other answer two. Decoding and reading parse first, so that a refusal of the parse
-//! is their answer.
+//! is their answer. The last cases are recorded otherwise than the original answers, each in one thing, so that a
+//! program that compares nothing, or leaves that out, prints something else.
 use crate::made::{self, Head, Heap, Tree, Written};
 use crate::random::Random;
 use original::{Answer, Header};
 
 const KINDS: [&str; 5] = ["parse", "decode", "read", "tiny", "id type"];
 
+/// What makes another answer of a number and its words.
+type Wrong = fn(&mut u32, &mut Vec<u64>);
+
+/// Each changes one thing: the number in its lowest bit or its highest, the first word in its lowest, the last in its
+/// highest, how many words there are (two for twelve, twelve for two).
+const WRONG: [Wrong; 5] = [
+    |number, _| *number ^= 1,
+    |number, _| *number ^= 1 << 31,
+    |_, words| words[0] ^= 1,
+    |_, words| *words.last_mut().expect("a word") ^= 1 << 63,
+    |_, words| words.resize(14 - words.len(), 0),
+];
+
 #[derive(Default)]
 struct List {
     bytes: Vec<u8>,
     cases: [u64; 5],
     numbers: [u64; 11],
+    /// What each answer is changed by before it is recorded, if by anything, and how many were.
+    wrong: Option<Wrong>,
+    differ: [u64; 5],
 }
 
 /// What a case is asked with.
@@ -44,6 +61,14 @@ fn parsed(heap: &Heap) -> Result<Header, Answer> {
 
 impl List {
     fn case(&mut self, kind: usize, asked: &Asked, number: u32, words: &[u64]) {
+        let (mut number, mut words) = (number, words.to_vec());
+        match self.wrong {
+            None => self.numbers[number as usize] += 1,
+            Some(change) => {
+                change(&mut number, &mut words);
+                self.differ[kind] += 1;
+            }
+        }
         let Asked { heap, id, .. } = asked;
         let widths = [heap.offset_size, heap.length_size, asked.read_size];
         let out = &mut self.bytes;
@@ -59,7 +84,6 @@ impl List {
         out.extend(&heap.file);
         out.extend(*id);
         self.cases[kind] += 1;
-        self.numbers[number as usize] += 1;
     }
 
     fn parse(&mut self, heap: &Heap) {
@@ -430,6 +454,45 @@ fn types(list: &mut List) {
     }
 }
 
+/// Recorded wrongly: accepted and refused cases of each kind, each in every way.
+fn misrecorded(list: &mut List, random: &mut Random) {
+    let whole = headed(random, &made::fixed(22, 0), 8, 8, 5);
+    let filtered = Head {
+        filter: 2,
+        ..made::fixed(300, 2)
+    };
+    let filtered = headed(random, &filtered, 4, 2, 0);
+    let mut cut = whole.clone();
+    cut.file.truncate(30);
+    let Written { heap, objects, .. } = made::written(random, &[50, 300, 7], [4, 8], 9);
+    let id = &objects[1].id;
+    for wrong in WRONG {
+        list.wrong = Some(wrong);
+        for heap in [&whole, &filtered, &cut] {
+            list.parse(heap);
+        }
+        list.decode(&whole, id);
+        list.decode(&filtered, id);
+        list.decode(&whole, &[]);
+        list.decode(&cut, id);
+        list.read(&heap, 4, id);
+        list.read(&heap, 4, &objects[0].id);
+        list.read(&heap, 3, id);
+        list.read(&filtered, 4, id);
+        list.read(&cut, 4, id);
+        list.tiny(8, &[0x23, 5, 6, 7, 8]);
+        list.tiny(18, &[0x20]);
+        for first in [0x00, 0x10, 0x20, 0x30, 0xE0] {
+            list.id_type(&[first, 9]);
+        }
+        list.id_type(&[]);
+    }
+    list.wrong = None;
+    // every one was recorded: a read may tell no place
+    let each = [3, 4, 5, 2, 6].map(|cases| cases * WRONG.len() as u64);
+    assert_eq!(list.differ, each);
+}
+
 fn all() -> List {
     let (mut list, mut random) = (List::default(), Random::new(7));
     headers(&mut list, &mut random);
@@ -441,6 +504,7 @@ fn all() -> List {
     trees(&mut list, &mut random);
     tiny(&mut list, &mut random);
     types(&mut list);
+    misrecorded(&mut list, &mut random);
     // No file gives 10 (see heap.rs).
     let [met @ .., ten] = list.numbers;
     assert!(met.iter().all(|&cases| cases > 0) && ten == 0, "{met:?}");
@@ -454,7 +518,13 @@ pub fn reads() -> Vec<u8> {
 
 /// What the program prints.
 pub fn reads_summary() -> String {
-    let line = |(kind, n): (&str, u64)| format!("{kind} {n} cases, 0 differ\n");
-    let lines = KINDS.into_iter().zip(all().cases).map(line);
+    let list = all();
+    let line = |(i, kind)| {
+        format!(
+            "{kind} {} cases, {} differ\n",
+            list.cases[i], list.differ[i]
+        )
+    };
+    let lines = KINDS.into_iter().enumerate().map(line);
     lines.collect::<String>() + "end of the list\n"
 }

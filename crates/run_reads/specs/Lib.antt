@@ -1,1 +1,3 @@
-pub mod Case
+pub mod Cases
+pub mod Recorded
+pub mod Answered

@@ -1,9 +1,14 @@
--- The place lies in the list.
-use Rattle.std.proofs.Common.{◌-◌, ◌≤◌, length}
+-- The bytes passed and those of the cases that are left are all.
+use Rattle.std.proofs.Common.{◌≡◌, ◌+◌, ◌-◌, ◌≤◌, length}
+use Rattle.std.specs.List.{sum_by}
+use Rattle.run_reads.specs.Cases.{case_size, cases_of}
 use Rattle.run_reads.proofs.end.Given as goal
 
 abbrev pub invariant-loop-case : goal.invariant-loop-case
-invariant-loop-case l = l.pos ≤ length l.list
+invariant-loop-case l = record {
+  passed : length l.list - length l.rest + sum_by case_size (cases_of l.rest) ≡ sum_by case_size (cases_of l.list);
+  in_list : length l.rest ≤ length l.list;
+}
 
 abbrev pub decreases-loop-case : goal.decreases-loop-case
-decreases-loop-case l = length l.list - l.pos
+decreases-loop-case l = length l.rest
