@@ -172,7 +172,6 @@ fn is_same(head: &[u8], file: &[u8], id: &[u8]) -> bool
 }
 
 // The same of the case that some bytes begin with.
-#[tactic(auto, using(crate::proofs::Parts::parts_at))]
 fn is_same_case(rest: &[u8], case: Case) -> bool
     requires { IsCase case rest.now }
     ensures { result ≡ as_recorded rest.now }
