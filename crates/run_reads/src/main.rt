@@ -9,8 +9,7 @@
 // file, the ID. An accepted parse has twelve words, the header's fields; any other answer has two values.
 #![tactic(auto)]
 
-ghost use Rattle.std.specs.Prelude.{◌≡◌, ◌+◌, ◌*◌, ◌^◌, ◌<◌, ◌≤◌, ◌↔◌, [], ◌∷◌, length, take, drop, if◌then◌else◌, is_some, IsTrue, IfSome};
-ghost use Rattle.fields.specs.LittleEndian.{le_at};
+ghost use Rattle.std.specs.Prelude.{◌≡◌, ◌+◌, ◌*◌, ◌^◌, ◌<◌, ◌≤◌, length, if◌then◌else◌, is_some, IfSome};
 ghost use Rattle.std.specs.List.{sum_by, count_by};
 ghost use Rattle.run_reads.specs.Cases.{case_size, begins_case, IsCase, cases_of};
 ghost use Rattle.run_reads.specs.Recorded.{has_words, is_recorded, is_answer, is_header, is_parsed};
