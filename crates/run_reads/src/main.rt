@@ -9,8 +9,7 @@
 // file, the ID. An accepted parse has twelve words, the header's fields; any other answer has two values.
 #![tactic(auto)]
 
-ghost use Rattle.std.specs.Prelude.{◌≡◌, ◌+◌, ◌*◌, ◌^◌, ◌<◌, ◌≤◌, ◌↔◌, [], ◌∷◌, length, take, drop, if◌then◌else◌, is_some, IsTrue, IfSome};
-ghost use Rattle.fields.specs.LittleEndian.{le_at};
+ghost use Rattle.std.specs.Prelude.{◌≡◌, ◌+◌, ◌*◌, ◌^◌, ◌<◌, ◌≤◌, length, if◌then◌else◌, is_some, IfSome};
 ghost use Rattle.std.specs.List.{sum_by, count_by};
 ghost use Rattle.run_reads.specs.Cases.{case_size, begins_case, IsCase, cases_of};
 ghost use Rattle.run_reads.specs.Recorded.{has_words, is_recorded, is_answer, is_header, is_parsed};
@@ -172,7 +171,6 @@ fn is_same(head: &[u8], file: &[u8], id: &[u8]) -> bool
 }
 
 // The same of the case that some bytes begin with.
-#[tactic(auto, using(crate::proofs::Parts::parts_at))]
 fn is_same_case(rest: &[u8], case: Case) -> bool
     requires { IsCase case rest.now }
     ensures { result ≡ as_recorded rest.now }
