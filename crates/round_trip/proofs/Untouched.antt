@@ -1,5 +1,5 @@
 -- What comes of a file that nothing happens to.
-use Rattle.std.proofs.Common.{◌≡◌, ℕ, ◌<◌, ◌≤◌, List, ◌++◌, Result, Ok, Err, refl, sym, ap, ap₂, ◌∙◌, subst, length, take, drop, get_or, arith}
+use Rattle.std.proofs.Common.{◌≡◌, ℕ, ◌<◌, ◌≤◌, List, ◌++◌, Result, Ok, Err, refl, sym, ap, ap₂, ◌∙◌, subst, length, take, drop, get_or}
 use Rattle.std.specs.Prelude.{IfOk, OnOk, OnErr}
 use Rattle.refusals.specs.declared.FormatError.{FormatError}
 use Rattle.fields.specs.LittleEndian.{put}

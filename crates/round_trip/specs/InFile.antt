@@ -1,5 +1,5 @@
 -- A region written into a file: the file's bytes from the region's address on are lent to the writer.
-use Rattle.std.specs.Prelude.{List, ℕ, ◌+◌, drop, Result}
+use Rattle.std.specs.Prelude.{List, ℕ, drop, Result}
 use Rattle.refusals.specs.declared.FormatError.{FormatError}
 use Rattle.fields.specs.LittleEndian.{put}
 use Rattle.plan.specs.declared.ManagedPlan.{ManagedPlan}

@@ -1,6 +1,5 @@
 -- What is left of `fetch_after`: the object is fetched by the ID that it was given, from what the file has.
-use Rattle.std.proofs.Common.{◌≡◌, ℕ, ◌++◌, List, Result, Ok, Err, refl, sym, ap, ◌∙◌, subst, arith, length, drop}
-use Rattle.std.specs.Prelude.{IfOk, OnOk}
+use Rattle.std.proofs.Common.{Result, sym, ap, ◌∙◌, arith, length}
 use Rattle.plan.specs.declared.ManagedPlan.{ManagedPlan}
 use Rattle.refusals.specs.declared.FormatError.{FormatError}
 use Rattle.fractal_heap.specs.Read.{managed_at}
