@@ -1,7 +1,8 @@
 //! What reaches the program from outside: a mapped file that fails, Ctrl-C, a limit on the size of files.
 //!
 //! A handler may come at any moment, so it only loads two pointers and calls what a handler may call: write, unlink,
-//! signal, raise, pthread_sigmask and _exit. Neither handler returns: nothing goes on whose file is gone.
+//! signal, raise, sigemptyset, sigaddset, pthread_sigmask and _exit. Neither handler returns: nothing goes on whose file
+//! is gone.
 use libc::{c_char, c_int};
 use std::ffi::CString;
 use std::os::unix::ffi::OsStrExt;
@@ -17,6 +18,14 @@ static MAPPED: OnceLock<String> = OnceLock::new();
 
 /// The signals that end the program, after what is half written was taken away.
 const ENDING: [c_int; 4] = [libc::SIGINT, libc::SIGTERM, libc::SIGHUP, libc::SIGQUIT];
+/// All that a handler is set for.
+const HANDLED: [c_int; 5] = [
+    libc::SIGINT,
+    libc::SIGTERM,
+    libc::SIGHUP,
+    libc::SIGQUIT,
+    libc::SIGBUS,
+];
 
 /// From here on signals are taken as this program wants them.
 pub fn install() {
@@ -83,8 +92,8 @@ extern "C" fn mapped_failed(_: c_int) {
 }
 
 /// Takes away what is half written, and ends as the signal does. The signal gets its default back only when the file is
-/// gone: from then on it is deadly wherever it comes. All that end the program are blocked here, so of several that
-/// come the first that was taken tells how the program ended.
+/// gone: from then on it is deadly wherever it comes. All four are blocked here, so of several of them the first that was
+/// taken tells how the program ended.
 extern "C" fn ended(signal: c_int) {
     // SAFETY: a handler may call all of these, and the set outlives the call.
     unsafe {
@@ -106,12 +115,13 @@ unsafe fn remove_unfinished() {
     }
 }
 
-/// Does something that no ending signal comes between; it comes after.
+/// Does something that no signal with a handler comes between; it comes after. No mapped byte may be touched meanwhile: a
+/// mapped file that fails ends the program at once where its signal is blocked.
 pub fn uninterrupted<T>(work: impl FnOnce() -> T) -> T {
     let mut before = set(&[]);
     // SAFETY: both sets outlive the calls.
     unsafe {
-        libc::pthread_sigmask(libc::SIG_BLOCK, &set(&ENDING), &mut before);
+        libc::pthread_sigmask(libc::SIG_BLOCK, &set(&HANDLED), &mut before);
         let done = work();
         libc::pthread_sigmask(libc::SIG_SETMASK, &before, null_mut());
         done

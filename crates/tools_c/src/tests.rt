@@ -1,10 +1,14 @@
-//! What a caller gets by `tools_plan` and `tools_serialize`, said from their clauses `kept`.
-ghost use Rattle.std.specs.Prelude.{◌≡◌, ℕ, ◌≤◌, IsTrue, length, take, max};
-ghost use Rattle.table.specs.Table.{fixed};
-ghost use Rattle.planner.specs.Steps.{plan_offsets};
+//! What a caller gets by planning and writing, said from the clauses of `kept_plan`, `tools_plan` and `tools_serialize` that
+//! are theorems.
+ghost use Rattle.std.specs.Prelude.{◌≡◌, ℕ, ◌<◌, ◌≤◌, IsTrue, IfOk, length, take};
+ghost use Rattle.table.specs.Table.{fixed, row_offset};
+ghost use Rattle.planner.specs.Steps.{plan_offsets, plan_starts};
 ghost use Rattle.plan_laws.specs.Plans.{InObject};
 
 use crate::writing::{tools_plan, tools_serialize};
+use plan::ManagedPlan;
+use plan_laws::kept_plan;
+use refusals::FormatError;
 use std::test::Fail;
 
 // Plans. Where that is accepted, the heap offsets of the first objects are those that they have alone.
@@ -38,6 +42,32 @@ fn writes(
         8,
         &mut [0; 8],
     ) == 0
+}
+
+// A plan, if it is accepted: no fewer rows reach its end, and it counts the blocks that are placed.
+fn planned(
+    sizes: &[u64],
+    offsets: &mut [u64],
+    blocks: &mut [u64],
+    offset_size: u8,
+) -> Result<ManagedPlan, FormatError>
+    ensures fewest { IfOk result (λ plan. (rows : ℕ) → rows < plan.root_rows
+        → row_offset fixed rows < plan.allocation_iterator) }
+    ensures counted { IfOk result (λ plan.
+        plan.block_count ≡ length (plan_starts fixed offset_size sizes.now)) }
+{
+    let plan = kept_plan(sizes, offsets, blocks, offset_size)?;
+    Ok(plan)
+}
+
+// One object of 1,003 bytes: 3 rows, and one block.
+#[test]
+fn rows_are_planned(rt: HostRuntime) -> Result<(), Fail> {
+    let (mut offsets, mut blocks) = ([0; 1], [0; 1]);
+    let plan = planned(&[1_003], &mut offsets, &mut blocks, 8)?;
+    assert_eq!(rt; plan.root_rows, 3);
+    assert_eq!(rt; plan.block_count, 1);
+    Ok(())
 }
 
 // Objects of 1,002 bytes and of 1, at 22 and 1,046.
