@@ -4,13 +4,15 @@ import io
 import os
 import runpy
 import shutil
+import subprocess
 import sys
 import tempfile
 import unittest
 from pathlib import Path
 from unittest import mock
 
-SCRIPTS = Path(os.environ.get("TRIED_SCRIPTS", Path(__file__).resolve().parent))  # others can be tried in their place
+SCRIPTS = Path(os.environ.get("TRIED_SCRIPTS", Path(__file__).resolve().parent))
+sys.path.insert(0, str(SCRIPTS))  # others can be tried in their place, with what they import
 
 
 class Repository:
@@ -31,6 +33,12 @@ class Repository:
 
     def remove(self, file):
         (self.root / file).unlink()
+
+    def commit(self):
+        """Keeps what is there as a commit of git's, which begins with the first."""
+        me = ["-c", "user.name=small", "-c", "user.email=small@localhost", "-c", "commit.gpgsign=false"]
+        for words in (["init", "-q"], ["add", "-A"], [*me, "commit", "-q", "--allow-empty", "-m", "A state"]):
+            subprocess.run(["git", "-C", self.root, *words], check=True)
 
     def run(self, script, *words):
         """The exit status of a script that stands in this repository, and what it prints."""

@@ -3,9 +3,13 @@ definitions, its must-fail edits, and the lists of functions in docs."""
 import re
 from pathlib import Path
 
+HELPERS = "docs/HELPERS.txt"
+LAWS = "For their contract alone"  # so a heading of it begins
+
 FUNCTION = re.compile(r'^( *)(pub(?:\([^)]*\))? )?((?:const |unsafe |extern (?:"[^"]*" )?)*)fn (\w+)', re.M)
-IMPL = re.compile(r"^impl(?:<[^>]*>)? (?:([\w:]+)(?:<[^>]*>)? for )?(\w+|\(\))(?:<[^>]*>)? \{.*?^\}", re.M | re.S)
-TRAIT = re.compile(r"^pub trait (\w+)", re.M)
+BLOCK = re.compile(r"^(?:pub (?:unsafe )?trait (\w+)|(?:unsafe )?impl\b)([^{]*)\{(?:\}|.*?^\})", re.M | re.S)
+TRAIT = re.compile(r"^pub (?:unsafe )?trait (\w+)", re.M)
+TYPE = re.compile(r"^(pub )?(?:struct|enum|union|(?:unsafe )?trait|type) (\w+)", re.M)
 CONSTANT = re.compile(r"^(?:pub )?const (\w+):[^;]*;", re.M)
 DEFINITION = re.compile(r"^(?:  )?(?:unfoldable |abbrev )?(?:pub )?(?:(?:record|data) ([^\s:(]+)|([^\s:(]+) :)", re.M)
 
@@ -25,6 +29,7 @@ class Function(Part):
         indent, _, kind, _ = match.groups()
         # rt fmt writes an empty body as {}, behind a signature without clauses in its line; a trait's function may have none
         opened = re.compile(rf"\n{indent}\{{|\{{\}}?$|;$", re.M).search(whole, match.start())
+        self.has_body = opened[0] != ";"
         whole_body = re.compile(rf"\n{indent}(?:\{{\}}|\}})")
         last = opened if opened[0] in ("{}", ";") else whole_body.search(whole, match.start())
         super().__init__(file, name, whole, match.start(), last.start())
@@ -41,16 +46,31 @@ def line_at(text, position):
     return text.count("\n", 0, position) + 1
 
 
+def subject(head):
+    """The trait, if there is one, and the type that an impl names: `Option` for `Option<&T>`, `T` for `&mut a::T`."""
+    head = head.replace("->", "")
+    while (shorter := re.sub(r"<[^<>]*>", "", head)) != head:
+        head = shorter
+    trait, _, kind = " ".join(head.split()).partition(" where ")[0].rpartition(" for ")
+    return [re.sub(r"&|'\w+|\b(?:mut|dyn)\b|\w+::|\s", "", name) for name in (trait, kind)]
+
+
 def functions(file, text, traits):
     """The functions of a file. What a type has of a public trait of ours is public, too, and promises what the trait says
-    of the ghost members that the type gives."""
-    impls = list(IMPL.finditer(text))
+    of the ghost members that the type gives; so is what such a trait has with a body."""
+    blocks = list(BLOCK.finditer(text))
     for m in FUNCTION.finditer(text):
-        impl = next((impl for impl in impls if impl.start() < m.start() < impl.end()), None)
-        of_trait = impl is not None and impl[1] in traits
-        function = Function(file, f"{impl[2]}::{m[4]}" if impl else m[4], text, m, m[2] == "pub " or of_trait)
-        if of_trait:
-            function.of_trait = "".join(re.findall(r"^ +ghost \w+ = \{[^}]*\};\n", impl[0], re.M))
+        function = Function(file, m[4], text, m, m[2] == "pub ")
+        block = next((block for block in blocks if block.start() < m.start() < block.end()), None)
+        if block and block[1]:
+            if function.has_body:
+                function.name, function.public = f"{block[1]}::{m[4]}", True
+        elif block:
+            trait, kind = subject(block[2])
+            function.name = f"{kind}::{m[4]}"
+            if trait in traits:
+                function.public = True
+                function.of_trait = "".join(re.findall(r"^ +ghost \w+ = \{[^}]*\};\n", block[0], re.M))
         yield function
 
 
@@ -75,6 +95,13 @@ def names(text, word):
 def module_path(file, module):
     """The file of a module that the file names, without its ending."""
     return f"{file[:-3]}/{module}" if Path(file).stem not in ("lib", "main") else f"src/{module}"
+
+
+def is_proof_of(folder, function):
+    """Whether this folder of proofs is that of a function: of a method it is that of its type, wherever the impl stands."""
+    if "::" in function.name:
+        return f"/{folder}".endswith(f"/{function.name.replace('::', '/')}")
+    return folder == module_path(function.file, function.name)[len("src/") :]
 
 
 def pairs(text):
@@ -134,6 +161,27 @@ def changed_lines(file, before, after):
             yield file, number, said_by(file, now)
 
 
+def visible(code):
+    """A test of whether other crates see a public function of this code. One in a module that is not public they see where
+    a `pub use` names it or its type or trait, or where its type is public elsewhere in the crate, or is none of its own."""
+    uses = " ".join(use for _, text in code for use in re.findall(r"^ *pub use ([^;]+);", text, re.M))
+    named = set(re.findall(r"\w+", uses))
+    hidden = [module_path(file, module) for file, text in code for module in re.findall(r"^mod (\w+);", text, re.M)
+              if f"{module}::*" not in uses]
+
+    def is_hidden(file):
+        return file.startswith(tuple(f"{part}{end}" for part in hidden for end in (".rt", "/")))
+
+    types = [(name, bool(pub) and not is_hidden(file)) for file, text in code for pub, name in TYPE.findall(text)]
+    of_crate, public = {name for name, _ in types}, {name for name, is_public in types if is_public}
+
+    def seen(f):
+        owner, _, method = f.name.rpartition("::")
+        return not is_hidden(f.file) or (owner or method) in named | public or owner != "" and owner not in of_crate
+
+    return seen
+
+
 class Crate:
     def __init__(self, folder, traits):
         def files(pattern):
@@ -141,10 +189,10 @@ class Crate:
 
         self.name = folder.name
         code = files("src/**/*.rt")
-        hidden = [module_path(file, module) for file, text in code for module in re.findall(r"^mod (\w+);", text, re.M)]
+        seen = visible(code)
         self.functions = [f for file, text in code for f in functions(file, text, traits)]
-        for f in self.functions:  # what a module has that is not public itself is public for its crate alone
-            f.public = f.public and not any(f.file.startswith((f"{part}.rt", f"{part}/")) for part in hidden)
+        for f in self.functions:
+            f.public = f.public and seen(f)
         self.constants = [part for file, text in code for part in constants(file, text)]
         self.texts = dict(code)
         self.definitions = [d for file, text in files("specs/**/*.antt") for d in definitions(file, text)]
@@ -162,10 +210,19 @@ def public_functions(crates):
     return {(crate.name, f.name): (crate, f) for crate in crates for f in crate.functions if f.public}
 
 
+def laws(root):
+    """The laws of docs/HELPERS.txt: crate and name."""
+    return {(crate, name) for heading, crate, name in listed(root / HELPERS) if heading.startswith(LAWS)}
+
+
 def listed(file):
+    return listed_in(file.read_text())
+
+
+def listed_in(text):
     """What a list of docs names, in turn: the comment line above, crate and name."""
     heading = ""
-    for line in file.read_text().splitlines():
+    for line in text.splitlines():
         if line.startswith("#"):
             heading = line.lstrip("# ")
         else:
