@@ -7,126 +7,100 @@ ghost use Rattle.std.specs.Prelude.{◌<◌, ◌≤◌};
 
 use plan::ManagedPlan;
 use plan::report::put_planned;
+use run_report::worked::{Listed, NO_WIDTH, WORKED};
 use run_report::{Answered, Heading, List, Lists, following};
 use std::io;
 
 // What a lent place holds before a call.
 const MARK: u64 = 42_405;
 
-// Plans in these lists.
-fn case_in(
-    rt: &impl Print,
-    name: &str,
-    sizes: &[u64],
-    offsets: &mut [u64],
-    blocks: &mut [u64],
+// The most places of a list that a case is lent.
+const PLACES: usize = 260;
+
+// A call of planning: what it is given, and how many places it is lent.
+#[derive(Clone, Copy)]
+struct Case<'a> {
+    name: &'a str,
+    sizes: &'a [u64],
     width: u8,
-) -> io::Result<()> {
-    print!(rt; "{name}: {}", Heading { sizes, width })?;
-    let planned = ManagedPlan::new(sizes, offsets, blocks, width);
-    let (objects, placed) = match &planned {
-        Ok(p) => (sizes.len(), p.block_count as usize),
-        Err(_) => (0, 0),
-    };
-    let mut numbers = [0u64; 8];
-    let refusal = put_planned(&mut numbers, planned);
-    let lists = Lists {
-        offsets: List {
-            numbers: offsets,
-            known: objects,
-        },
-        blocks: List {
-            numbers: blocks,
-            known: placed,
-        },
-    };
-    println!(rt;
-        "{}{lists}",
-        Answered {
-            refusal,
-            numbers: &numbers
+    offset_places: usize,
+    block_places: usize,
+}
+
+impl<'a> Case<'a> {
+    // In lists that are long enough for every case.
+    fn new(name: &'a str, sizes: &'a [u64], width: u8) -> Self {
+        Case {
+            name,
+            sizes,
+            width,
+            offset_places: PLACES,
+            block_places: PLACES,
         }
-    )
+    }
+
+    // The same in lists of so many places.
+    fn with_places(self, offset_places: usize, block_places: usize) -> Self {
+        Case {
+            offset_places,
+            block_places,
+            ..self
+        }
+    }
+
+    // Plans in lists of marks, and prints what is given, the answer, and what the lists hold then.
+    fn run(&self, rt: &impl Print) -> io::Result<()> {
+        let heading = Heading {
+            sizes: self.sizes,
+            width: self.width,
+        };
+        let mut offsets = [MARK; PLACES];
+        let mut blocks = [MARK; PLACES];
+        let offsets = &mut offsets[..self.offset_places.min(PLACES)];
+        let blocks = &mut blocks[..self.block_places.min(PLACES)];
+        let planned = ManagedPlan::new(self.sizes, offsets, blocks, self.width);
+        let (objects, placed) = match &planned {
+            Ok(plan) => (self.sizes.len(), plan.block_count as usize),
+            Err(_) => (0, 0),
+        };
+        let mut numbers = [0u64; 8];
+        let refusal = put_planned(&mut numbers, planned);
+        let answered = Answered {
+            refusal,
+            numbers: &numbers,
+        };
+        let lists = Lists {
+            offsets: List {
+                numbers: offsets,
+                known: objects,
+            },
+            blocks: List {
+                numbers: blocks,
+                known: placed,
+            },
+        };
+        println!(rt; "{}: {heading}{answered}{lists}", self.name)
+    }
 }
 
-// Plans in lists that are long enough for every case.
-fn case(rt: &impl Print, name: &str, sizes: &[u64], width: u8) -> io::Result<()> {
-    let mut offsets = [MARK; 260];
-    let mut blocks = [MARK; 260];
-    case_in(rt, name, sizes, &mut offsets, &mut blocks, width)
-}
-
-// The worked heaps 1 to 7, and the slot that a planner passes wrongly.
-fn worked(rt: &impl Print) -> io::Result<()> {
-    case(rt, "heap 1", &[], 8)?;
-    case(rt, "heap 2", &[1_002], 8)?;
-    case(rt, "heap 3", &[1_003], 8)?;
-    case(rt, "heap 4", &[1_002, 1], 8)?;
-    case(rt, "heap 5", &[1_002, 0], 8)?;
-    case(rt, "heap 6", &[65_514], 8)?;
-    case(rt, "heap 6, one more", &[65_515], 8)?;
-    case(rt, "heap 7", &[65_514; 5], 8)?;
-    case(rt, "passed slot", &[1_003, 1], 8)
-}
-
-// The same kinds at another width, of which `body` is what a block of 1,024 holds.
-fn shifted(rt: &impl Print, body: u64, width: u8) -> io::Result<()>
-    requires { body ≤ 1024 }
-{
-    case(rt, "nothing", &[], width)?;
-    case(rt, "full block", &[body], width)?;
-    case(rt, "larger", &[body + 1], width)?;
-    case(rt, "full and 1", &[body, 1], width)?;
-    case(rt, "full and 0", &[body, 0], width)?;
-    case(rt, "passed slot", &[body + 1, 1], width)
-}
-
-// Around the limit of a width.
-fn large(rt: &impl Print, limit: u64, width: u8) -> io::Result<()>
-    requires { limit ≤ 65536 }
-{
-    case(rt, "largest", &[limit], width)?;
-    case(rt, "too large", &[limit + 1], width)?;
-    case(rt, "first too large", &[limit + 1, limit + 2], width)?;
-    case(rt, "second too large", &[0, limit + 2], width)?;
-    case(rt, "five largest", &[limit; 5], width)
-}
-
-// Widths that are none.
-fn no_width(rt: &impl Print) -> io::Result<()> {
-    case(rt, "width", &[1, 2], 0)?;
-    case(rt, "width", &[1, 2], 1)?;
-    case(rt, "width", &[1, 65_536], 3)?;
-    case(rt, "width", &[], 255)
-}
-
-// Too few places for offsets, for blocks, or for both; then places enough, and a size that is too large.
+// Too few places for offsets, for blocks, or for both; then places enough, and a size that is too large. Without objects
+// one block is needed.
 fn short_lists(rt: &impl Print) -> io::Result<()> {
     let sizes = [10, 65_536, 30];
-    let mut one = [MARK; 1];
-    let mut two = [MARK; 2];
-    let mut three = [MARK; 3];
-    let mut other_three = [MARK; 3];
-    case_in(rt, "short offsets", &sizes, &mut two, &mut three, 8)?;
-    case_in(rt, "no places", &sizes, &mut [], &mut three, 2)?;
-    case_in(rt, "short blocks", &sizes, &mut three, &mut one, 8)?;
-    case_in(rt, "both short", &sizes, &mut two, &mut one, 4)?;
-    case_in(rt, "width and both short", &sizes, &mut two, &mut one, 16)?;
-    case_in(
-        rt,
-        "exact, too large",
-        &sizes,
-        &mut three,
-        &mut other_three,
-        8,
-    )
-}
-
-// Without objects one block is needed.
-fn no_objects(rt: &impl Print) -> io::Result<()> {
-    let mut one = [MARK; 1];
-    case_in(rt, "no block", &[], &mut one, &mut [], 8)?;
-    case_in(rt, "one block", &[], &mut [], &mut one, 8)
+    let cases = [
+        Case::new("short offsets", &sizes, 8).with_places(2, 3),
+        Case::new("no places", &sizes, 2).with_places(0, 3),
+        Case::new("short blocks", &sizes, 8).with_places(3, 1),
+        Case::new("both short", &sizes, 4).with_places(2, 1),
+        Case::new("width and both short", &sizes, 16).with_places(2, 1),
+        Case::new("exact, too large", &sizes, 8).with_places(3, 3),
+        Case::new("no block", &[], 8).with_places(1, 0),
+        Case::new("one block", &[], 8).with_places(0, 1),
+    ];
+    for case in cases {
+        case.run(rt)?;
+    }
+    Ok(())
 }
 
 // A block of 1,024, .., 65,536 bytes.
@@ -180,7 +154,7 @@ fn random(rt: &impl Print, name: &str, sizes: &mut [u64], kind: Kind, width: u8)
         x = following(x);
         *size = drawn(x, kind, width);
     }
-    case(rt, name, sizes, width)
+    Case::new(name, sizes, width).run(rt)
 }
 
 fn long(rt: &impl Print, width: u8) -> io::Result<()> {
@@ -192,7 +166,15 @@ fn long(rt: &impl Print, width: u8) -> io::Result<()> {
     random(rt, "256 small", &mut many, Kind::Small, width)?;
     random(rt, "256 mixed", &mut many, Kind::Mixed, width)?;
     random(rt, "256 edges", &mut many, Kind::Edges, width)?;
-    case(rt, "250 largest", &[65_522 - u64::from(width); 250], width)
+    let largest = [65_522 - u64::from(width); 250];
+    Case::new("250 largest", &largest, width).run(rt)
+}
+
+fn lists(rt: &impl Print, lists: &[Listed]) -> io::Result<()> {
+    for (name, sizes, width) in lists {
+        Case::new(name, sizes, *width).run(rt)?;
+    }
+    Ok(())
 }
 
 fn main(rt: HostRuntime) -> io::Result<()> {
@@ -200,15 +182,11 @@ fn main(rt: HostRuntime) -> io::Result<()> {
     println!(rt;
         "The original Rust's answers (refusals 2, 11 and 13: by the scope's table), from compare/run --record"
     )?;
-    worked(rt)?;
-    shifted(rt, 1_008, 2)?;
-    large(rt, 65_520, 2)?;
-    shifted(rt, 1_006, 4)?;
-    large(rt, 65_518, 4)?;
-    no_width(rt)?;
+    lists(rt, &WORKED)?;
+    lists(rt, &NO_WIDTH)?;
     short_lists(rt)?;
-    no_objects(rt)?;
-    long(rt, 2)?;
-    long(rt, 4)?;
-    long(rt, 8)
+    for width in [2, 4, 8] {
+        long(rt, width)?;
+    }
+    Ok(())
 }

@@ -1,6 +1,8 @@
-//! What the programs print, as values that write themselves: bytes, lists and answers; and the pseudo-random bytes that
-//! they work on. It serves the programs alone: what is printed is held to a recorded file.
+//! What the programs print, as values that write themselves: bytes, lists and answers; and what several of them work
+//! on, lists of sizes and pseudo-random bytes. It serves the programs alone: what is printed is held to a recorded file.
 #![tactic(auto)]
+
+pub mod worked;
 
 ghost use Rattle.std.specs.Prelude.{◌≡◌, ◌%◌, ◌^◌, length, sum};
 ghost use Rattle.run_report.specs.Sequence.{next, bytes_after};
