@@ -3,155 +3,152 @@
 //! beside src/ holds what the original answers.
 #![tactic(auto)]
 
-ghost use Rattle.std.specs.Prelude.{◌<◌, ◌≤◌};
+ghost use Rattle.std.specs.Prelude.{◌≡◌, ◌+◌, ◌<◌, ◌≤◌};
 
 use plan::ManagedPlan;
 use plan::report::put_planned;
 use run_report::{Answered, Heading, List, Lists, following};
+use std::alloc::{AllocError, Global};
 use std::io;
+
+// How many places are lent for offsets, and for blocks, where they are to be enough.
+const PLACES: usize = 260;
 
 // What a lent place holds before a call.
 const MARK: u64 = 42_405;
 
-// Plans in these lists.
-fn case_in(
-    rt: &impl Print,
-    name: &str,
-    sizes: &[u64],
-    offsets: &mut [u64],
-    blocks: &mut [u64],
+// A list to plan: the sizes of its objects, and the width of an address.
+#[derive(Clone, Copy)]
+struct Case<'a> {
+    name: &'a str,
+    sizes: &'a [u64],
     width: u8,
-) -> io::Result<()> {
-    print!(rt; "{name}: {}", Heading { sizes, width })?;
-    let planned = ManagedPlan::new(sizes, offsets, blocks, width);
-    let (objects, placed) = match &planned {
-        Ok(p) => (sizes.len(), p.block_count as usize),
-        Err(_) => (0, 0),
-    };
-    let mut numbers = [0u64; 8];
-    let refusal = put_planned(&mut numbers, planned);
-    let lists = Lists {
-        offsets: List {
-            numbers: offsets,
-            known: objects,
-        },
-        blocks: List {
-            numbers: blocks,
-            known: placed,
-        },
-    };
-    println!(rt;
-        "{}{lists}",
-        Answered {
-            refusal,
-            numbers: &numbers
-        }
-    )
 }
 
-// Plans in lists that are long enough for every case.
-fn case(rt: &impl Print, name: &str, sizes: &[u64], width: u8) -> io::Result<()> {
-    let mut offsets = [MARK; 260];
-    let mut blocks = [MARK; 260];
-    case_in(rt, name, sizes, &mut offsets, &mut blocks, width)
+impl Case<'_> {
+    // Plans in lists that are long enough for every case.
+    fn plan(self, rt: &impl Print) -> io::Result<()> {
+        self.plan_in(rt, PLACES, PLACES)
+    }
+
+    // Plans in lists of so many places, at most `PLACES`.
+    fn plan_in(self, rt: &impl Print, offsets: usize, blocks: usize) -> io::Result<()> {
+        let Case { name, sizes, width } = self;
+        let mut offsets_lent = [MARK; PLACES];
+        let mut blocks_lent = [MARK; PLACES];
+        let offsets = &mut offsets_lent[..offsets.min(PLACES)];
+        let blocks = &mut blocks_lent[..blocks.min(PLACES)];
+        let planned = ManagedPlan::new(sizes, offsets, blocks, width);
+        let (objects, placed) = match &planned {
+            Ok(plan) => (sizes.len(), plan.block_count as usize),
+            Err(_) => (0, 0),
+        };
+        let mut numbers = [0u64; 8];
+        let refusal = put_planned(&mut numbers, planned);
+        let lists = Lists {
+            offsets: List {
+                numbers: offsets,
+                known: objects,
+            },
+            blocks: List {
+                numbers: blocks,
+                known: placed,
+            },
+        };
+        println!(rt;
+            "{name}: {}{}{lists}",
+            Heading { sizes, width },
+            Answered {
+                refusal,
+                numbers: &numbers
+            }
+        )
+    }
 }
 
-// The worked heaps 1 to 7, and the slot that a planner passes wrongly.
-fn worked(rt: &impl Print) -> io::Result<()> {
-    case(rt, "heap 1", &[], 8)?;
-    case(rt, "heap 2", &[1_002], 8)?;
-    case(rt, "heap 3", &[1_003], 8)?;
-    case(rt, "heap 4", &[1_002, 1], 8)?;
-    case(rt, "heap 5", &[1_002, 0], 8)?;
-    case(rt, "heap 6", &[65_514], 8)?;
-    case(rt, "heap 6, one more", &[65_515], 8)?;
-    case(rt, "heap 7", &[65_514; 5], 8)?;
-    case(rt, "passed slot", &[1_003, 1], 8)
+// Lists of sizes with their names.
+type Named<'a> = (&'a str, &'a [u64]);
+
+fn plan_each(rt: &impl Print, lists: &[Named<'_>], width: u8) -> io::Result<()> {
+    for (name, sizes) in lists {
+        Case { name, sizes, width }.plan(rt)?;
+    }
+    Ok(())
 }
 
-// The same kinds at another width, of which `body` is what a block of 1,024 holds.
-fn shifted(rt: &impl Print, body: u64, width: u8) -> io::Result<()>
-    requires { body ≤ 1024 }
+// The worked heaps 1 to 7, and the slot that a planner passes wrongly, at width 8.
+const WORKED: [Named<'static>; 9] = [
+    ("heap 1", &[]),
+    ("heap 2", &[1_002]),
+    ("heap 3", &[1_003]),
+    ("heap 4", &[1_002, 1]),
+    ("heap 5", &[1_002, 0]),
+    ("heap 6", &[65_514]),
+    ("heap 6, one more", &[65_515]),
+    ("heap 7", &[65_514; 5]),
+    ("passed slot", &[1_003, 1]),
+];
+
+// What a block of so many bytes holds: it begins with 14 bytes and an address.
+fn body(block: u64, width: u8) -> u64
+    requires { 269 ≤ block }
+    ensures { result + 14 + width ≡ block }
 {
-    case(rt, "nothing", &[], width)?;
-    case(rt, "full block", &[body], width)?;
-    case(rt, "larger", &[body + 1], width)?;
-    case(rt, "full and 1", &[body, 1], width)?;
-    case(rt, "full and 0", &[body, 0], width)?;
-    case(rt, "passed slot", &[body + 1, 1], width)
+    block - 14 - u64::from(width)
 }
 
-// Around the limit of a width.
-fn large(rt: &impl Print, limit: u64, width: u8) -> io::Result<()>
-    requires { limit ≤ 65536 }
-{
-    case(rt, "largest", &[limit], width)?;
-    case(rt, "too large", &[limit + 1], width)?;
-    case(rt, "first too large", &[limit + 1, limit + 2], width)?;
-    case(rt, "second too large", &[0, limit + 2], width)?;
-    case(rt, "five largest", &[limit; 5], width)
+// The same kinds at another width, and around its limit.
+fn at_width(rt: &impl Print, width: u8) -> io::Result<()> {
+    let smallest = body(1_024, width);
+    let largest = body(65_536, width);
+    let lists: [Named<'_>; 11] = [
+        ("nothing", &[]),
+        ("full block", &[smallest]),
+        ("larger", &[smallest + 1]),
+        ("full and 1", &[smallest, 1]),
+        ("full and 0", &[smallest, 0]),
+        ("passed slot", &[smallest + 1, 1]),
+        ("largest", &[largest]),
+        ("too large", &[largest + 1]),
+        ("first too large", &[largest + 1, largest + 2]),
+        ("second too large", &[0, largest + 2]),
+        ("five largest", &[largest; 5]),
+    ];
+    plan_each(rt, &lists, width)
 }
 
 // Widths that are none.
 fn no_width(rt: &impl Print) -> io::Result<()> {
-    case(rt, "width", &[1, 2], 0)?;
-    case(rt, "width", &[1, 2], 1)?;
-    case(rt, "width", &[1, 65_536], 3)?;
-    case(rt, "width", &[], 255)
+    let lists: [(&[u64], u8); 4] = [(&[1, 2], 0), (&[1, 2], 1), (&[1, 65_536], 3), (&[], 255)];
+    for (sizes, width) in lists {
+        plan_each(rt, &[("width", sizes)], width)?;
+    }
+    Ok(())
 }
 
 // Too few places for offsets, for blocks, or for both; then places enough, and a size that is too large.
 fn short_lists(rt: &impl Print) -> io::Result<()> {
-    let sizes = [10, 65_536, 30];
-    let mut one = [MARK; 1];
-    let mut two = [MARK; 2];
-    let mut three = [MARK; 3];
-    let mut other_three = [MARK; 3];
-    case_in(rt, "short offsets", &sizes, &mut two, &mut three, 8)?;
-    case_in(rt, "no places", &sizes, &mut [], &mut three, 2)?;
-    case_in(rt, "short blocks", &sizes, &mut three, &mut one, 8)?;
-    case_in(rt, "both short", &sizes, &mut two, &mut one, 4)?;
-    case_in(rt, "width and both short", &sizes, &mut two, &mut one, 16)?;
-    case_in(
-        rt,
-        "exact, too large",
-        &sizes,
-        &mut three,
-        &mut other_three,
-        8,
-    )
+    let sizes = &[10, 65_536, 30];
+    for (name, offsets, blocks, width) in [
+        ("short offsets", 2, 3, 8),
+        ("no places", 0, 3, 2),
+        ("short blocks", 3, 1, 8),
+        ("both short", 2, 1, 4),
+        ("width and both short", 2, 1, 16),
+        ("exact, too large", 3, 3, 8),
+    ] {
+        Case { name, sizes, width }.plan_in(rt, offsets, blocks)?;
+    }
+    Ok(())
 }
 
 // Without objects one block is needed.
 fn no_objects(rt: &impl Print) -> io::Result<()> {
-    let mut one = [MARK; 1];
-    case_in(rt, "no block", &[], &mut one, &mut [], 8)?;
-    case_in(rt, "one block", &[], &mut [], &mut one, 8)
-}
-
-// A block of 1,024, .., 65,536 bytes.
-fn block(k: u64) -> u64
-    ensures least_block { 1024 ≤ result }
-    ensures largest_block { result ≤ 65536 }
-{
-    match k {
-        0 => 1_024,
-        1 => 2_048,
-        2 => 4_096,
-        3 => 8_192,
-        4 => 16_384,
-        5 => 32_768,
-        _ => 65_536,
+    let (sizes, width) = (&[], 8);
+    for (name, offsets, blocks) in [("no block", 1, 0), ("one block", 0, 1)] {
+        Case { name, sizes, width }.plan_in(rt, offsets, blocks)?;
     }
-}
-
-// What a block holds, two less to two more, at most what the largest block holds.
-fn edge(k: u64, d: u64, width: u8) -> u64
-    requires { d < 5 }
-{
-    let header = 14 + u64::from(width);
-    let size = block(k) + d - 2 - header;
-    size.min(65_536 - header)
+    Ok(())
 }
 
 // The kinds of pseudo-random sizes.
@@ -159,56 +156,75 @@ fn edge(k: u64, d: u64, width: u8) -> u64
 enum Kind {
     Small, // below 200
     Mixed, // up to 65,504, mostly below 4,096
-    Edges, // around what a block holds
+    Edges, // what a block holds, two less to two more, at most what the largest block holds
 }
 
-// A size from a number's bits 16 to 31.
-fn drawn(x: u32, kind: Kind, width: u8) -> u64 {
-    let a = u64::from(x / 0x1_0000 % 256);
-    let b = u64::from(x / 0x100_0000 % 256);
-    match kind {
-        Kind::Small => a % 200,
-        Kind::Mixed => (a * 256 + b) / (1 + b % 32),
-        Kind::Edges => edge(a % 7, b % 5, width),
+impl Kind {
+    // A size from a number's bits 16 to 31.
+    fn size(self, x: u32, width: u8) -> u64 {
+        let a = u64::from(x / 0x1_0000 % 256);
+        let b = u64::from(x / 0x100_0000 % 256);
+        match self {
+            Kind::Small => a % 200,
+            Kind::Mixed => (a * 256 + b) / (1 + b % 32),
+            Kind::Edges => {
+                let edge = body(block(a % 7), width) + b % 5 - 2;
+                edge.min(body(65_536, width))
+            }
+        }
+    }
+
+    // So many sizes, by the pseudo-random sequence from 1 on.
+    fn sizes(self, alloc: Global, count: usize, width: u8) -> Result<Vec<u64>, AllocError> {
+        let mut sizes = Vec::new(alloc);
+        let mut x: u32 = 1;
+        for _ in 0..count {
+            x = following(x);
+            sizes.push(self.size(x, width))?;
+        }
+        Ok(sizes)
     }
 }
 
-// Sizes of one kind, by the pseudo-random sequence from 1 on.
-fn random(rt: &impl Print, name: &str, sizes: &mut [u64], kind: Kind, width: u8) -> io::Result<()> {
-    let mut x: u32 = 1;
-    for size in sizes.iter_mut() {
-        x = following(x);
-        *size = drawn(x, kind, width);
-    }
-    case(rt, name, sizes, width)
+// A block of 1,024, .., 65,536 bytes.
+fn block(doublings: u64) -> u64
+    requires { doublings < 7 }
+    ensures least_block { 1024 ≤ result }
+    ensures largest_block { result ≤ 65536 }
+{
+    1_024 << doublings
 }
 
-fn long(rt: &impl Print, width: u8) -> io::Result<()> {
-    let mut few = [0; 40];
-    random(rt, "40 small", &mut few, Kind::Small, width)?;
-    random(rt, "40 mixed", &mut few, Kind::Mixed, width)?;
-    random(rt, "40 edges", &mut few, Kind::Edges, width)?;
-    let mut many = [0; 256];
-    random(rt, "256 small", &mut many, Kind::Small, width)?;
-    random(rt, "256 mixed", &mut many, Kind::Mixed, width)?;
-    random(rt, "256 edges", &mut many, Kind::Edges, width)?;
-    case(rt, "250 largest", &[65_522 - u64::from(width); 250], width)
+const RANDOM: [(&str, usize, Kind); 6] = [
+    ("40 small", 40, Kind::Small),
+    ("40 mixed", 40, Kind::Mixed),
+    ("40 edges", 40, Kind::Edges),
+    ("256 small", 256, Kind::Small),
+    ("256 mixed", 256, Kind::Mixed),
+    ("256 edges", 256, Kind::Edges),
+];
+
+fn long(rt: &impl Print, alloc: Global, width: u8) -> io::Result<()> {
+    for (name, count, kind) in RANDOM {
+        let sizes = kind.sizes(alloc, count, width)?;
+        plan_each(rt, &[(name, &sizes)], width)?;
+    }
+    plan_each(rt, &[("250 largest", &[body(65_536, width); 250])], width)
 }
 
 fn main(rt: HostRuntime) -> io::Result<()> {
-    let rt = &rt;
     println!(rt;
         "The original Rust's answers (refusals 2, 11 and 13: by the scope's table), from compare/run --record"
     )?;
-    worked(rt)?;
-    shifted(rt, 1_008, 2)?;
-    large(rt, 65_520, 2)?;
-    shifted(rt, 1_006, 4)?;
-    large(rt, 65_518, 4)?;
-    no_width(rt)?;
-    short_lists(rt)?;
-    no_objects(rt)?;
-    long(rt, 2)?;
-    long(rt, 4)?;
-    long(rt, 8)
+    plan_each(&rt, &WORKED, 8)?;
+    for width in [2, 4] {
+        at_width(&rt, width)?;
+    }
+    no_width(&rt)?;
+    short_lists(&rt)?;
+    no_objects(&rt)?;
+    for width in [2, 4, 8] {
+        long(&rt, rt.alloc(), width)?;
+    }
+    Ok(())
 }
