@@ -256,29 +256,27 @@ impl<'a, R: Print> Runner<'a, R> {
         })
     }
 
-    // Marks what is lent, lends as much of it as the case says, and writes.
-    fn write(&mut self, case: &Case<'_>) -> Outcome<'_> {
+    // Marks what is lent, lends as much of it as the case says, writes, and prints what is given and what comes of it.
+    fn run(&mut self, case: &Case<'_>) -> io::Result<()> {
         self.offsets.fill(MARK);
         self.blocks.fill(MARK);
         self.region.fill(MARKED_BYTE);
+        let rt = self.rt;
         let objects = &self.objects[..case.object_bytes.min(self.objects.len())];
-        let offsets = &mut self.offsets[..case.offset_places.min(PLACES)];
-        let blocks = &mut self.blocks[..case.block_places.min(PLACES)];
+        let (offsets, blocks) = (&mut self.offsets[..], &mut self.blocks[..]);
+        let offsets = &mut offsets[..case.offset_places.min(PLACES)];
+        let blocks = &mut blocks[..case.block_places.min(PLACES)];
         let region_bytes = case.region_bytes.min(self.region.len());
         let region = &mut self.region[..region_bytes];
         let planned = serialize(case.sizes, objects, case.site(), offsets, blocks, region);
-        Outcome {
+        let outcome = Outcome {
             planned,
             objects: case.sizes.len(),
             offsets,
             blocks,
             region,
-        }
-    }
-
-    fn run(&mut self, case: &Case<'_>) -> io::Result<()> {
-        let rt = self.rt;
-        println!(rt; "{case}{}", self.write(case))
+        };
+        println!(rt; "{case}{outcome}")
     }
 
     fn run_all(&mut self, cases: &[Case<'_>]) -> io::Result<()> {
