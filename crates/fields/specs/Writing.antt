@@ -1,5 +1,5 @@
 -- What a writer of a slice has written, and what stands behind it.
-use Rattle.std.specs.Prelude.{ℕ, List, take, drop}
+use Rattle.std.specs.Prelude.{◌≡◌, ◌+◌, ◌++◌, ℕ, List, length, take, drop}
 use Rattle.fields.specs.declared.stores.writer.Writer.{Writer}
 
 abbrev pub written : Writer → List ℕ
@@ -7,3 +7,11 @@ written w = take w.at w.bytes.now
 
 abbrev pub behind : Writer → List ℕ
 behind w = drop w.at w.bytes.now
+
+-- n bytes were put behind those that were written; what stands behind them is as it was
+pub record Puts (old new : Writer) (n : ℕ) (bytes : List ℕ) : Type 0 where
+  pub same_reference : new.bytes.ghost_name ≡ old.bytes.ghost_name
+  pub at : new.at ≡ old.at + n
+  pub len : length new.bytes.now ≡ length old.bytes.now
+  pub written : written new ≡ written old ++ bytes
+  pub behind : behind new ≡ drop n (behind old)

@@ -4,6 +4,7 @@
 
 pub mod convert;
 pub mod little_endian;
+pub mod place;
 pub mod slot;
 pub mod stores;
 pub mod width;

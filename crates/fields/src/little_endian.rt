@@ -6,27 +6,39 @@ ghost use Rattle.fields.specs.LittleEndian.{le_at};
 ghost use Rattle.fields.specs.Widths.{legal};
 
 /// The two bytes at `pos`.
+#[tactic(auto, unfolding(crate::specs::LittleEndian::le_at, crate::specs::LittleEndian::value))]
 pub fn read_u16_le(bytes: &[u8], pos: usize) -> u16
     requires { pos + 2 ≤ length bytes.now }
     ensures { result ≡ le_at bytes.now pos 2 }
 {
-    (bytes[pos] as u16) + (bytes[pos + 1] as u16) * 0x100
+    u16::from_le_bytes([bytes[pos], bytes[pos + 1]])
 }
 
 /// The four bytes at `pos`.
+#[tactic(auto, unfolding(crate::specs::LittleEndian::le_at, crate::specs::LittleEndian::value))]
 pub fn read_u32_le(bytes: &[u8], pos: usize) -> u32
     requires { pos + 4 ≤ length bytes.now }
     ensures { result ≡ le_at bytes.now pos 4 }
 {
-    (read_u16_le(bytes, pos) as u32) + (read_u16_le(bytes, pos + 2) as u32) * 0x1_0000
+    u32::from_le_bytes([bytes[pos], bytes[pos + 1], bytes[pos + 2], bytes[pos + 3]])
 }
 
 /// The eight bytes at `pos`.
+#[tactic(auto, unfolding(crate::specs::LittleEndian::le_at, crate::specs::LittleEndian::value))]
 pub fn read_u64_le(bytes: &[u8], pos: usize) -> u64
     requires { pos + 8 ≤ length bytes.now }
     ensures { result ≡ le_at bytes.now pos 8 }
 {
-    (read_u32_le(bytes, pos) as u64) + (read_u32_le(bytes, pos + 4) as u64) * 0x1_0000_0000
+    u64::from_le_bytes([
+        bytes[pos],
+        bytes[pos + 1],
+        bytes[pos + 2],
+        bytes[pos + 3],
+        bytes[pos + 4],
+        bytes[pos + 5],
+        bytes[pos + 6],
+        bytes[pos + 7],
+    ])
 }
 
 /// The `width` bytes at `pos`, where the width is 2, 4 or 8.

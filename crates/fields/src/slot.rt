@@ -3,7 +3,7 @@ ghost use Rattle.std.specs.Prelude.{◌≡◌};
 ghost use Rattle.fields.specs.Slot.{slot_number, slot_bytes};
 
 use crate::stores::Writer;
-use refusals::Answer;
+use refusals::{Answer, SLICE_TOO_SHORT};
 
 /// Puts the two values into the first 16 bytes of `slot`, little-endian, and returns the number. A shorter slot is left
 /// as it is and gives 13.
@@ -13,7 +13,7 @@ pub fn put_answer(slot: &mut [u8], answer: Answer) -> u32
     ensures slot_after { slot.new ≡ slot_bytes slot.old answer }
 {
     if slot.len() < 16 {
-        return 13;
+        return SLICE_TOO_SHORT;
     }
     let mut writer = Writer::new(slot);
     writer.put_number(answer.first, 8);

@@ -61,23 +61,21 @@ module _ (sum : ℕ → Result (Unit {0}) FormatError) (h : FractalHeapHeader) w
 -- ---- what is known of the parts
 
 offsets-legal : (s : List ℕ) (p os ls : ℕ) (x : ObjectFields) → objects_at s p os ls ≡ Ok x → legal os ≡ true
-unfolding objects_at offset_at number_at
+unfolding offset_at number_at
 offsets-legal s p os ls x e = grind (arith, common_steps)
 
 lengths-legal : (s : List ℕ) (p os ls : ℕ) (x : ObjectFields) → objects_at s p os ls ≡ Ok x → legal ls ≡ true
-unfolding objects_at offset_at length_at number_at
+unfolding offset_at length_at number_at
 lengths-legal s p os ls x e = grind (arith, common_steps)
 
 sum-there : (s : List ℕ) (p place : ℕ) → sum_checked s p place ≡ Ok tt → p + place + 4 ≤ length s
-unfolding sum_checked len_ensured
+unfolding len_ensured
 sum-there s p place e = grind (arith, common_steps)
 
 end_before : (filter os ls : ℕ) → header_end os ls ≤ sum_place filter os ls
-unfolding sum_place
 end_before filter os ls = grind (arith, common_steps)
 
 pub headers-fit : HeadersFit
-unfolding header_at
 headers-fit s p os ls h e =
     let all = parts (λ filter. sum_checked s p (sum_place filter os ls)) h (start_checked s p) (front_at s p os ls) (objects_at s p os ls) (table_at s p os ls) (root_at s p os ls) e in
     let there : p + sum_place h.io_filter_encoded_length os ls + 4 ≤ length s = sum-there s p (sum_place h.io_filter_encoded_length os ls) all.passed in

@@ -14,7 +14,7 @@ field n text = record { name = text; width = n }
 -- all fields between Version and Checksum of a header without filters, in header order. They are counted from 0: field
 -- 0 is Heap ID Length, 5 v2 B-tree Address of Huge Objects, 10 Offset of Direct Block Allocation Iterator, 15 Number of
 -- Tiny Objects, 20 Starting # of Rows in Root Indirect Block
-unfoldable pub header_list : ℕ → ℕ → List HeaderField
+abbrev pub header_list : ℕ → ℕ → List HeaderField
 header_list os ls =
     field 2 "Heap ID Length"
     ∷ field 2 "I/O Filters' Encoded Length"
@@ -42,20 +42,20 @@ header_list os ls =
     ∷ []
 
 -- how many bytes the first n of these fields have together
-unfoldable pub span_of : ℕ → List HeaderField → ℕ
+abbrev pub span_of : ℕ → List HeaderField → ℕ
 span_of zero fs = 0
 span_of (suc n) [] = 0
 span_of (suc n) (f ∷ fs) = f.width + span_of n fs
 
 -- how many bytes the n-th of these fields has
-unfoldable pub width_in : ℕ → List HeaderField → ℕ
+abbrev pub width_in : ℕ → List HeaderField → ℕ
 width_in n [] = 0
 width_in zero (f ∷ fs) = f.width
 width_in (suc n) (f ∷ fs) = width_in n fs
 
 -- where field n begins, counted from the header's start: behind Signature (4 bytes), Version (1) and the fields before
 -- it
-unfoldable pub field_place : ℕ → ℕ → ℕ → ℕ
+abbrev pub field_place : ℕ → ℕ → ℕ → ℕ
 field_place os ls n = 5 + span_of n (header_list os ls)
 
 -- where the last field ends

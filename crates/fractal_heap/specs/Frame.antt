@@ -1,7 +1,7 @@
 -- What frames a header. HDF5 File Format Specification 3.0, III.G, 'Fractal Heap Header': Signature and Version at its
 -- start, Checksum at its end. What the checksum covers the text does not say: the original.
-use Rattle.std.specs.Prelude.{ℕ, ◌+◌, List, ◌==◌, slice_index, take, drop, Result}
-use Rattle.fields.specs.LittleEndian.{value, le_at}
+use Rattle.std.specs.Prelude.{ℕ, ◌+◌, List, ◌==◌, slice_index, take, drop, bytes_eq, Result}
+use Rattle.fields.specs.LittleEndian.{le_at}
 use Rattle.fields.specs.Signatures.{header_signature}
 use Rattle.fields.specs.Fields.{len_ensured}
 use Rattle.refusals.specs.Steps.{◌>>=◌, required}
@@ -10,15 +10,15 @@ use Rattle.refusals.specs.declared.FormatError.TheVariants.{InvalidFractalHeapSi
 use Rattle.checksum.specs.Lookup3.{hashlittle}
 
 -- Signature FRHP and Version 0
-unfoldable pub start_checked : List ℕ → ℕ → Result (Unit {0}) FormatError
+abbrev pub start_checked : List ℕ → ℕ → Result (Unit {0}) FormatError
 start_checked s p = do
   _ ← len_ensured s p 5
-  _ ← required (le_at s p 4 == value header_signature) InvalidFractalHeapSignature
+  _ ← required (bytes_eq (take 4 (drop p s)) header_signature) InvalidFractalHeapSignature
   let version = slice_index s (p + 4)
   required (version == 0) (InvalidFractalHeapVersion version)
 
 -- Checksum at its place is that of all bytes of the header before it
-unfoldable pub sum_checked : List ℕ → ℕ → ℕ → Result (Unit {0}) FormatError
+abbrev pub sum_checked : List ℕ → ℕ → ℕ → Result (Unit {0}) FormatError
 sum_checked s p place = do
   _ ← len_ensured s (p + place) 4
   let stored = le_at s (p + place) 4

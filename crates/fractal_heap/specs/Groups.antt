@@ -18,7 +18,7 @@ abbrev pub field_ensured : List ℕ → ℕ → ℕ → ℕ → ℕ → Result (
 field_ensured s p os ls n = len_ensured s (p + field_place os ls n) (width_in n (header_list os ls))
 
 -- up to Next Huge Object ID
-unfoldable pub front_at : List ℕ → ℕ → ℕ → ℕ → Result FrontFields FormatError
+abbrev pub front_at : List ℕ → ℕ → ℕ → ℕ → Result FrontFields FormatError
 front_at s p os ls = do
   heap_id_length ← field_number s p os ls 0
   io_filter_encoded_length ← field_number s p os ls 1
@@ -33,7 +33,7 @@ front_at s p os ls = do
       })
 
 -- v2 B-tree Address of Huge Objects, the five fields behind it as one, Number of Managed Objects in Heap
-unfoldable pub objects_at : List ℕ → ℕ → ℕ → ℕ → Result ObjectFields FormatError
+abbrev pub objects_at : List ℕ → ℕ → ℕ → ℕ → Result ObjectFields FormatError
 objects_at s p os ls = do
   btree_huge_objects_address ← offset_at s (p + field_place os ls 5) os
   _ ← len_ensured s (p + field_place os ls 6) (4 * ls + os)
@@ -41,7 +41,7 @@ objects_at s p os ls = do
   Ok (record { btree_huge_objects_address = btree_huge_objects_address; managed_objects_count = managed_objects_count })
 
 -- Table Width and the three fields behind it; the four before it are stepped over
-unfoldable pub table_at : List ℕ → ℕ → ℕ → ℕ → Result DoublingTable FormatError
+abbrev pub table_at : List ℕ → ℕ → ℕ → ℕ → Result DoublingTable FormatError
 table_at s p os ls = do
   table_width ← field_number s p os ls 16
   starting_block_size ← length_at s (p + field_place os ls 17) ls
@@ -56,7 +56,7 @@ table_at s p os ls = do
       })
 
 -- Starting # of Rows in Root Indirect Block, Address of Root Block, Current # of Rows in Root Indirect Block
-unfoldable pub root_at : List ℕ → ℕ → ℕ → ℕ → Result RootFields FormatError
+abbrev pub root_at : List ℕ → ℕ → ℕ → ℕ → Result RootFields FormatError
 root_at s p os ls = do
   start_root_rows ← field_number s p os ls 20
   root_block_address ← offset_at s (p + field_place os ls 21) os

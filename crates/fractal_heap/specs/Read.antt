@@ -8,7 +8,7 @@ use Rattle.refusals.specs.declared.FormatError.TheVariants.{UnsupportedFilteredH
 use Rattle.ids.specs.Decoded.{decoded_id}
 use Rattle.ids.specs.declared.decode.ManagedId.{ManagedId}
 use Rattle.reading.specs.Walk.{root_walk}
-use Rattle.reading.specs.declared.walk.place.Place.{Place}
+use Rattle.fields.specs.declared.place.Place.{Place}
 use Rattle.fractal_heap.specs.declared.header.FractalHeapHeader.{FractalHeapHeader}
 use Rattle.fractal_heap.specs.Header.{header_at}
 
@@ -18,7 +18,7 @@ root_at h s target len w =
     root_walk h.table s h.root_block_address h.current_rows_in_root_indirect_block target len w
 
 -- the object of a managed ID in the file s
-unfoldable pub managed_at : FractalHeapHeader → List ℕ → List ℕ → ℕ → Result Place FormatError
+abbrev pub managed_at : FractalHeapHeader → List ℕ → List ℕ → ℕ → Result Place FormatError
 managed_at h s id w = do
   _ ← required (h.io_filter_encoded_length == 0) UnsupportedFilteredHeapObject
   object ← decoded_id h.table.max_heap_size id

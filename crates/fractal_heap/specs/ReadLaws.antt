@@ -17,11 +17,3 @@ pub record HeaderFits (s : List ℕ) (p os ls : ℕ) (h : FractalHeapHeader) : T
 -- an accepted header
 abbrev pub HeadersFit : Type 0
 HeadersFit = (s : List ℕ) (p os ls : ℕ) (h : FractalHeapHeader) → header_at s p os ls ≡ Ok h → HeaderFits s p os ls h
-
--- an accepted managed object: all its bytes are in the file
-abbrev pub ReadInFile : Type 0
-ReadInFile = (h : FractalHeapHeader) (s id : List ℕ) (w p len : ℕ) → managed_at h s id w ≡ Ok (record { position = p; length = len }) → p + len ≤ length s
-
--- an accepted tiny object: all its bytes are in the ID
-abbrev pub TinyInId : Type 0
-TinyInId = (l : ℕ) (s : List ℕ) (p len : ℕ) → tiny_at l s ≡ Ok (record { position = p; length = len }) → p + len ≤ length s

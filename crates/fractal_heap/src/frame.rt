@@ -8,13 +8,12 @@ use fields::{ensure_len, read_u32};
 use refusals::FormatError;
 
 /// Signature FRHP and Version 0.
-#[tactic(auto, unfolding(crate::specs::Frame::start_checked, fields::specs::LittleEndian::value))]
 pub fn check_start(file: &[u8], at: usize) -> Result<(), FormatError>
     ensures value { result ≡ start_checked file.now at }
     ensures there { OnOk result (at + 5 ≤ length file.now) }
 {
     ensure_len(file, at, 5)?;
-    if read_u32_le(file, at) != 0x5048_5246 {
+    if &file[at..at + 4] != b"FRHP".as_slice() {
         return Err(FormatError::InvalidFractalHeapSignature);
     }
     let version = file[at + 4];
@@ -25,7 +24,6 @@ pub fn check_start(file: &[u8], at: usize) -> Result<(), FormatError>
 }
 
 /// The checksum at its place is that of the header's bytes before it.
-#[tactic(auto, unfolding(crate::specs::Frame::sum_checked))]
 #[inline(always)]
 pub fn check_sum(file: &[u8], at: usize, place: usize) -> Result<(), FormatError>
     requires at_in_bounds { at ≤ length file.now }

@@ -1,5 +1,5 @@
 //! The header's fields, and parsing them from a file.
-ghost use Rattle.std.specs.Prelude.{◌≡◌, ◌≤◌};
+ghost use Rattle.std.specs.Prelude.{◌≡◌, ◌≤◌, IfOk};
 ghost use Rattle.fractal_heap.specs.Header.{header_at, sum_place};
 
 use crate::frame::{check_start, check_sum};
@@ -22,15 +22,17 @@ pub struct FractalHeapHeader {
 }
 
 impl FractalHeapHeader {
+    ghost use Rattle.fractal_heap.specs.ReadLaws.{HeaderFits};
+
     /// The header at `offset` of the file.
-    #[tactic(auto, unfolding(crate::specs::Header::header_at))]
     pub fn parse(
         file: &[u8],
         offset: usize,
         offset_size: u8,
         length_size: u8,
     ) -> Result<FractalHeapHeader, FormatError>
-        ensures { result ≡ header_at file.now offset offset_size length_size }
+        ensures value { result ≡ header_at file.now offset offset_size length_size }
+        ensures in_file { IfOk result (HeaderFits file.now offset offset_size length_size) }
     {
         check_start(file, offset)?;
         let mut reader = Reader::new(file, offset, offset_size, length_size);
@@ -55,7 +57,6 @@ impl FractalHeapHeader {
 }
 
 // Where the checksum stands, behind what a filtered header has before it.
-#[tactic(auto, unfolding(crate::specs::FieldList::header_list, crate::specs::FieldList::span_of, crate::specs::FieldList::field_place, crate::specs::Header::sum_place))]
 fn sum_place(filter: u16, offset_size: u8, length_size: u8) -> usize
     ensures value { result ≡ sum_place filter offset_size length_size }
     ensures bound { result ≤ 65536 }

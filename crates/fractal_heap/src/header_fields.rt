@@ -1,7 +1,6 @@
 //! The fields of a heap's header, read in groups by a reader that goes through it: its front, the numbers of objects,
 //! the doubling table, the root block. A field that is not there is refused, with the end that it would have (1), and then
 //! the reader stays before its group.
-#![tactic(auto, unfolding(crate::specs::FieldList::header_list, crate::specs::FieldList::span_of, crate::specs::FieldList::width_in, crate::specs::FieldList::field_place, crate::specs::Groups::front_at, crate::specs::Groups::objects_at, crate::specs::Groups::table_at, crate::specs::Groups::root_at))]
 
 pub mod reader;
 

@@ -8,7 +8,7 @@ use crate::header::FractalHeapHeader;
 use ids::decode::ManagedId;
 use ids::decode::types::HeapIdType;
 use reading::Search;
-use reading::walk::place::Place;
+use fields::place::Place;
 use refusals::FormatError;
 
 impl FractalHeapHeader {
@@ -27,7 +27,6 @@ impl FractalHeapHeader {
     }
 
     /// The managed object that an ID names: its position in the file, and its length.
-    #[tactic(auto, unfolding(crate::specs::Read::managed_at))]
     pub fn read_managed_object(
         self,
         file: &[u8],

@@ -14,7 +14,7 @@ use Rattle.fields.specs.Slot.{slot_number, slot_bytes}
 use Rattle.refusals.specs.Steps.{◌>>=◌}
 use Rattle.refusals.specs.Refusals.{answer, report_of}
 use Rattle.refusals.specs.declared.FormatError.{FormatError}
-use Rattle.reading.specs.Walk.{place_report}
+use Rattle.fields.specs.Places.{place_report}
 use Rattle.fractal_heap.specs.declared.header.FractalHeapHeader.{FractalHeapHeader}
 use Rattle.fractal_heap.specs.Header.{header_at}
 use Rattle.fractal_heap.specs.Read.{managed_at, object_by}

@@ -8,7 +8,7 @@ ghost use Rattle.checksum.specs.Lookup3.{hashlittle};
 ghost use Rattle.fields.specs.Slot.{slot_number, slot_bytes};
 ghost use Rattle.refusals.specs.Refusals.{report_of};
 ghost use Rattle.ids.specs.Decoded.{id_report};
-ghost use Rattle.reading.specs.Walk.{place_report};
+ghost use Rattle.fields.specs.Places.{place_report};
 ghost use Rattle.fractal_heap.specs.declared.header.FractalHeapHeader.{FractalHeapHeader};
 ghost use Rattle.fractal_heap.specs.Header.{header_at};
 ghost use Rattle.fractal_heap.specs.Read.{id_by, object_by};
@@ -20,7 +20,7 @@ use fields::convert::to_usize;
 use fields::slot::put_answer;
 use fractal_heap::header::FractalHeapHeader;
 use ids::decode::ManagedId;
-use reading::walk::place::Place;
+use fields::place::Place;
 use refusals::FormatError;
 use refusals::answer::Reported;
 

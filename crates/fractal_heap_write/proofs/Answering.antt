@@ -17,7 +17,7 @@ use Rattle.plan.specs.Checks.{places_checked}
 use Rattle.plan.specs.declared.ManagedPlan.{ManagedPlan}
 use Rattle.plan.specs.Answer.{planned_for}
 use Rattle.plan.proofs.Answering.{accepted}
-use Rattle.plan_laws.proofs.Laying.{used-sum, still-ok, ran-ok, ran-laid}
+use Rattle.plan.proofs.Laying.{used-sum, still-ok, ran-ok, ran-laid}
 use Rattle.fractal_heap_write.specs.Checks.{Fit, bytes_checked, header_address_checked, region_address_checked, output_checked}
 use Rattle.region_blocks.specs.declared.Site.{Site}
 use Rattle.fractal_heap_write.specs.declared.checks.Lent.{Lent}

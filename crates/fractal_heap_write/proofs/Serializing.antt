@@ -19,8 +19,8 @@ use Rattle.planner.specs.Requires.{Small, Runs}
 use Rattle.plan.proofs.Checking.{Passing, all_small}
 use Rattle.plan.specs.declared.ManagedPlan.{ManagedPlan}
 use Rattle.plan.proofs.Answering.{Went, accepted}
-use Rattle.plan_laws.proofs.Tally.{tallied}
-use Rattle.plan_laws.proofs.Root.{Bare, Rowed, shape}
+use Rattle.plan.proofs.Tally.{tallied}
+use Rattle.plan.proofs.Root.{Bare, Rowed, shape}
 use Rattle.region_blocks.specs.declared.Site.{Site}
 use Rattle.region_write.specs.Region.{region}
 use Rattle.region_write.specs.Requires.{Rooted, Writable}

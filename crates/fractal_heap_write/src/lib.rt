@@ -8,7 +8,7 @@ ghost use Rattle.fields.specs.LittleEndian.{put};
 ghost use Rattle.table.specs.Table.{fixed};
 ghost use Rattle.planner.specs.Steps.{plan_offsets, plan_starts};
 ghost use Rattle.region_write.specs.Region.{region as region_of};
-ghost use Rattle.plan_laws.specs.Plans.{PlanKept};
+ghost use Rattle.plan.specs.Plans.{PlanKept};
 ghost use Rattle.fractal_heap_write.specs.Answer.{serialized_for};
 ghost use Rattle.fractal_heap_write.specs.Serialize.{lent_for};
 

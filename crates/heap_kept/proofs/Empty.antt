@@ -46,7 +46,6 @@ holder t x (s ∷ ss) = go (dec_le s x) (dec_lt x (s + (slot_at t s).size)) (hol
 
 -- at the heap's end there is no ID
 no-id : (o : ℕ) → o ≡ 2 ^ 40 → (lent : ℕ) → id_checked fixed o 0 lent ≡ Err (HeapIdTooLarge o 0)
-unfolding id_checked
 no-id o e lent = grind (arith, nat_tests)
 
 module _ (c : Call) (p : ManagedPlan) (W : Written c p)

@@ -14,7 +14,7 @@ use Rattle.table.specs.Table.{Table, row_bits, row_offset}
 use Rattle.table.specs.Sizes.{offset_bytes}
 use Rattle.table.specs.Slots.{slot_at}
 use Rattle.table_laws.proofs.Format.{SlotOf, direct-local}
-use Rattle.plan_laws.specs.Plans.{sizes_at}
+use Rattle.plan.specs.Plans.{sizes_at}
 use Rattle.region_indirects.specs.Walk.{Walked, direct, slot, smaller, all_slots, block}
 use Rattle.region_indirects.proofs.Walking.{slot-entry}
 use Rattle.region_write.proofs.Starts.{Placed, more, before, from, before-yes, before-no, from-placed, before-later, from-later, sizes-append}
@@ -22,7 +22,7 @@ use Rattle.region_write.proofs.Geometry.{SlotAt, slot-end, BlockAt, inner-span, 
 use Rattle.region_write.proofs.Walking.{by-smaller, Way, empty, placed, deeper, way, Cut, slot-cut}
 use Rattle.reading.specs.declared.rows.DoublingTable.{DoublingTable}
 use Rattle.reading.specs.declared.children.HeapChild.{HeapChild}
-use Rattle.reading.specs.declared.walk.place.Place.{Place}
+use Rattle.fields.specs.declared.place.Place.{Place}
 use Rattle.std.specs.Prelude.{Option, Result}
 use Rattle.refusals.specs.declared.FormatError.{FormatError}
 use Rattle.reading.specs.Walk.{direct_at}

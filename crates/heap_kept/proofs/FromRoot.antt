@@ -21,10 +21,10 @@ use Rattle.plan.specs.declared.ManagedPlan.{ManagedPlan}
 use Rattle.plan.specs.Answer.{planned_for}
 use Rattle.plan.proofs.Checking.{Passing}
 use Rattle.plan.proofs.Answering.{Went, accepted}
-use Rattle.plan_laws.specs.Plans.{sizes_at, InPlacedBlock}
-use Rattle.plan_laws.proofs.Objects.{in-one-body}
-use Rattle.plan_laws.proofs.Root.{no-root-rows}
-use Rattle.plan_laws.proofs.Tally.{tallied}
+use Rattle.plan.specs.Plans.{sizes_at, InPlacedBlock}
+use Rattle.plan.proofs.Objects.{in-one-body}
+use Rattle.plan.proofs.Root.{no-root-rows}
+use Rattle.plan.proofs.Tally.{tallied}
 use Rattle.region_indirects.specs.Walk.{all_slots, block}
 use Rattle.region_directs.specs.Directs.{objects_in, directs}
 use Rattle.region_write.proofs.Starts.{Placed, none, more, before, from, before-none, nth-from, end-reached, size-within}
@@ -35,7 +35,7 @@ use Rattle.region_write.proofs.Root.{indirects-some}
 use Rattle.region_write.proofs.Region.{indirect-bytes, indirects-planned, region-length}
 use Rattle.fractal_heap_write.specs.Checks.{Fit}
 use Rattle.fractal_heap_write.proofs.Answering.{written, fit}
-use Rattle.reading.specs.declared.walk.place.Place.{Place}
+use Rattle.fields.specs.declared.place.Place.{Place}
 use Rattle.std.specs.Prelude.{Result, Ok}
 use Rattle.refusals.specs.declared.FormatError.{FormatError}
 use Rattle.reading.specs.Walk.{root_walk, direct_at, walk_from}

@@ -18,36 +18,14 @@ use Rattle.ids.specs.IdTypes.{type_of}
 use Rattle.ids.specs.Decoded.{split_id, decoded_id}
 use Rattle.ids.specs.Checks.{id_length, id_checked}
 use Rattle.ids.specs.Written.{managed_id}
-use Rattle.ids.proofs.Ids.{id-length}
+use Rattle.ids.proofs.ReadBack.{decodes}
 use Rattle.heap_kept.specs.HeapKept.{IdRoundTrip}
 
 module _ (o x : ℕ) where
   module _ (lo : o < 2 ^ 40) (hi : x < 2 ^ 16) where
-    -- the number after its first byte
-    id-number : le_at (managed_id fixed o x) 1 8 ≡ x * 2 ^ 40 + o
-    unfolding managed_id offset_bytes le_at le
-    id-number =
-        let T : List ℕ = le 5 o ++ le 2 x in
-        let n : length T ≡ 7 = length-append (le 5 o) (le 2 x) ∙ ap₂ (λ (a b : ℕ). a + b) (length-le 5 o) (length-le 2 x) in
-        let v = value-append (le 5 o) (le 2 x) in
-        let a = value-le 5 o ∙ mod-eq_of_lt lo in
-        let b = value-le 2 x ∙ mod-eq_of_lt hi in
-        let p = ap (λ (m : ℕ). value (le 2 x) * 2 ^ (8 * m)) (length-le 5 o) in
-        ap value (take_all 8 T (omega arith)) ∙ omega arith
-
-    pub decodes : decoded_id 40 (managed_id fixed o x) ≡ Ok (record { offset = o; length = x })
-    unfolding decoded_id split_id
-    decodes =
-        let l = id-length o x in
-        let first : type_of (slice_index (managed_id fixed o x) 0) ≡ 0 = (unfold managed_id le in refl) in
-        let m : length (managed_id fixed o x) - 1 ≡ 7 = omega arith in
-        let q : le_at (managed_id fixed o x) 1 8 % 2 ^ 40 ≡ o = ap (λ (v : ℕ). v % 2 ^ 40) id-number ∙ low x 40 lo in
-        let r : le_at (managed_id fixed o x) 1 8 / 2 ^ 40 % 2 ^ 16 ≡ x = ap (λ (v : ℕ). v / 2 ^ 40 % 2 ^ 16) id-number ∙ ap (λ (v : ℕ). v % 2 ^ 16) (high x 40 lo) ∙ mod-eq_of_lt hi in
-        rw (lt-ltb 0 (length (managed_id fixed o x)) (omega arith), first, m, q, r)
-
     -- the ID writer accepts them
     pub id-passes : (lent : ℕ) → 8 ≤ lent → id_checked fixed o x lent ≡ Ok tt
-    unfolding id_checked id_length offset_bytes
+    unfolding offset_bytes
     id-passes lent l = grind (arith, nat_tests)
 
 -- what the ID writer accepts is small enough
@@ -57,7 +35,7 @@ pub record Small (o x lent : ℕ) : Type 0 where
   pub room : 8 ≤ lent
 
 pub id-small : (o x lent : ℕ) → id_checked fixed o x lent ≡ Ok tt → Small o x lent
-unfolding id_checked id_length offset_bytes
+unfolding offset_bytes
 id-small o x lent e = grind (arith, nat_tests)
 
 pub id-round-trip : IdRoundTrip

@@ -11,7 +11,7 @@ use Rattle.numbers.specs.Sums.{sum}
 use Rattle.numbers.proofs.Sums.{sum-take-suc, sum-take-le}
 use Rattle.plan.specs.declared.ManagedPlan.{ManagedPlan}
 use Rattle.refusals.specs.declared.FormatError.{FormatError}
-use Rattle.reading.specs.declared.walk.place.Place.{Place}
+use Rattle.fields.specs.declared.place.Place.{Place}
 use Rattle.fractal_heap.specs.declared.header.FractalHeapHeader.{FractalHeapHeader}
 use Rattle.fractal_heap.specs.Read.{managed_at}
 use Rattle.ids.specs.Written.{managed_id}

@@ -16,7 +16,7 @@ use Rattle.region_write.proofs.Geometry.{SlotAt, Ahead, done, slot_of, all-ahead
 use Rattle.reading.specs.declared.rows.DoublingTable.{DoublingTable}
 use Rattle.reading.specs.declared.children.HeapChild.{HeapChild}
 use Rattle.std.specs.Prelude.{Option, None, Ok, Result}
-use Rattle.reading.specs.declared.walk.place.Place.{Place}
+use Rattle.fields.specs.declared.place.Place.{Place}
 use Rattle.refusals.specs.declared.FormatError.{FormatError}
 use Rattle.reading.specs.Blocks.{slot_rows, child_in_slots}
 use Rattle.reading.specs.Walk.{walk_from}

@@ -18,7 +18,7 @@ use Rattle.region_blocks.proofs.Lengths.{indirect-head-length, indirect-length}
 use Rattle.region_indirects.specs.Walk.{Walked, both, finished, all_slots, block}
 use Rattle.reading.specs.declared.rows.DoublingTable.{DoublingTable}
 use Rattle.reading.specs.declared.children.HeapChild.{HeapChild}
-use Rattle.reading.specs.declared.walk.place.Place.{Place}
+use Rattle.fields.specs.declared.place.Place.{Place}
 use Rattle.std.specs.Prelude.{Option, Result}
 use Rattle.refusals.specs.Steps.{◌>>=◌}
 use Rattle.refusals.specs.declared.FormatError.{FormatError}

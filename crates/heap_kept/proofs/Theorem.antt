@@ -17,9 +17,9 @@ use Rattle.table_laws.proofs.Format.{direct-local, fixed-slot}
 use Rattle.planner.specs.Steps.{plan_offsets}
 use Rattle.plan.specs.declared.ManagedPlan.{ManagedPlan}
 use Rattle.plan.proofs.Checking.{all_small}
-use Rattle.plan_laws.specs.Plans.{InPlacedBlock}
-use Rattle.plan_laws.proofs.Front.{front-part}
-use Rattle.plan_laws.proofs.Kept.{plan-kept}
+use Rattle.plan.specs.Plans.{InPlacedBlock}
+use Rattle.plan.proofs.Front.{front-part}
+use Rattle.plan.proofs.Kept.{plan-kept}
 use Rattle.region_directs.proofs.Objects.{objects-at}
 use Rattle.std.specs.Prelude.{Ok}
 use Rattle.reading.specs.Walk.{direct_at}
@@ -29,7 +29,8 @@ use Rattle.fractal_heap.specs.Read.{root_at, managed_at}
 use Rattle.ids.specs.Written.{managed_id}
 use Rattle.heap_kept.proofs.Holding.{has_part}
 use Rattle.heap_kept.specs.HeapKept.{Call, Written, HoldsRegion, HeaderOf, offset_of, ComesBack, part_of, HeapKept, EarlyIdsHold}
-use Rattle.heap_kept.proofs.Ids.{decodes, id-passes}
+use Rattle.ids.proofs.ReadBack.{decodes}
+use Rattle.heap_kept.proofs.Ids.{id-passes}
 use Rattle.heap_kept.proofs.FromRoot.{planned, tests, went, block_of, start, place_of, place-fits, bytes_of, bytes-least, block-has, block_inside, root-finds}
 
 -- ---- the reader by an ID
@@ -37,7 +38,6 @@ use Rattle.heap_kept.proofs.FromRoot.{planned, tests, went, block_of, start, pla
 -- by a written ID the reader looks for what it was written for
 pub by-id : (h : FractalHeapHeader) (F : List ℕ) (w o x : ℕ) (c : Call) (p : ManagedPlan) → HeaderOf h c p → o < 2 ^ 40 → x < 2 ^ 16
     → managed_at h F (managed_id fixed o x) w ≡ root_at h F o x w
-unfolding managed_at
 by-id h F w o x c p T lo hi =
     let e : decoded_id h.table.max_heap_size (managed_id fixed o x) ≡ decoded_id 40 (managed_id fixed o x) = ap (λ (n : ℕ). decoded_id n (managed_id fixed o x)) T.heap-bits in
     rw (eq-eqb h.io_filter_encoded_length 0 T.unfiltered, e ∙ decodes o x lo hi)

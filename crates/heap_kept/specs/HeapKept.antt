@@ -6,7 +6,7 @@ use Rattle.numbers.specs.Sums.{sum}
 use Rattle.planner.specs.Steps.{plan_offsets}
 use Rattle.plan.specs.declared.ManagedPlan.{ManagedPlan}
 use Rattle.plan.specs.Answer.{planned_for}
-use Rattle.plan_laws.specs.Plans.{PlanKept}
+use Rattle.plan.specs.Plans.{PlanKept}
 use Rattle.ids.specs.Decoded.{decoded_id}
 use Rattle.fractal_heap.specs.declared.header.FractalHeapHeader.{FractalHeapHeader}
 use Rattle.fractal_heap.specs.Read.{managed_at}

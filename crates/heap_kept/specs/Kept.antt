@@ -5,7 +5,7 @@ use Rattle.refusals.specs.declared.FormatError.{FormatError}
 use Rattle.refusals.specs.declared.FormatError.TheVariants.{SliceTooShort}
 use Rattle.table.specs.Table.{fixed}
 use Rattle.plan.specs.declared.ManagedPlan.{ManagedPlan}
-use Rattle.reading.specs.declared.walk.place.Place.{Place}
+use Rattle.fields.specs.declared.place.Place.{Place}
 use Rattle.fractal_heap.specs.declared.header.FractalHeapHeader.{FractalHeapHeader}
 use Rattle.ids.specs.Written.{managed_id}
 use Rattle.heap_kept.specs.HeapKept.{Call, width_of, Written, HoldsRegion, HeaderOf, offset_of, part_of}

@@ -5,7 +5,7 @@ use Rattle.fields.specs.Undefined.{undefined_address}
 use Rattle.fields.specs.Widths.{legal}
 use Rattle.table.specs.Table.{Table, row_bits, row_offset}
 use Rattle.table.specs.Slots.{slot_at}
-use Rattle.plan_laws.specs.Plans.{sizes_at}
+use Rattle.plan.specs.Plans.{sizes_at}
 use Rattle.region_indirects.specs.Walk.{all_slots, block}
 use Rattle.region_write.proofs.Starts.{Placed, before, from}
 use Rattle.region_write.proofs.Geometry.{BlockAt}
@@ -13,7 +13,7 @@ use Rattle.refusals.specs.declared.FormatError.TheVariants.{UnexpectedEof}
 use Rattle.numbers.specs.Numbers.{saturated}
 use Rattle.reading.specs.declared.rows.DoublingTable.{DoublingTable}
 use Rattle.reading.specs.Rows.{slot_size}
-use Rattle.reading.specs.declared.walk.place.Place.{Place}
+use Rattle.fields.specs.declared.place.Place.{Place}
 use Rattle.refusals.specs.declared.FormatError.{FormatError}
 use Rattle.reading.specs.declared.children.HeapChild.TheVariants.{Direct, Indirect}
 use Rattle.reading.specs.Blocks.{child_of}

@@ -1,7 +1,7 @@
 //! The bytes of an object, by the ID that it was given: `fetch` is lent the file, a header and the ID, and never sees what
 //! was written.
 ghost use Rattle.std.specs.Prelude.{◌≡◌, ◌≤◌, ◌++◌, length, take, drop, Ok, OnOk, OnErr};
-ghost use Rattle.reading.specs.declared.walk.place.Place.{Place};
+ghost use Rattle.fields.specs.declared.place.Place.{Place};
 ghost use Rattle.fractal_heap.specs.Read.{managed_at};
 ghost use Rattle.heap_kept.specs.Kept.{ForKept, IsFetched, fetched};
 

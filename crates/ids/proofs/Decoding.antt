@@ -1,16 +1,17 @@
 -- Laws of IDs: the number in them, and its parts at any number of heap bits.
 use mathlib.Core.Path.{◌≡◌, refl, sym, ap, ◌∙◌}
-use mathlib.Core.List.{List}
-use Prim.Native.Nat.{ℕ, ◌+◌, ◌-◌, ◌*◌, ◌^◌, ◌/◌, ◌%◌, ◌≤◌, ◌<◌, min}
+use mathlib.Core.List.{List, ◌++◌}
+use Prim.Native.Nat.{ℕ, zero, suc, ◌+◌, ◌-◌, ◌*◌, ◌^◌, ◌/◌, ◌%◌, ◌≤◌, ◌<◌, min}
 use native.Mathlib.Omega.{arith}
 use native.Mathlib.Nat.{mod-eq_of_lt, div-eq_of_lt, lt_of_lt_of_le, lt_of_le_of_lt}
 use native.Mathlib.Decide.{dec_lt}
 use mathlib.Core.Logic.{dite}
 use lib.Pow.{pow_mono, shr_le}
-use lib.ListN.{length, get_or, take, drop, length-drop}
-use lib.Seq.{take_all, get_or-drop}
+use lib.ListN.{length, take, drop, replicate, length-drop, length-append, length-replicate}
+use lib.Seq.{take_all}
+use Rattle.std.proofs.lemmas.List.{drop-replicate}
 use Rattle.fields.specs.LittleEndian.{value, le_at}
-use Rattle.fields.proofs.LittleEndian.{value-lt, le_at-add, le_at-byte, le_at-end}
+use Rattle.fields.proofs.LittleEndian.{value-append}
 use Rattle.ids.specs.declared.decode.ManagedId.{ManagedId}
 use Rattle.ids.specs.Decoded.{split_id}
 
@@ -24,36 +25,26 @@ div_wide x k h l = div-eq_of_lt (lt_of_lt_of_le h (pow_mono {i = 64} {j = k} l))
 
 -- past 65,536 bytes more bytes keep no more bits
 pub split_least : (B n x : ℕ) → x < 2 ^ 64 → B < 65536 → split_id B n x ≡ record { offset = x % 2 ^ B; length = x / 2 ^ B % 2 ^ (8 * min n 65536 - B) }
-unfolding split_id
 split_least B n x h l =
     ap (λ (k : ℕ). let id : ManagedId = record { offset = x % 2 ^ B; length = k } in id) (dite (dec_lt n 65536) (λ k. let e : min n 65536 ≡ n = omega arith in rw e)
     (λ k. let y : x / 2 ^ B < 2 ^ 64 = lt_of_le_of_lt (shr_le x B) h in
     mod_wide (x / 2 ^ B) (8 * n - B) y (omega arith) ∙ sym (mod_wide (x / 2 ^ B) (8 * min n 65536 - B) y (omega arith))))
 
--- ---- the number of a short ID, from its last byte down
+-- ---- the number of a short ID
 
-none-at : (s : List ℕ) (p : ℕ) → le_at s p 0 ≡ 0
-unfolding le_at value
-none-at s p = refl
+value-zeros : (n : ℕ) → value (replicate n 0) ≡ 0
+unfolding value
+value-zeros zero = refl
+value-zeros (suc n) = omega (arith, value-zeros n)
 
-module _ (s : List ℕ) (short : length s < 8) where
-  pub number-none : (i : ℕ) → i ≡ length s → 0 ≡ le_at s i 8
-  number-none i e = sym (le_at-end s i 8 0 (omega arith) (omega arith) ∙ none-at s i)
-
-  -- after its first byte it has at most six bytes
-  pub number_small : ((j : ℕ) → get_or s j 0 < 256) → (i : ℕ) → 0 < i → le_at s i 8 < 2 ^ 48
-  unfolding le_at
-  number_small bytes i p =
-      let l : length (drop i s) ≡ length s - i = length-drop i s in
-      let e : take 8 (drop i s) ≡ drop i s = take_all 8 (drop i s) (rw l (omega arith)) in
-      let v : value (drop i s) < 2 ^ (8 * length (drop i s)) = value-lt (drop i s) (λ j. rw (get_or-drop i s j 0) (bytes (i + j))) in
-      let m : 2 ^ (8 * length (drop i s)) ≤ 2 ^ 48 = pow_mono {i = 8 * length (drop i s)} {j = 48} (rw l (omega arith)) in
-      rw e (omega (arith, v, m))
-
-  pub number_more : (i number byte : ℕ) → 0 < i → i ≤ length s → number ≡ le_at s i 8 → byte ≡ get_or s (i - 1) 0 → number * 256 + byte ≡ le_at s (i - 1) 8
-  number_more i number byte p h e f =
-      let k : i - 1 + 1 ≡ i = omega arith in
-      let a : le_at s (i - 1) (1 + 7) ≡ le_at s (i - 1) 1 + le_at s (i - 1 + 1) 7 * 2 ^ (8 * 1) = le_at-add 1 7 s (i - 1) (omega arith) in
-      let b : le_at s (i - 1) 1 ≡ get_or s (i - 1) 0 = le_at-byte s (i - 1) (omega arith) in
-      let d : le_at s (i - 1 + 1) 7 ≡ le_at s i 8 = ap (λ (n : ℕ). le_at s n 7) k ∙ le_at-end s i 7 8 (omega arith) (omega arith) in
-      omega (arith, a, b, d, e, f)
+-- its bytes, with zeros behind them, have its number
+pub number_padded : (s copied : List ℕ) (k : ℕ) → length s < 8 → copied ≡ take (length s - 1) (drop 1 s) → k ≡ length s - 1
+    → le_at (copied ++ drop k (replicate 8 0)) 0 8 ≡ le_at s 1 8
+unfolding le_at
+number_padded s copied k short e f =
+    let l : length (drop 1 s) ≡ k = length-drop 1 s ∙ sym f in
+    let d : copied ≡ drop 1 s = e ∙ take_all (length s - 1) (drop 1 s) (omega arith) in
+    let zeros : List ℕ = replicate (8 - k) 0 in
+    let z : drop k (replicate {A = ℕ} 8 0) ≡ zeros = drop-replicate k 8 0 in
+    let w : length (drop 1 s ++ zeros) ≡ 8 = length-append (drop 1 s) zeros ∙ omega (arith, l, length-replicate {A = ℕ} (8 - k) 0) in
+    rw (d, z, take_all 8 (drop 1 s ++ zeros) (omega arith), value-append, value-zeros (8 - k), take_all 8 (drop 1 s) (omega arith)) (omega arith)

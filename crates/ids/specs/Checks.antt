@@ -8,11 +8,11 @@ use Rattle.table.specs.Table.{Table}
 use Rattle.table.specs.Sizes.{offset_bytes}
 
 -- how many bytes an ID has: Version and Type in one, Offset in as many as the heap's bits need, Length in two
-unfoldable pub id_length : Table → ℕ
+abbrev pub id_length : Table → ℕ
 id_length t = 1 + offset_bytes t + 2
 
 -- an ID into so many lent bytes: 16 where offset or length is too large for it, then 13
-unfoldable pub id_checked : Table → ℕ → ℕ → ℕ → Result (Unit {0}) FormatError
+abbrev pub id_checked : Table → ℕ → ℕ → ℕ → Result (Unit {0}) FormatError
 id_checked t offset len lent = do
   _ ← required (nat_lt offset (2 ^ t.heap_bits) && nat_lt len (2 ^ 16)) (HeapIdTooLarge offset len)
   required (nat_le (id_length t) lent) (SliceTooShort (id_length t) lent)

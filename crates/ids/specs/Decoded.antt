@@ -12,12 +12,12 @@ use Rattle.ids.specs.IdTypes.{type_of}
 use Rattle.ids.specs.declared.decode.ManagedId.{ManagedId}
 
 -- of the number x in n bytes: its low B bits are Offset, the rest, kept to the bits left, Length
-unfoldable pub split_id : ℕ → ℕ → ℕ → ManagedId
+abbrev pub split_id : ℕ → ℕ → ℕ → ManagedId
 split_id B n x = record { offset = x % 2 ^ B; length = x / 2 ^ B % 2 ^ (8 * n - B) }
 
 -- the managed ID s at B heap bits ('Fractal Heap Header': Maximum Heap Size): the number is that of the first eight
 -- bytes after byte 0
-unfoldable pub decoded_id : ℕ → List ℕ → Result ManagedId FormatError
+abbrev pub decoded_id : ℕ → List ℕ → Result ManagedId FormatError
 decoded_id B s = do
   _ ← required (nat_lt 0 (length s)) (UnexpectedEof 1 0)
   let kind = type_of (slice_index s 0)

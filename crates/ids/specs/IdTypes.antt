@@ -19,7 +19,7 @@ type_named k =
     else if k == 2 then Ok Tiny
     else Err (InvalidHeapIdType k)
 
-unfoldable pub id_type : List ℕ → Result HeapIdType FormatError
+abbrev pub id_type : List ℕ → Result HeapIdType FormatError
 id_type [] = Err (UnexpectedEof 1 0)
 id_type (byte ∷ bytes) = type_named (type_of byte)
 

@@ -5,10 +5,10 @@ use Rattle.std.specs.Prelude.{ℕ, ◌+◌, ◌*◌, ◌%◌, List, nat_lt, slic
 use Rattle.fields.specs.Fields.{len_ensured}
 use Rattle.refusals.specs.Steps.{◌>>=◌}
 use Rattle.refusals.specs.declared.FormatError.{FormatError}
-use Rattle.reading.specs.declared.walk.place.Place.{Place}
+use Rattle.fields.specs.declared.place.Place.{Place}
 
 -- len bytes at start of the ID s
-unfoldable pub tiny_in : List ℕ → ℕ → ℕ → Result Place FormatError
+abbrev pub tiny_in : List ℕ → ℕ → ℕ → Result Place FormatError
 tiny_in s start len = do
   _ ← len_ensured s start len
   Ok (record { position = start; length = len })
@@ -26,5 +26,5 @@ normal_at s = do
   tiny_in s 1 (slice_index s 0 % 16 + 1)
 
 -- the tiny object in the ID s, where Heap ID Length is l: extended above 17, in the text above 18
-unfoldable pub tiny_at : ℕ → List ℕ → Result Place FormatError
+abbrev pub tiny_at : ℕ → List ℕ → Result Place FormatError
 tiny_at l s = if nat_lt 17 l then extended_at s else normal_at s

@@ -7,5 +7,5 @@ use Rattle.table.specs.Table.{Table}
 use Rattle.table.specs.Sizes.{offset_bytes}
 
 -- the bytes of an ID: Offset in as many as the heap's bits need, Length in two
-unfoldable pub managed_id : Table → ℕ → ℕ → List ℕ
+abbrev pub managed_id : Table → ℕ → ℕ → List ℕ
 managed_id t offset len = le 1 0 ++ (le (offset_bytes t) offset ++ le 2 len)

@@ -55,24 +55,14 @@ fn split_id(max_heap_size: u16, bytes: usize, number: u64) -> ManagedId
     }
 }
 
-fn wide(byte: u8) -> u64
-    ensures { (result ≡ byte) × (result < 256) }
-{
-    byte as u64
-}
-
 // The number after the first byte of an ID that has fewer than eight bytes.
 fn short_number(id: &[u8]) -> u64
     requires { (0 < length id.now) × (length id.now < 8) }
     ensures { result ≡ le_at id.now 1 8 }
 {
-    let mut number: u64 = 0;
-    let mut i = id.len();
-    while i > 1 {
-        i = i - 1;
-        number = number * 256 + wide(id[i]);
-    }
-    number
+    let mut bytes = [0u8; 8];
+    bytes[..id.len() - 1].copy_from_slice(&id[1..]);
+    read_u64_le(&bytes, 0)
 }
 
 // The first eight bytes after byte 0, as one number; IDs of eight bytes, seven after byte 0, are usual.
@@ -91,7 +81,6 @@ fn number_behind_type(id: &[u8]) -> u64
 }
 
 /// The heap offset and the length in a managed ID of a heap with so many bits.
-#[tactic(auto, unfolding(crate::specs::Decoded::decoded_id))]
 pub fn decode_managed_id(max_heap_size: u16, id: &[u8]) -> Result<ManagedId, FormatError>
     ensures { result ≡ decoded_id max_heap_size id.now }
 {

@@ -4,7 +4,7 @@ ghost use Rattle.fields.specs.Fields.{len_ensured};
 ghost use Rattle.ids.specs.Tiny.{tiny_in, tiny_at};
 
 use fields::ensure_len;
-use reading::walk::place::Place;
+use fields::place::Place;
 use refusals::FormatError;
 
 // Tests that `len` bytes stand at `start` of an ID, by their end alone: of two 16-bit numbers it never overflows.
@@ -16,7 +16,6 @@ fn ensure_end(id: &[u8], start: u16, len: u16) -> Result<(), FormatError>
 }
 
 // `len` bytes at `start` of an ID.
-#[tactic(auto, unfolding(crate::specs::Tiny::tiny_in))]
 fn tiny_in(id: &[u8], start: u16, len: u16) -> Result<Place, FormatError>
     ensures value { result ≡ tiny_in id.now start len }
     ensures in_id { IfOk result (λ place. place.position + place.length ≤ length id.now) }
@@ -29,7 +28,6 @@ fn tiny_in(id: &[u8], start: u16, len: u16) -> Result<Place, FormatError>
 }
 
 /// The tiny object in an ID: where it lies there, and its length. The ID's type is not tested.
-#[tactic(auto, unfolding(crate::specs::Tiny::tiny_at))]
 pub fn read_tiny_object(heap_id_length: u16, id: &[u8]) -> Result<Place, FormatError>
     ensures value { result ≡ tiny_at heap_id_length id.now }
     ensures in_id { IfOk result (λ place. place.position + place.length ≤ length id.now) }

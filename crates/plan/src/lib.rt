@@ -4,6 +4,7 @@
 
 pub mod checks;
 pub mod ending;
+pub mod laws;
 pub mod report;
 
 ghost use Rattle.std.specs.Prelude.{◌≡◌, ◌≤◌, max, length};
@@ -114,6 +115,9 @@ pub fn write_lists(sizes: &[u64], offsets: &mut [u64], blocks: &mut [u64], offse
 }
 
 impl ManagedPlan {
+    ghost use Rattle.std.specs.Prelude.{IfOk};
+    ghost use Rattle.plan.specs.Plans.{PlanKept, RootFits, Tallied};
+
     /// What the heap header says of the objects that were added so far.
     pub fn of(planner: &Planner) -> ManagedPlan
         ensures { result ≡ totals fixed planner.now.offset_size
@@ -141,6 +145,9 @@ impl ManagedPlan {
             ≡ written result (plan_offsets fixed offset_size sizes.now) offsets.old }
         ensures blocks_after { blocks.new
             ≡ written result (plan_starts fixed offset_size sizes.now) blocks.old }
+        ensures kept { IfOk result (λ plan. PlanKept sizes.now offset_size plan) }
+        ensures root { IfOk result (λ plan. RootFits offset_size sizes.now plan) }
+        ensures tallied { IfOk result (λ plan. Tallied offset_size sizes.now plan) }
     {
         let width = offset_width(offset_size)?;
         let plan = planned_for(sizes, offsets.len(), blocks.len(), width)?;

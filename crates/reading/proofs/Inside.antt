@@ -11,7 +11,7 @@ use Rattle.reading.specs.declared.rows.DoublingTable.{DoublingTable}
 use Rattle.reading.specs.declared.children.HeapChild.{HeapChild}
 use Rattle.reading.specs.declared.children.HeapChild.TheVariants.{Direct, Indirect}
 use Rattle.reading.specs.Blocks.{child_at}
-use Rattle.reading.specs.declared.walk.place.Place.{Place}
+use Rattle.fields.specs.declared.place.Place.{Place}
 use Rattle.reading.specs.Walk.{direct_at, by_child, walk_from, root_walk}
 
 -- a place that lies in the file, where one is answered

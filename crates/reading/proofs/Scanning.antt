@@ -73,3 +73,6 @@ row_passed table s w t n k row p q start end e l b f room g past =
 -- the file from a place on
 pub part_all : (s : List ℕ) (a : ℕ) → take (length s - a) (drop a s) ≡ drop a s
 part_all s a = grind (arith, common_steps)
+
+-- what a scan over the rows of a block comes to, step by step
+pub ruleset scanning = (rows_none, row_begun, slots_none, slot_taken, slot_refused, slot_passed, row_passed)

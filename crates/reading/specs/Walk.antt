@@ -6,19 +6,13 @@ use Rattle.numbers.specs.Numbers.{saturated}
 use Rattle.fields.specs.Fields.{len_ensured}
 use Rattle.fields.specs.Undefined.{is_undefined_addr}
 use Rattle.refusals.specs.Steps.{◌>>=◌, required}
-use Rattle.refusals.specs.Refusals.{answer}
-use Rattle.refusals.specs.declared.answer.Answer.{Answer}
 use Rattle.refusals.specs.declared.FormatError.{FormatError}
 use Rattle.refusals.specs.declared.FormatError.TheVariants.{UnexpectedEof, OffsetOverflow, DepthExceeded}
 use Rattle.reading.specs.declared.rows.DoublingTable.{DoublingTable}
 use Rattle.reading.specs.declared.children.HeapChild.{HeapChild}
 use Rattle.reading.specs.declared.children.HeapChild.TheVariants.{Direct, Indirect}
 use Rattle.reading.specs.Blocks.{child_at}
-use Rattle.reading.specs.declared.walk.place.Place.{Place}
-
--- position and length
-abbrev pub place_report : Place → Answer
-place_report place = answer 0 place.position place.length
+use Rattle.fields.specs.declared.place.Place.{Place}
 
 -- len bytes at target in the direct block at a that begins at heap offset start; none of its fields is heeded
 unfoldable pub direct_at : List ℕ → ℕ → ℕ → ℕ → ℕ → Result Place FormatError

@@ -58,7 +58,7 @@ fn holds(addr: u64, offset_size: u8, start: u64, end: u64, target: u64) -> bool
 impl Search<'_> {
     // The child that holds the target, of the rows whose entries begin at `at` of a block. A row that ends at or before
     // the target is passed at once, where all its entries are there.
-    #[tactic(auto, using(crate::proofs::Scanning::rows_none, crate::proofs::Scanning::row_begun, crate::proofs::Scanning::slots_none, crate::proofs::Scanning::slot_taken, crate::proofs::Scanning::slot_refused, crate::proofs::Scanning::slot_passed, crate::proofs::Scanning::row_passed), unfolding(numbers::specs::Numbers::saturated))]
+    #[tactic(auto, using(crate::proofs::Scanning::scanning), unfolding(numbers::specs::Numbers::saturated))]
     fn find_child_in_rows(
         &self,
         block: &[u8],

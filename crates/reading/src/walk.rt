@@ -1,14 +1,12 @@
 //! From the root block of a heap down to an object's bytes. Block checksums are not tested.
-pub mod place;
-
 ghost use Rattle.std.specs.Prelude.{◌≡◌, ◌+◌, ◌≤◌, length, IfOk};
 ghost use Rattle.reading.specs.Walk.{direct_at, walk_from, root_walk};
 
 use crate::Search;
 use crate::children::HeapChild;
-use crate::walk::place::Place;
 use fields::convert::{is_undefined_addr, to_usize};
 use fields::ensure_len;
+use fields::place::Place;
 use refusals::FormatError;
 
 impl Search<'_> {

@@ -4,6 +4,10 @@ ghost use Rattle.refusals.specs.Refusals.{answer};
 
 use crate::FormatError;
 
+/// The number of `FormatError::SliceTooShort`, which a C function returns by itself where the slot or the list is too
+/// short that it would tell the pair in.
+pub const SLICE_TOO_SHORT: u32 = 13;
+
 /// The refusal's number, 0 where there is none, and two values.
 #[derive(Clone, Copy, Debug, PartialEq, Eq)]
 pub struct Answer {
@@ -80,7 +84,7 @@ impl Reported for FormatError {
             FormatError::DepthExceeded => (10, 64, 0),
             FormatError::ObjectTooLarge { index, size } => (11, index, size),
             FormatError::HeapSpaceExhausted(index) => (12, index, 0),
-            FormatError::SliceTooShort { needed, lent } => (13, needed, lent),
+            FormatError::SliceTooShort { needed, lent } => (SLICE_TOO_SHORT, needed, lent),
             FormatError::ObjectBytesMismatch { sum, given } => (14, sum, given),
             FormatError::HeaderAddressTooLarge(address) => (15, address, 0),
             FormatError::RegionAddressTooLarge { address, size } => (15, address, size),

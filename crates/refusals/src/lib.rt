@@ -3,7 +3,7 @@
 
 pub mod answer;
 
-pub use answer::{Answer, Reported};
+pub use answer::{Answer, Reported, SLICE_TOO_SHORT};
 use thiserror::Error;
 
 /// Why a heap is not read or not written. A cause that the Rust crate has, too, has its name.

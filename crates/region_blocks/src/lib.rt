@@ -7,7 +7,7 @@ pub mod indirect;
 ghost use Rattle.std.specs.Prelude.{◌≡◌, ◌+◌, ◌++◌, ◌≤◌, ◌∷◌, [], length, drop};
 ghost use Rattle.fields.specs.LittleEndian.{le};
 ghost use Rattle.table.specs.Table.{fixed};
-ghost use Rattle.fields.specs.Writing.{written, behind};
+ghost use Rattle.fields.specs.Writing.{Puts};
 ghost use Rattle.region_blocks.specs.Blocks.{block_head};
 
 use fields::stores::Writer;
@@ -26,13 +26,8 @@ pub struct Site {
 fn put_head(writer: &mut Writer<'_>, signature: &[u8; 4], offset: u64, site: Site)
     requires narrow { site.offset_size ≤ 8 }
     requires room { writer.old.at + 10 + site.offset_size ≤ length writer.old.bytes.now }
-    ensures same_reference { writer.new.bytes.ghost_name ≡ writer.old.bytes.ghost_name }
-    ensures at { writer.new.at ≡ writer.old.at + 10 + site.offset_size }
-    ensures len { length writer.new.bytes.now ≡ length writer.old.bytes.now }
-    ensures written { written writer.new
-        ≡ written writer.old ++ block_head fixed site.offset_size signature.now
-        site.heap_header_address offset }
-    ensures behind { behind writer.new ≡ drop (10 + site.offset_size) (behind writer.old) }
+    ensures { Puts writer.old writer.new (10 + site.offset_size)
+        (block_head fixed site.offset_size signature.now site.heap_header_address offset) }
 {
     writer.put(signature);
     writer.fill(0, 1); // Version

@@ -15,7 +15,7 @@ use Rattle.table.specs.Slots.{slot_at, slot_start, entered_bytes_in, entered_byt
 use Rattle.table.specs.Sizes.{indirect_size}
 use Rattle.table.proofs.Rows.{row, row-of-is, heap-rows}
 use Rattle.table.proofs.Slots.{slot-some}
-use Rattle.plan_laws.specs.Plans.{sizes_at}
+use Rattle.plan.specs.Plans.{sizes_at}
 use Rattle.region_indirects.specs.Walk.{Walked, unplaced, direct, nothing, both, slot, slots, smaller, all_slots, block}
 use Rattle.region_write.proofs.Geometry.{cell-end, SlotAt, Ahead, done, slot_of, slot-end, all-ahead, BlockAt, inner-span, root-block, inner_block}
 use Rattle.region_write.proofs.Starts.{Placed, none, more, before, from, last_end, before-yes, before-no, before-none, before-later, end-append, before-whole, from-none}

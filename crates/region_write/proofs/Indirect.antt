@@ -17,9 +17,9 @@ use Rattle.plan.specs.End.{end_state, rows_of_root}
 use Rattle.plan.specs.Answer.{bare_totals, row_totals, totals, planned_for}
 use Rattle.plan.proofs.Answering.{accepted}
 use Rattle.plan.proofs.Room.{Reach, reach, no_rows}
-use Rattle.plan_laws.proofs.Laying.{Laid, end, same, new, blocks, still-ok, starts-some, ran-ok, ran-laid}
-use Rattle.plan_laws.proofs.Root.{no-root-rows, one-block, starts_none}
-use Rattle.plan_laws.proofs.Tally.{tallied}
+use Rattle.plan.proofs.Laying.{Laid, end, same, new, blocks, still-ok, starts-some, ran-ok, ran-laid}
+use Rattle.plan.proofs.Root.{no-root-rows, one-block, starts_none}
+use Rattle.plan.proofs.Tally.{tallied}
 use Rattle.region_write.specs.Planned.{IndirectPlanned, BareRegion}
 use Rattle.region_write.proofs.Starts.{Placed, none, more, last_end}
 use Rattle.region_write.proofs.Counting.{opened_by, whole}

@@ -15,7 +15,7 @@ use Rattle.std.specs.Prelude.{Ok}
 use Rattle.plan.specs.End.{one_block, end_state}
 use Rattle.plan.specs.Answer.{planned_for}
 use Rattle.plan.proofs.Answering.{accepted}
-use Rattle.plan_laws.proofs.Tally.{counted, tallied}
+use Rattle.plan.proofs.Tally.{counted, tallied}
 use Rattle.region_blocks.specs.Site.{site_of}
 use Rattle.region_indirects.specs.Walk.{all_slots}
 use Rattle.region_directs.specs.Directs.{directs}

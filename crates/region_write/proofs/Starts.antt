@@ -13,7 +13,7 @@ use Rattle.table.specs.Table.{Table}
 use Rattle.table.specs.Slots.{slot_at}
 use Rattle.table.proofs.Slots.{slot-some}
 use Rattle.table_laws.proofs.Format.{SlotOf}
-use Rattle.plan_laws.specs.Plans.{sizes_at}
+use Rattle.plan.specs.Plans.{sizes_at}
 
 -- blocks in direct slots, each at or after the end of the one before, the first at or after lo
 pub data Placed (t : Table) : ℕ → List ℕ → Type 0 where

@@ -15,7 +15,7 @@ use Rattle.planner.specs.Steps.{plan_offsets}
 use Rattle.fields.specs.LittleEndian.{put}
 use Rattle.fields.proofs.LittleEndian.{put_front, put-here}
 use Rattle.plan.specs.declared.ManagedPlan.{ManagedPlan}
-use Rattle.plan_laws.proofs.Tally.{tallied}
+use Rattle.plan.proofs.Tally.{tallied}
 use Rattle.region_write.proofs.Indirect.{rooted, region-planned, bare-planned}
 use Rattle.region_write.specs.Region.{region}
 use Rattle.region_write.proofs.Region.{region-length}
@@ -35,7 +35,7 @@ use Rattle.round_trip.specs.RoundTrip.{nonempty}
 
 module _ (h : FractalHeapHeader) (F : List ℕ) (w o x : ℕ) (bs : List ℕ) where
   came : 0 < x → ComesBack F h w o x bs → comes_back h F w o x bs ≡ true
-  unfolding comes_back object_at id_length offset_bytes
+  unfolding comes_back object_at offset_bytes
   came s C = rw (lt-ltb 0 x s, C.id-accepted 8 (omega arith), C.read, C.same, (bytes_eq-Decides bs bs).1 refl)
 
   empty : x ≡ 0 → comes_back h F w o x bs ≡ false

@@ -10,7 +10,7 @@ use Rattle.fields.proofs.LittleEndian.{put_front}
 use Rattle.planner.specs.Steps.{plan_offsets}
 use Rattle.plan.specs.declared.ManagedPlan.{ManagedPlan}
 use Rattle.plan.specs.Answer.{planned_for}
-use Rattle.plan_laws.proofs.Tally.{tallied}
+use Rattle.plan.proofs.Tally.{tallied}
 use Rattle.ids.specs.Written.{managed_id}
 use Rattle.ids.specs.Checks.{id_checked, id_length}
 use Rattle.heap_kept.specs.HeapKept.{offset_of}

@@ -11,7 +11,7 @@ use Rattle.fields.proofs.LittleEndian.{put_front}
 use Rattle.planner.specs.Steps.{plan_offsets, plan_starts}
 use Rattle.plan.specs.declared.ManagedPlan.{ManagedPlan}
 use Rattle.plan.specs.Answer.{planned_for, written}
-use Rattle.plan_laws.proofs.Kept.{front-parts-fit}
+use Rattle.plan.proofs.Kept.{front-parts-fit}
 use Rattle.region_blocks.specs.declared.Site.{Site}
 use Rattle.fractal_heap.specs.declared.header.FractalHeapHeader.{FractalHeapHeader}
 use Rattle.ids.specs.Written.{managed_id}

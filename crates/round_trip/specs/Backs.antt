@@ -3,7 +3,7 @@
 use Rattle.std.specs.Prelude.{ℕ, ◌+◌, ◌&&◌, Bool, false, List, [], ◌∷◌, take, drop, nat_lt, bytes_eq, Result, Ok, Err}
 use Rattle.numbers.specs.Sums.{bit}
 use Rattle.refusals.specs.declared.FormatError.{FormatError}
-use Rattle.reading.specs.declared.walk.place.Place.{Place}
+use Rattle.fields.specs.declared.place.Place.{Place}
 use Rattle.fractal_heap.specs.declared.header.FractalHeapHeader.{FractalHeapHeader}
 use Rattle.round_trip.specs.Objects.{object_at}
 

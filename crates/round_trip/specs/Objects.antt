@@ -5,7 +5,7 @@ use Rattle.refusals.specs.declared.FormatError.{FormatError}
 use Rattle.table.specs.Table.{fixed}
 use Rattle.plan.specs.declared.ManagedPlan.{ManagedPlan}
 use Rattle.region_blocks.specs.declared.Site.{Site}
-use Rattle.reading.specs.declared.walk.place.Place.{Place}
+use Rattle.fields.specs.declared.place.Place.{Place}
 use Rattle.fractal_heap.specs.declared.header.FractalHeapHeader.{FractalHeapHeader}
 use Rattle.fractal_heap.specs.Read.{managed_at}
 use Rattle.ids.specs.Written.{managed_id}

@@ -4,7 +4,7 @@ use Rattle.refusals.specs.Steps.{◌>>=◌}
 use Rattle.refusals.specs.declared.FormatError.{FormatError}
 use Rattle.table.specs.Table.{fixed}
 use Rattle.plan.specs.declared.ManagedPlan.{ManagedPlan}
-use Rattle.reading.specs.declared.walk.place.Place.{Place}
+use Rattle.fields.specs.declared.place.Place.{Place}
 use Rattle.region_blocks.specs.declared.Site.{Site}
 use Rattle.fractal_heap.specs.Read.{managed_at}
 use Rattle.ids.specs.Written.{managed_id}

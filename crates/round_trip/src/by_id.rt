@@ -10,7 +10,7 @@ use fractal_heap::header::FractalHeapHeader;
 use ids::write::write_managed_id;
 use plan::ManagedPlan;
 use reading::rows::DoublingTable;
-use reading::walk::place::Place;
+use fields::place::Place;
 use refusals::FormatError;
 use region_blocks::Site;
 
@@ -72,7 +72,7 @@ pub fn early_id(
 }
 
 /// Writes the ID of the object of `size` bytes at the heap offset `offset`, and reads by it.
-#[tactic(auto, using(crate::proofs::ReadBack::id_written), unfolding(crate::specs::Objects::object_at, ids::specs::Checks::id_length, table::specs::Sizes::offset_bytes))]
+#[tactic(auto, using(crate::proofs::ReadBack::id_written), unfolding(crate::specs::Objects::object_at, table::specs::Sizes::offset_bytes))]
 pub fn read_object(
     file: &[u8],
     header: &FractalHeapHeader,

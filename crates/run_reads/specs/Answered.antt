@@ -7,8 +7,8 @@ use Rattle.ids.specs.IdTypes.{id_type, type_report}
 use Rattle.ids.specs.Decoded.{id_report}
 use Rattle.ids.specs.Tiny.{tiny_at}
 use Rattle.ids.specs.declared.decode.ManagedId.{ManagedId}
-use Rattle.reading.specs.Walk.{place_report}
-use Rattle.reading.specs.declared.walk.place.Place.{Place}
+use Rattle.fields.specs.Places.{place_report}
+use Rattle.fields.specs.declared.place.Place.{Place}
 use Rattle.fractal_heap.specs.Header.{header_at}
 use Rattle.fractal_heap.specs.Read.{id_by, object_by}
 use Rattle.fractal_heap.specs.declared.header.FractalHeapHeader.{FractalHeapHeader}

@@ -20,7 +20,7 @@ use fields::little_endian::{read_u16_le, read_u32_le, read_u64_le};
 use fractal_heap::header::FractalHeapHeader;
 use ids::decode::ManagedId;
 use ids::tiny::read_tiny_object;
-use reading::walk::place::Place;
+use fields::place::Place;
 use refusals::{Answer, FormatError, Reported};
 use std::io::{self, Read};
 

@@ -4,12 +4,17 @@ ghost use Rattle.std.specs.Prelude.{◌≡◌, ◌^◌, ◌<◌};
 ghost use Rattle.table.specs.Table.{fixed};
 ghost use Rattle.table.specs.Sizes.{direct_header, max_managed, indirect_size};
 
+use crate::{MAX_DIRECT_BLOCK_SIZE, TABLE_WIDTH};
+
+/// Bytes that a heap offset has in blocks and IDs.
+pub const BLOCK_OFFSET_BYTES: u64 = 5;
+
 /// The bytes of a direct block before its objects.
 #[tactic(auto, unfolding(crate::specs::Sizes::direct_header, crate::specs::Sizes::offset_bytes))]
 pub fn direct_block_header(offset_size: u8) -> u64
     ensures { result ≡ direct_header fixed offset_size }
 {
-    offset_size as u64 + 14
+    4 + 1 + u64::from(offset_size) + BLOCK_OFFSET_BYTES + 4
 }
 
 /// The largest object that a direct block holds.
@@ -17,7 +22,7 @@ pub fn direct_block_header(offset_size: u8) -> u64
 pub fn max_managed_object(offset_size: u8) -> u64
     ensures { result ≡ max_managed fixed offset_size }
 {
-    65_536 - direct_block_header(offset_size)
+    MAX_DIRECT_BLOCK_SIZE - direct_block_header(offset_size)
 }
 
 /// The bytes of an indirect block of `nrows` rows.
@@ -26,5 +31,6 @@ pub fn indirect_block_size(nrows: u64, offset_size: u8) -> u64
     requires { nrows < 2 ^ 16 }
     ensures { result ≡ indirect_size fixed offset_size nrows }
 {
-    14 + offset_size as u64 + nrows * 4 * offset_size as u64
+    let width = u64::from(offset_size);
+    4 + 1 + width + BLOCK_OFFSET_BYTES + nrows * TABLE_WIDTH * width + 4
 }

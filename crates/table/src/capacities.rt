@@ -7,7 +7,7 @@ ghost use Rattle.numbers.specs.Sums.{sum};
 ghost use Rattle.table.specs.Capacity.{capacities};
 
 use crate::block_sizes::direct_block_header;
-use crate::{is_direct, row_block_size};
+use crate::{MAX_ROOT_ROWS, STARTING_BLOCK_SIZE, TABLE_WIDTH, is_direct, row_block_size};
 
 // What a block of a row holds, `below` being what the blocks of the rows that fill an indirect one hold,
 // one of each row.
@@ -21,19 +21,19 @@ fn block_capacity(row: u64, below: u64, header: u64) -> u64
     if is_direct(row) {
         row_block_size(row) - header
     } else {
-        4 * below
+        TABLE_WIDTH * below
     }
 }
 
 /// What a block of each row holds, upward: an indirect row's blocks hold what the rows below that fill
 /// them hold. Rows 0 and 1 are alike and filled at once.
-pub fn rows_capacity(offset_size: u8) -> [u64; 29]
+pub fn rows_capacity(offset_size: u8) -> [u64; MAX_ROOT_ROWS]
     ensures { result ≡ capacities fixed (direct_header fixed offset_size) 29 }
 {
     let header = direct_block_header(offset_size);
-    let mut per_block = [1024 - header; 29];
+    let mut per_block = [STARTING_BLOCK_SIZE - header; MAX_ROOT_ROWS];
     let mut below = 0;
-    for row in 2..29 {
+    for row in 2..MAX_ROOT_ROWS {
         per_block[row] = block_capacity(row as u64, below, header);
         below += per_block[row - 2];
     }
@@ -41,7 +41,7 @@ pub fn rows_capacity(offset_size: u8) -> [u64; 29]
 }
 
 /// What `nrows` rows hold, from the capacities of their blocks.
-pub fn capacity_sum(per_block: [u64; 29], nrows: usize) -> u64
+pub fn capacity_sum(per_block: [u64; MAX_ROOT_ROWS], nrows: usize) -> u64
     requires rows_of_root { nrows ≤ 29 }
     requires sum_in_heap { 4 * sum (take nrows per_block) ≤ 2 ^ 40 }
     ensures { result ≡ 4 * sum (take nrows per_block) }
@@ -50,5 +50,5 @@ pub fn capacity_sum(per_block: [u64; 29], nrows: usize) -> u64
     for row in 0..nrows {
         total += per_block[row];
     }
-    4 * total
+    TABLE_WIDTH * total
 }

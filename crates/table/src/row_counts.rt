@@ -3,7 +3,7 @@
 ghost use Rattle.std.specs.Prelude.{◌≡◌, ◌^◌, ◌≤◌};
 ghost use Rattle.table.specs.Table.{fixed, row_of, covering};
 
-use crate::row_of;
+use crate::{MAX_HEAP_SPACE, row_of};
 
 /// The rows of an indirect block that spans `size` bytes: the row that would begin where it ends.
 pub fn size_to_rows(size: u64) -> u64
@@ -20,7 +20,7 @@ pub fn root_rows_covering(span: u64) -> Option<u64>
     if span == 0 {
         return Some(1);
     }
-    if span > 0x100_0000_0000 {
+    if span > MAX_HEAP_SPACE {
         return None;
     }
     Some(row_of(span - 1) + 1)

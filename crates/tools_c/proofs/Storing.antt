@@ -4,7 +4,7 @@ use Rattle.std.proofs.Math.Seq.{drop-drop, sets}
 use Rattle.std.proofs.lemmas.List.Edits.{sets-eq}
 use Rattle.refusals.specs.Refusals.{report_of}
 use Rattle.refusals.specs.declared.answer.Answer.{Answer}
-use Rattle.reading.specs.Walk.{place_report}
+use Rattle.fields.specs.Places.{place_report}
 use Rattle.fractal_heap.specs.declared.header.FractalHeapHeader.{FractalHeapHeader}
 use Rattle.fractal_heap.specs.Read.{managed_at}
 use Rattle.tools_c.specs.ObjectNumbers.{three_of, answers_from}

@@ -2,7 +2,7 @@
 use Rattle.std.specs.Prelude.{ℕ, zero, suc, List, [], ◌∷◌, ◌++◌, take, drop}
 use Rattle.refusals.specs.Refusals.{report_of}
 use Rattle.refusals.specs.declared.answer.Answer.{Answer}
-use Rattle.reading.specs.Walk.{place_report}
+use Rattle.fields.specs.Places.{place_report}
 use Rattle.fractal_heap.specs.declared.header.FractalHeapHeader.{FractalHeapHeader}
 use Rattle.fractal_heap.specs.Read.{managed_at}
 

@@ -5,7 +5,7 @@ ghost use Rattle.tools_c.specs.HeaderTools.{field_numbers, pair_of, header_numbe
 
 use fields::convert::to_usize;
 use fractal_heap::header::FractalHeapHeader;
-use refusals::{Answer, Reported};
+use refusals::{Answer, Reported, SLICE_TOO_SHORT};
 
 // The twelve fields in the original's order.
 #[tactic(auto, unfolding(crate::specs::HeaderTools::field_numbers))]
@@ -56,7 +56,7 @@ pub extern "C" fn tools_parse_header(
         ≡ header_numbers fields.old (header_at file.now at offset_size length_size) }
 {
     if fields.len() < 12 {
-        return 13;
+        return SLICE_TOO_SHORT;
     }
     match FractalHeapHeader::parse(file, to_usize(at), offset_size, length_size) {
         Ok(h) => {

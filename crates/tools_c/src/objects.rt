@@ -4,7 +4,7 @@ mod id_lists;
 ghost use Rattle.std.specs.Prelude.{◌≡◌};
 ghost use Rattle.refusals.specs.Refusals.{report_of};
 ghost use Rattle.fields.specs.Slot.{slot_number, slot_bytes};
-ghost use Rattle.reading.specs.Walk.{place_report};
+ghost use Rattle.fields.specs.Places.{place_report};
 ghost use Rattle.fractal_heap.specs.Header.{header_at};
 ghost use Rattle.fractal_heap.specs.Read.{object_by};
 ghost use Rattle.ids.specs.IdTypes.{id_type, type_report};
@@ -13,11 +13,11 @@ ghost use Rattle.tools_c.specs.ObjectTools.{each_number, each_list};
 
 use crate::objects::id_lists::read_each;
 use fields::convert::to_usize;
+use fields::place::Place;
 use fields::slot::put_answer;
 use fractal_heap::header::FractalHeapHeader;
 use ids::tiny::read_tiny_object;
-use reading::walk::place::Place;
-use refusals::{FormatError, Reported};
+use refusals::{FormatError, Reported, SLICE_TOO_SHORT};
 
 fn read(
     file: &[u8],
@@ -94,7 +94,7 @@ pub extern "C" fn tools_read_each(
         (header_at file.now at offset_size length_size) }
 {
     if found.len() / 3 < ids.len() / 8 {
-        return 13;
+        return SLICE_TOO_SHORT;
     }
     match FractalHeapHeader::parse(file, to_usize(at), offset_size, length_size) {
         Ok(h) => {

@@ -6,7 +6,7 @@ ghost use Rattle.tools_c.specs.StoreTools.{store_report};
 
 use fields::slot::put_answer;
 use fields::stores::{write_offset, write_undef_offset};
-use refusals::Reported;
+use refusals::{Reported, SLICE_TOO_SHORT};
 
 /// Stores the low bytes of `value` as an address of `offset_size` bytes at `pos`: 2 where the size is none, 13 where
 /// `bytes` ends too early.
@@ -27,7 +27,7 @@ pub extern "C" fn tools_write_offset(
     ensures untouched { 0 < result → bytes.new ≡ bytes.old }
 {
     if slot.len() < 16 {
-        return 13;
+        return SLICE_TOO_SHORT;
     }
     let stored = write_offset(bytes, pos as usize, value, offset_size);
     put_answer(slot, stored.answer())
@@ -50,7 +50,7 @@ pub extern "C" fn tools_write_undef_offset(
     ensures untouched { 0 < result → bytes.new ≡ bytes.old }
 {
     if slot.len() < 16 {
-        return 13;
+        return SLICE_TOO_SHORT;
     }
     let stored = write_undef_offset(bytes, pos as usize, offset_size);
     put_answer(slot, stored.answer())

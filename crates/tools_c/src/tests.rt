@@ -1,13 +1,12 @@
-//! What a caller gets by planning and writing, said from the clauses of `kept_plan`, `tools_plan` and `tools_serialize` that
-//! are theorems.
+//! What a caller gets by planning and writing, said from the clauses of `ManagedPlan::new`, `tools_plan` and `tools_serialize`
+//! that are theorems.
 ghost use Rattle.std.specs.Prelude.{◌≡◌, ℕ, ◌<◌, ◌≤◌, IsTrue, IfOk, length, take};
 ghost use Rattle.table.specs.Table.{fixed, row_offset};
 ghost use Rattle.planner.specs.Steps.{plan_offsets, plan_starts};
-ghost use Rattle.plan_laws.specs.Plans.{InObject};
+ghost use Rattle.plan.specs.Plans.{InObject};
 
 use crate::writing::{tools_plan, tools_serialize};
 use plan::ManagedPlan;
-use plan_laws::kept_plan;
 use refusals::FormatError;
 use std::test::Fail;
 
@@ -56,7 +55,7 @@ fn planned(
     ensures counted { IfOk result (λ plan.
         plan.block_count ≡ length (plan_starts fixed offset_size sizes.now)) }
 {
-    let plan = kept_plan(sizes, offsets, blocks, offset_size)?;
+    let plan = ManagedPlan::new(sizes, offsets, blocks, offset_size)?;
     Ok(plan)
 }
 

@@ -5,7 +5,7 @@ ghost use Rattle.fields.specs.LittleEndian.{put};
 ghost use Rattle.fields.specs.Slot.{slot_number, slot_bytes};
 ghost use Rattle.table.specs.Table.{fixed};
 ghost use Rattle.planner.specs.Steps.{plan_offsets, plan_starts};
-ghost use Rattle.plan_laws.specs.Plans.{PlanKept};
+ghost use Rattle.plan.specs.Plans.{PlanKept};
 ghost use Rattle.plan.specs.Report.{plan_number, plan_totals};
 ghost use Rattle.region_blocks.specs.Site.{site_of};
 ghost use Rattle.region_write.specs.Region.{region as region_of};
@@ -15,9 +15,9 @@ ghost use Rattle.tools_c.specs.WriteTools.{plan_answer, write_answer, written_id
 use fields::slot::put_answer;
 use fractal_heap_write::serialize;
 use ids::write::write_managed_id;
+use plan::ManagedPlan;
 use plan::report::put_planned;
-use plan_laws::kept_plan;
-use refusals::Reported;
+use refusals::{Reported, SLICE_TOO_SHORT};
 use region_blocks::Site;
 
 /// Plans, and puts the plan's eight numbers, or a refusal's two values, into the first places of `totals`; a list
@@ -44,9 +44,9 @@ pub extern "C" fn tools_plan(
     ensures untouched { 0 < result → (offsets.new ≡ offsets.old) × (blocks.new ≡ blocks.old) }
 {
     if totals.len() < 8 {
-        return 13;
+        return SLICE_TOO_SHORT;
     }
-    let planned = kept_plan(sizes, offsets, blocks, offset_size);
+    let planned = ManagedPlan::new(sizes, offsets, blocks, offset_size);
     put_planned(totals, planned)
 }
 
@@ -89,7 +89,7 @@ pub extern "C" fn tools_serialize(
         → (offsets.new ≡ offsets.old) × (blocks.new ≡ blocks.old) × (region.new ≡ region.old) }
 {
     if totals.len() < 8 {
-        return 13;
+        return SLICE_TOO_SHORT;
     }
     let site = Site {
         offset_size,
@@ -116,7 +116,7 @@ pub extern "C" fn tools_write_managed_id(
     ensures untouched { 0 < result → id.new ≡ id.old }
 {
     if slot.len() < 16 {
-        return 13;
+        return SLICE_TOO_SHORT;
     }
     let written = write_managed_id(offset, size, id);
     put_answer(slot, written.answer())

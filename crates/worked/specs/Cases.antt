@@ -15,7 +15,7 @@ use Rattle.ids.specs.Checks.{id_checked}
 use Rattle.ids.specs.Written.{managed_id}
 use Rattle.reading.specs.declared.rows.DoublingTable.{DoublingTable}
 use Rattle.reading.specs.Rows.{block_size, direct_rows, size_to_rows, slot_size}
-use Rattle.reading.specs.declared.walk.place.Place.{Place}
+use Rattle.fields.specs.declared.place.Place.{Place}
 use Rattle.ids.specs.Decoded.{decoded_id}
 use Rattle.ids.specs.Tiny.{tiny_at}
 use Rattle.fractal_heap.specs.declared.header.FractalHeapHeader.{FractalHeapHeader}

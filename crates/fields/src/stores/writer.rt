@@ -1,7 +1,6 @@
 //! A lent slice that is written from its front on.
-ghost use Rattle.std.specs.Prelude.{◌≡◌, ◌+◌, ◌-◌, ◌++◌, ◌≤◌, length, drop, replicate, []};
+ghost use Rattle.std.specs.Prelude.{◌≡◌, ◌+◌, ◌≤◌, length, replicate};
 ghost use Rattle.fields.specs.LittleEndian.{le};
-ghost use Rattle.fields.specs.Writing.{written, behind};
 
 /// A writer that goes through a lent slice: the bytes before `at` are written, those from there on are as they were.
 #[derive(Drop)]
@@ -11,6 +10,8 @@ pub struct Writer<'a> {
 }
 
 impl<'a> Writer<'a> {
+    ghost use Rattle.fields.specs.Writing.{Puts};
+
     /// At the slice's front.
     pub fn new(bytes: &'a mut [u8]) -> Writer<'a>
         ensures same_reference { result.bytes.ghost_name ≡ bytes.entry.ghost_name }
@@ -23,11 +24,7 @@ impl<'a> Writer<'a> {
     /// Puts all of `bytes`.
     pub fn put(&mut self, bytes: &[u8])
         requires room { self.old.at + length bytes.now ≤ length self.old.bytes.now }
-        ensures same_reference { self.new.bytes.ghost_name ≡ self.old.bytes.ghost_name }
-        ensures at { self.new.at ≡ self.old.at + length bytes.now }
-        ensures len { length self.new.bytes.now ≡ length self.old.bytes.now }
-        ensures written { written self.new ≡ written self.old ++ bytes.now }
-        ensures behind { behind self.new ≡ drop (length bytes.now) (behind self.old) }
+        ensures { Puts self.old self.new (length bytes.now) bytes.now }
     {
         let end = self.at + bytes.len();
         self.bytes[self.at..end].copy_from_slice(bytes);
@@ -37,11 +34,7 @@ impl<'a> Writer<'a> {
     /// Puts the same byte `count` times.
     pub fn fill(&mut self, byte: u8, count: usize)
         requires room { self.old.at + count ≤ length self.old.bytes.now }
-        ensures same_reference { self.new.bytes.ghost_name ≡ self.old.bytes.ghost_name }
-        ensures at { self.new.at ≡ self.old.at + count }
-        ensures len { length self.new.bytes.now ≡ length self.old.bytes.now }
-        ensures written { written self.new ≡ written self.old ++ replicate count byte }
-        ensures behind { behind self.new ≡ drop count (behind self.old) }
+        ensures { Puts self.old self.new count (replicate count byte) }
     {
         let end = self.at + count;
         self.bytes[self.at..end].fill(byte);
@@ -52,11 +45,7 @@ impl<'a> Writer<'a> {
     pub fn put_number(&mut self, number: u64, width: u8)
         requires narrow { width ≤ 8 }
         requires room { self.old.at + width ≤ length self.old.bytes.now }
-        ensures same_reference { self.new.bytes.ghost_name ≡ self.old.bytes.ghost_name }
-        ensures at { self.new.at ≡ self.old.at + width }
-        ensures len { length self.new.bytes.now ≡ length self.old.bytes.now }
-        ensures written { written self.new ≡ written self.old ++ le width number }
-        ensures behind { behind self.new ≡ drop width (behind self.old) }
+        ensures { Puts self.old self.new width (le width number) }
     {
         self.put(&number.to_le_bytes()[..usize::from(width)]);
     }
@@ -64,11 +53,7 @@ impl<'a> Writer<'a> {
     /// Puts a number's four bytes, the lowest first.
     pub fn put_u32(&mut self, number: u32)
         requires room { self.old.at + 4 ≤ length self.old.bytes.now }
-        ensures same_reference { self.new.bytes.ghost_name ≡ self.old.bytes.ghost_name }
-        ensures at { self.new.at ≡ self.old.at + 4 }
-        ensures len { length self.new.bytes.now ≡ length self.old.bytes.now }
-        ensures written { written self.new ≡ written self.old ++ le 4 number }
-        ensures behind { behind self.new ≡ drop 4 (behind self.old) }
+        ensures { Puts self.old self.new 4 (le 4 number) }
     {
         self.put(&number.to_le_bytes());
     }

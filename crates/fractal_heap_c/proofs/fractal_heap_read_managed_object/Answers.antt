@@ -2,7 +2,7 @@
 use Rattle.std.proofs.Common.{arith, ap, ◌∙◌}
 use Rattle.fields.specs.Slot.{slot_number, slot_bytes}
 use Rattle.refusals.specs.Refusals.{report_of}
-use Rattle.reading.specs.Walk.{place_report}
+use Rattle.fields.specs.Places.{place_report}
 use Rattle.fractal_heap_c.proofs.Naming.{names-kept}
 use Rattle.fractal_heap_c.proofs.fractal_heap_read_managed_object.Goals as goal
 

@@ -1,7 +1,7 @@
 -- What is left of `serialize`: the plan and its region fit into what is lent, and the bytes behind the region stay.
 use Rattle.std.proofs.Common.{arith, sym}
 use Rattle.std.proofs.Math.Seq.{length-take-le}
-use Rattle.plan_laws.proofs.Kept.{plan-kept}
+use Rattle.plan.proofs.Kept.{plan-kept}
 use Rattle.fractal_heap_write.proofs.Serializing.{sizes-small, offsets_fit, blocks_fit, count_fits, space_within, writable, behind-kept}
 use Rattle.fractal_heap_write.proofs.serialize.Goals as goal
 

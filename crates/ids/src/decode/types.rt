@@ -37,7 +37,6 @@ pub(crate) fn type_of(byte: u8) -> u8
 }
 
 /// The type of an ID.
-#[tactic(auto, unfolding(crate::specs::IdTypes::id_type))]
 pub fn heap_id_type(id: &[u8]) -> Result<HeapIdType, FormatError>
     ensures { result ≡ id_type id.now }
 {

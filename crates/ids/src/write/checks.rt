@@ -6,7 +6,7 @@ ghost use Rattle.ids.specs.Checks.{id_checked};
 use refusals::FormatError;
 
 /// What is tested before an ID goes into `lent` bytes.
-#[tactic(auto, unfolding(crate::specs::Checks::id_checked, crate::specs::Checks::id_length, table::specs::Sizes::offset_bytes))]
+#[tactic(auto, unfolding(table::specs::Sizes::offset_bytes))]
 pub fn check_id(offset: u64, length: u64, lent: usize) -> Result<(), FormatError>
     ensures answer { result ≡ id_checked fixed offset length lent }
     ensures there { OnOk result ((offset < 2 ^ 40) × (length < 2 ^ 16) × (8 ≤ lent)) }

@@ -1,13 +1,15 @@
--- What is left of `row_of`: the leading zeros of an offset from 4,096 on tell its row.
-use Rattle.std.proofs.Common.{sym, arith}
+-- What is left of `row_of`: the leading zeros of an offset from the second row on tell its row.
+use Rattle.std.proofs.Common.{sym, arith, ◌∙◌, ℕ, ◌+◌, ◌-◌, ◌≡◌}
 use Rattle.table.proofs.Rows.{row_low, row-clz}
 use Rattle.table.proofs.row_of.Goals as goal
 
-pub returns-then-offset-lt4096 : goal.returns-then-offset-lt4096
-returns-then-offset-lt4096 c = sym (row_low c.args.offset c.if-offset-lt4096.true)
+pub returns-then-offset-lt-FIRST_ROW_SIZE : goal.returns-then-offset-lt-FIRST_ROW_SIZE
+returns-then-offset-lt-FIRST_ROW_SIZE c = sym (row_low c.args.offset c.if-offset-lt-FIRST_ROW_SIZE.true)
 
-pub overflow_sub-result : goal.overflow_sub-result
-overflow_sub-result c = omega (arith, (row-clz c.args.offset c.if-offset-lt4096.false c.requires).0)
+pub overflow_sub-high_bit-2 : goal.overflow_sub-high_bit-2
+overflow_sub-high_bit-2 c = omega (arith, (row-clz c.args.offset c.if-offset-lt-FIRST_ROW_SIZE.false c.requires).0)
 
 pub returns : goal.returns
-returns c = sym (row-clz c.args.offset c.if-offset-lt4096.false c.requires).1
+returns c =
+    let r = row-clz c.args.offset c.if-offset-lt-FIRST_ROW_SIZE.false c.requires in
+    omega (arith, r.0, r.1)

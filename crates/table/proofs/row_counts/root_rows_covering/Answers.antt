@@ -9,8 +9,8 @@ use Rattle.table.proofs.row_counts.root_rows_covering.Goals as goal
 pub returns-then-span-eq0 : goal.returns-then-span-eq0
 returns-then-span-eq0 c = sym (ap (covering fixed) c.if-span-eq0.true ∙ covers-zero)
 
-pub returns-then-span-gt1099511627776 : goal.returns-then-span-gt1099511627776
-returns-then-span-gt1099511627776 c = sym (covers-not c.args.span c.if-span-gt1099511627776.true)
+pub returns-then-span-gt-MAX_HEAP_SPACE : goal.returns-then-span-gt-MAX_HEAP_SPACE
+returns-then-span-gt-MAX_HEAP_SPACE c = sym (covers-not c.args.span c.if-span-gt-MAX_HEAP_SPACE.true)
 
 pub overflow_add-result : goal.overflow_add-result
 overflow_add-result c = omega (arith, row-29 (c.args.span - 1) (omega arith))
@@ -18,4 +18,4 @@ overflow_add-result c = omega (arith, row-29 (c.args.span - 1) (omega arith))
 pub returns : goal.returns
 returns c =
     ap (λ (n : ℕ). Some (n + 1)) c.row_of.ensures
-    ∙ sym (covers c.args.span (omega arith) c.if-span-gt1099511627776.false)
+    ∙ sym (covers c.args.span (omega arith) c.if-span-gt-MAX_HEAP_SPACE.false)

@@ -1,4 +1,4 @@
--- What is left of `planned`: by the clauses `root` and `tallied` of `kept_plan`.
+-- What is left of `planned`: by the clauses `root` and `tallied` of `ManagedPlan::new`.
 use Rattle.std.proofs.Common.{arith}
 use Rattle.tools_c.proofs.tests.planned.Goals as goal
 

@@ -1,7 +1,7 @@
 -- What is left of `read_each`: at the start all is left to store, each turn stores one answer, at the end none is left.
 use Rattle.std.proofs.Common.{sym, ap, ◌∙◌, arith}
 use Rattle.refusals.specs.Refusals.{report_of}
-use Rattle.reading.specs.Walk.{place_report}
+use Rattle.fields.specs.Places.{place_report}
 use Rattle.tools_c.proofs.Storing.{rest-start, rest_more, rest-done}
 use Rattle.tools_c.proofs.objects.id_lists.read_each.Goals as goal
 

@@ -1,9 +1,14 @@
 -- What is left of `put_u32`: the four bytes of a number.
-use Rattle.std.proofs.Common.{◌∙◌, ap, ◌++◌, List, ℕ}
+use Rattle.std.proofs.Common.{rules, ◌∙◌, ap, ◌++◌, List, ℕ}
 use Rattle.fields.specs.Writing.{written}
 use Rattle.fields.proofs.Writing.{le_four}
 use Rattle.fields.proofs.stores.writer.Writer.put_u32.Goals as goal
 
-pub returns-clause-written : goal.returns-clause-written
-returns-clause-written c =
-    c.put.ensures.written ∙ ap (λ (bs : List ℕ). written c.args.self.now ++ bs) (c.to_le_bytes.ensures ∙ le_four c.args.number)
+pub returns : goal.returns
+returns c = record {
+  same_reference = search rules;
+  at = search rules;
+  len = search rules;
+  written = c.put.ensures.written ∙ ap (λ (bs : List ℕ). written c.args.self.now ++ bs) (c.to_le_bytes.ensures ∙ le_four c.args.number);
+  behind = search rules;
+}

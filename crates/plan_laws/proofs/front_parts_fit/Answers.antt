@@ -1,6 +1,0 @@
--- What is left of `front_parts_fit`: the theorem.
-use Rattle.plan_laws.proofs.Kept.{front-parts-fit}
-use Rattle.plan_laws.proofs.front_parts_fit.Goals as goal
-
-pub returns : goal.returns
-returns c = front-parts-fit

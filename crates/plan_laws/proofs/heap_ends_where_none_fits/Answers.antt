@@ -1,6 +1,0 @@
--- What is left of `heap_ends_where_none_fits`: the theorem.
-use Rattle.plan_laws.proofs.Kept.{none-fits}
-use Rattle.plan_laws.proofs.heap_ends_where_none_fits.Goals as goal
-
-pub returns : goal.returns
-returns c = none-fits
