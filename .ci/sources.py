@@ -137,6 +137,7 @@ class Edit:
         text = file.read_text()
         self.name, self.fault = file.stem, None
         self.texts = re.findall(r"^(?:old|new):.*$", text, re.M)
+        self.meaning = " ".join(line.lstrip("# ") for line in text.splitlines() if line.startswith("#"))
         before, after = {}, {}
         try:
             for path, old, new in pairs(text):
