@@ -9,7 +9,7 @@ use fields::stores::{write_offset, write_undef_offset};
 use fields::{read_length, read_offset};
 use refusals::{Answer, Reported};
 use run_report::{Hex, fill};
-use std::io;
+use std::{fmt, io};
 
 const WIDTHS: [u8; 10] = [0, 1, 2, 3, 4, 5, 8, 9, 128, 255];
 
@@ -37,6 +37,21 @@ const ADDRESSES: [u64; 7] = [
 
 const LONG: [usize; 6] = [255, 1000, 4096, 10_007, 65_535, 65_536];
 
+// A number and its two values, these in hexadecimal.
+#[derive(Clone, Copy)]
+struct InHex(Answer);
+
+impl fmt::Display for InHex {
+    fn fmt<W: fmt::Write>(&self, f: &mut fmt::Formatter<W>) -> fmt::Result {
+        let InHex(answer) = *self;
+        write!(
+            f,
+            "{} {:x} {:x}",
+            answer.number, answer.first, answer.second
+        )
+    }
+}
+
 fn published(rt: &impl Print) -> io::Result<()> {
     println!(rt; "lookup3 \"\" {:08x}", jenkins_lookup3(b""))?;
     let words = "Four score and seven years ago";
@@ -54,36 +69,29 @@ fn recorded(rt: &impl Print, bytes: &[u8], n: usize) -> io::Result<()> {
     }
 }
 
-fn answer(rt: &impl Print, a: Answer) -> io::Result<()> {
-    print!(rt; "{} {:x} {:x}", a.number, a.first, a.second)
-}
-
 fn read(rt: &impl Print, bytes: &[u8], pos: u64, width: u8) -> io::Result<()> {
-    print!(rt; "offset {pos:x} {width} ")?;
-    answer(rt, read_offset(bytes, pos as usize, width).answer())?;
-    print!(rt; "\nlength {pos:x} {width} ")?;
-    answer(rt, read_length(bytes, pos as usize, width).answer())?;
-    println!(rt; "")
+    let at = pos as usize;
+    let offset = InHex(read_offset(bytes, at, width).answer());
+    let length = InHex(read_length(bytes, at, width).answer());
+    println!(rt; "offset {pos:x} {width} {offset}\nlength {pos:x} {width} {length}")
 }
 
+// Stores into bytes that are marked.
 fn store(rt: &impl Print, pos: u64, width: u8) -> io::Result<()> {
     let mut bytes = [0xA5u8; 18];
-    print!(rt; "store {pos:x} {width} ")?;
-    answer(
-        rt,
-        write_offset(&mut bytes, pos as usize, 0x0123_4567_89AB_CDEF, width).answer(),
+    let stored = write_offset(&mut bytes, pos as usize, 0x0123_4567_89AB_CDEF, width);
+    println!(rt;
+        "store {pos:x} {width} {} {}",
+        InHex(stored.answer()),
+        Hex { bytes: &bytes }
     )?;
-    println!(rt; " {}", Hex { bytes: &bytes })
-}
-
-fn store_undefined(rt: &impl Print, pos: u64, width: u8) -> io::Result<()> {
     let mut bytes = [0xA5u8; 18];
-    print!(rt; "undefined {pos:x} {width} ")?;
-    answer(
-        rt,
-        write_undef_offset(&mut bytes, pos as usize, width).answer(),
-    )?;
-    println!(rt; " {}", Hex { bytes: &bytes })
+    let stored = write_undef_offset(&mut bytes, pos as usize, width);
+    println!(rt;
+        "undefined {pos:x} {width} {} {}",
+        InHex(stored.answer()),
+        Hex { bytes: &bytes }
+    )
 }
 
 // Fields in these bytes.
@@ -92,7 +100,6 @@ fn fields(rt: &impl Print, bytes: &[u8]) -> io::Result<()> {
         for width in WIDTHS {
             read(rt, bytes, pos, width)?;
             store(rt, pos, width)?;
-            store_undefined(rt, pos, width)?;
         }
     }
     Ok(())
