@@ -96,7 +96,6 @@ pub fn row_block_size(row: u64) -> u64
 
 /// Whether a row's slots are direct blocks; those of later rows are indirect. It is the one place where the direct rows
 /// end.
-#[tactic(auto, using(crate::proofs::Rows::direct_rows))]
 pub fn is_direct(row: u64) -> bool
     ensures { result ≡ nat_le (row_bits fixed row) fixed.direct_bits }
 {
