@@ -1,12 +1,12 @@
 -- Laws of little-endian numbers, and of bytes put in the place of others, for every width.
-use mathlib.Core.Path.{◌≡◌, refl, sym, ap, ◌∙◌}
-use mathlib.Core.List.{List, [], ◌∷◌, ◌++◌, append_assoc}
-use Prim.Native.Nat.{ℕ, zero, suc, ◌+◌, ◌-◌, ◌*◌, ◌/◌, ◌%◌, ◌^◌, ◌≤◌, ◌<◌}
-use native.Mathlib.Nat.{zero-add, zero-div}
-use native.Mathlib.Omega.{arith}
-use lib.ListN.{length, take, drop, get_or, replicate, length-append, length-drop}
-use lib.Seq.{take-add, drop-drop, drop-cons, take_all, take_at, drop_at, length-take-le, get_or-drop, sets, length-sets, sets-eq}
-use lib.Pow.{pow-add, pow_pos, mod-pow-add, shr-shr}
+use Rattle.std.proofs.Common.{◌≡◌, refl, sym, ap, ◌∙◌, List, [], ◌∷◌, ◌++◌, append_assoc, ℕ, zero, suc, ◌+◌, ◌-◌, ◌*◌}
+use Rattle.std.proofs.Common.{◌/◌, ◌%◌, ◌^◌, ◌≤◌, ◌<◌, zero-add, arith, length, take, drop, replicate, length-append}
+use Rattle.std.proofs.Common.{length-drop, take-add, drop-drop, drop-cons, take_all, take_at, drop_at, length-take-le}
+use Rattle.std.proofs.Common.{get_or-drop, pow-add, pow_pos, shr-shr}
+use Rattle.std.proofs.Math.Nat.{zero-div}
+use Rattle.std.proofs.Math.Seq.{sets, length-sets, sets-eq}
+use Rattle.std.proofs.Math.Pow.{mod-pow-add}
+use Rattle.std.specs.Prelude.{slice_index}
 use Rattle.fields.specs.LittleEndian.{le, value, le_at, put}
 
 -- one byte more is eight bits more
@@ -22,16 +22,18 @@ unfolding value
 value-append [] cs = omega arith
 value-append (b ∷ bs) cs = rw (value-append bs cs, pow-byte (length bs)) (omega arith)
 
-pub value-lt : (bs : List ℕ) → ((j : ℕ) → get_or bs j 0 < 256) → value bs < 2 ^ (8 * length bs)
+pub value-lt : (bs : List ℕ) → ((j : ℕ) → slice_index bs j < 256) → value bs < 2 ^ (8 * length bs)
 unfolding value
 value-lt [] h = omega arith
 value-lt (b ∷ bs) h = omega (arith, h 0, value-lt bs (λ j. h (suc j)), pow-byte (length bs))
 
 -- i bytes, then j bytes
-pub le_at-add : (i j : ℕ) (s : List ℕ) (p : ℕ) → p + i ≤ length s → le_at s p (i + j) ≡ le_at s p i + le_at s (p + i) j * 2 ^ (8 * i)
+pub le_at-add : (i j : ℕ) (s : List ℕ) (p : ℕ) → p + i ≤ length s
+    → le_at s p (i + j) ≡ le_at s p i + le_at s (p + i) j * 2 ^ (8 * i)
 unfolding le_at
 le_at-add i j s p h =
-    rw (take-add i j (drop p s), drop-drop i p s, value-append, length-take-le i (drop p s) (simp length-drop (omega arith)))
+    let front = length-take-le i (drop p s) (simp length-drop (omega arith)) in
+    rw (take-add i j (drop p s), drop-drop i p s, value-append, front) refl
 
 pub le_at-drop : (s : List ℕ) (q p w : ℕ) → le_at (drop q s) p w ≡ le_at s (q + p) w
 unfolding le_at
@@ -41,28 +43,32 @@ le_at-drop s q p w = rw (drop-drop p q s)
 pub le_at-end : (s : List ℕ) (p w v : ℕ) → length s ≤ p + w → length s ≤ p + v → le_at s p w ≡ le_at s p v
 unfolding le_at
 le_at-end s p w v h k =
-    ap value (take_all w (drop p s) (rw length-drop (omega arith)) ∙ sym (take_all v (drop p s) (rw length-drop (omega arith))))
+    rw (take_all w (drop p s) (rw length-drop (omega arith)), take_all v (drop p s) (rw length-drop (omega arith))) refl
 
-pub le_at-byte : (s : List ℕ) (p : ℕ) → p < length s → le_at s p 1 ≡ get_or s p 0
+pub le_at-byte : (s : List ℕ) (p : ℕ) → p < length s → le_at s p 1 ≡ slice_index s p
 unfolding le_at value
 le_at-byte s p h = rw (drop-cons s p 0) (omega arith)
 
 -- a number of bytes without its k lowest bytes
-value-drop : (bs : List ℕ) → ((j : ℕ) → get_or bs j 0 < 256) → (k : ℕ) → value (drop k bs) ≡ value bs / 2 ^ (8 * k)
+value-drop : (bs : List ℕ) → ((j : ℕ) → slice_index bs j < 256) → (k : ℕ) → value (drop k bs) ≡ value bs / 2 ^ (8 * k)
 unfolding value
 value-drop bs h zero = omega arith
 value-drop [] h (suc k) = sym (zero-div (2 ^ (8 * suc k)))
 value-drop (b ∷ bs) h (suc k) =
     let e : 8 * suc k ≡ 8 + 8 * k = omega arith in
     let low : (b + value bs * 256) / 2 ^ 8 ≡ value bs = omega (arith, h 0) in
-    value-drop bs (λ j. h (suc j)) k ∙ ap (λ (n : ℕ). n / 2 ^ (8 * k)) (sym low) ∙ rw e (shr-shr (b + value bs * 256) 8 (8 * k))
+    value-drop bs (λ j. h (suc j)) k
+    ∙ ap (λ (n : ℕ). n / 2 ^ (8 * k)) (sym low)
+    ∙ rw e (shr-shr (b + value bs * 256) 8 (8 * k))
 
 -- the bytes from p on, of which there are at most w, are the last w bytes without those before p
-pub le_at-last : (s : List ℕ) → ((j : ℕ) → get_or s j 0 < 256) → (w q k : ℕ) → q + w ≡ length s → le_at s (q + k) w ≡ le_at s q w / 2 ^ (8 * k)
+pub le_at-last : (s : List ℕ) → ((j : ℕ) → slice_index s j < 256) → (w q k : ℕ) → q + w ≡ length s
+    → le_at s (q + k) w ≡ le_at s q w / 2 ^ (8 * k)
 unfolding le_at
 le_at-last s h w q k e =
     let whole : take w (drop q s) ≡ drop q s = take_all w (drop q s) (rw length-drop (omega arith)) in
-    let part : take w (drop (q + k) s) ≡ drop k (drop q s) = take_all w (drop (q + k) s) (rw length-drop (omega arith)) ∙ sym (drop-drop k q s) in
+    let part : take w (drop (q + k) s) ≡ drop k (drop q s) =
+      take_all w (drop (q + k) s) (rw length-drop (omega arith)) ∙ sym (drop-drop k q s) in
     rw (whole, part) (value-drop (drop q s) (λ j. rw (get_or-drop q s j 0) (h (q + j))) k)
 
 pub length-le : (w x : ℕ) → length (le w x) ≡ w
@@ -106,20 +112,23 @@ module _ (s : List ℕ) (p : ℕ) (bs : List ℕ) (room : p + length bs ≤ leng
   put-sets = sym (sets-eq bs s p room)
 
   pub length-put : length (put s p bs) ≡ length s
-  length-put = ap length put-sets ∙ length-sets s p bs
+  length-put = rw put-sets (length-sets s p bs)
 
-  front : length (take p s ++ bs) ≡ p + length bs
-  front = length-append (take p s) bs ∙ ap (λ (n : ℕ). n + length bs) (length-take-le p s (omega arith))
+  front : length (take p s) ≡ p
+  front = length-take-le p s (omega arith)
 
   pub put-before : take p (put s p bs) ≡ take p s
   unfolding put
-  put-before = rw append_assoc (take_at (take p s) (bs ++ drop (p + length bs) s) p (length-take-le p s (omega arith)))
+  put-before = rw append_assoc (take_at (take p s) (bs ++ drop (p + length bs) s) p front)
 
   pub put-after : drop (p + length bs) (put s p bs) ≡ drop (p + length bs) s
   unfolding put
-  put-after = drop_at (take p s ++ bs) (drop (p + length bs) s) (p + length bs) front
+  put-after =
+      drop_at (take p s ++ bs) (drop (p + length bs) s) (p + length bs)
+      (length-append (take p s) bs ∙ ap (λ (n : ℕ). n + length bs) front)
 
   pub put-here : take (length bs) (drop p (put s p bs)) ≡ bs
   unfolding put
   put-here =
-      rw (append_assoc, drop_at (take p s) (bs ++ drop (p + length bs) s) p (length-take-le p s (omega arith))) (take_at bs (drop (p + length bs) s) (length bs) refl)
+      rw (append_assoc, drop_at (take p s) (bs ++ drop (p + length bs) s) p front)
+      (take_at bs (drop (p + length bs) s) (length bs) refl)

@@ -1,11 +1,11 @@
 -- What is stored reads back, at every width.
-use Rattle.std.proofs.Common.{◌≡◌, refl, ap, ◌∙◌, ℕ, zero, suc, ◌+◌, ◌*◌, ◌%◌, ◌^◌, ◌≤◌, List, length, replicate, arith}
+use Rattle.std.proofs.Common.{◌≡◌, refl, ap, ◌∙◌, ℕ, zero, suc, ◌+◌, ◌*◌, ◌%◌, ◌^◌, ◌≤◌, List, length, replicate}
+use Rattle.std.proofs.Common.{arith, pow_pos}
 use Rattle.std.proofs.lemmas.List.{length-replicate}
 use Rattle.std.specs.Prelude.{true, Ok}
 use Rattle.fields.specs.LittleEndian.{le, value, le_at, put}
 use Rattle.fields.specs.Widths.{legal}
 use Rattle.fields.proofs.LittleEndian.{length-le, value-le, le-undefined, length-put, put-here, put-before, put-after}
-use lib.Pow.{pow_pos}
 use Rattle.fields.proofs.LittleEndian.{pow-byte}
 use Rattle.fields.specs.Fields.{offset_at}
 use Rattle.fields.specs.Undefined.{undefined_address}
@@ -13,7 +13,8 @@ use Rattle.fields.proofs.Fields.{offset_read}
 use Rattle.fields.specs.Laws.{StoresReadBack, OnesUndefined}
 
 -- the bytes of a number, stored, are the number cut to the width
-pub stored-reads_back : (s : List ℕ) (p w x : ℕ) → p + w ≤ length s → le_at (put s p (le w x)) p w ≡ x % 2 ^ (8 * w)
+pub stored-reads_back : (s : List ℕ) (p w x : ℕ) → p + w ≤ length s
+    → le_at (put s p (le w x)) p w ≡ x % 2 ^ (8 * w)
 unfolding le_at
 stored-reads_back s p w x room =
     ap value (rw (length-le w x) at (put-here s p (le w x) (rw (length-le w x) room))) ∙ value-le w x
@@ -33,21 +34,26 @@ pub ones-undefined : OnesUndefined
 ones-undefined w h = le-undefined w h
 
 -- an address that was stored is read back, cut to its width
-pub address_reads_back : (s : List ℕ) (p a w : ℕ) → legal w ≡ true → p + w ≤ length s → offset_at (put s p (le w a)) p w ≡ Ok (a % 2 ^ (8 * w))
+pub address_reads_back : (s : List ℕ) (p a w : ℕ) → legal w ≡ true → p + w ≤ length s
+    → offset_at (put s p (le w a)) p w ≡ Ok (a % 2 ^ (8 * w))
 address_reads_back s p a w l room =
-    offset_read (put s p (le w a)) p w l (rw (length-put s p (le w a) (rw (length-le w a) room)) room) ∙ ap Ok (stored-reads_back s p w a room)
+    let still : length (put s p (le w a)) ≡ length s = length-put s p (le w a) (rw (length-le w a) room) in
+    offset_read (put s p (le w a)) p w l (rw still room) ∙ ap Ok (stored-reads_back s p w a room)
 
 -- bytes of ones are the undefined address
 value-ones : (w : ℕ) → value (replicate w 255) ≡ undefined_address w
 unfolding value
 value-ones zero = refl
-value-ones (suc w) = let a = value-ones w in let p = pow_pos (8 * w) in let e = pow-byte w in omega arith
+value-ones (suc w) = omega (arith, value-ones w, pow_pos (8 * w), pow-byte w)
 
 -- so is the undefined address
-pub undefined_reads_back : (s : List ℕ) (p w : ℕ) → legal w ≡ true → p + w ≤ length s → offset_at (put s p (replicate w 255)) p w ≡ Ok (undefined_address w)
+pub undefined_reads_back : (s : List ℕ) (p w : ℕ) → legal w ≡ true → p + w ≤ length s
+    → offset_at (put s p (replicate w 255)) p w ≡ Ok (undefined_address w)
 unfolding le_at
 undefined_reads_back s p w l room =
-    let here : p + length (replicate w 255) ≤ length s = rw (length-replicate {A = ℕ} w 255) room in
-    let still : p + w ≤ length (put s p (replicate w 255)) = omega (arith, length-put s p (replicate w 255) here) in
-    let e : le_at (put s p (replicate w 255)) p w ≡ undefined_address w = ap value (rw (length-replicate {A = ℕ} w 255) at (put-here s p (replicate w 255) here)) ∙ value-ones w in
-    offset_read (put s p (replicate w 255)) p w l still ∙ ap Ok e
+    let ones : List ℕ = replicate w 255 in
+    let many : length ones ≡ w = length-replicate w 255 in
+    let here : p + length ones ≤ length s = omega (arith, many, room) in
+    let still : p + w ≤ length (put s p ones) = omega (arith, length-put s p ones here) in
+    offset_read (put s p ones) p w l still
+    ∙ ap Ok (ap value (rw many at (put-here s p ones here)) ∙ value-ones w)

@@ -1,20 +1,20 @@
 -- What a writer's steps leave: the bytes of numbers, and what stands behind.
-use Rattle.std.proofs.Common.{◌≡◌, refl, sym, ap, ◌∙◌, ℕ, zero, suc, ◌+◌, ◌*◌, ◌/◌, ◌%◌, ◌^◌, ◌≤◌, List, ◌∷◌, length, take, drop, arith}
-use Rattle.std.specs.Int.{byte_at, bytes_low_first, to_le_bytes, w32, w64}
+use Rattle.std.proofs.Common.{◌≡◌, refl, sym, ap, ◌∙◌, ℕ, zero, suc, ◌+◌, ◌*◌, ◌/◌, ◌%◌, ◌^◌, ◌≤◌, List, ◌∷◌, length}
+use Rattle.std.proofs.Common.{take, drop, arith, drop-drop, append_assoc}
 use Rattle.std.proofs.lemmas.Slice.{drop-put_mid}
-use borrow.Rule.Slice.PartMut.{put_mid}
-use lib.Seq.{drop-drop}
-use native.Mathlib.Nat.{div-div-eq-div-mul}
-use native.Mathlib.Numerals.{unary_clauses}
+use Rattle.std.proofs.Math.Nat.{div-div-eq-div-mul}
+use Rattle.std.proofs.Math.Numerals.{unary_clauses}
+use Rattle.std.specs.Int.{byte_at, bytes_low_first, to_le_bytes, w32, w64}
 use Rattle.std.specs.Prelude.{true, ◌++◌}
 use Rattle.fields.specs.LittleEndian.{le, put}
 use Rattle.fields.specs.Widths.{legal}
 use Rattle.fields.proofs.Widths.{legal-small}
-use mathlib.Core.List.{append_assoc}
 
 -- a part from `at` on was written
-pub behind_put : (at n k : ℕ) (xs ys : List ℕ) → k ≡ n → at ≤ length xs → length ys ≡ n → drop (at + n) (put_mid at k xs ys) ≡ drop n (drop at xs)
-behind_put at n k xs ys e h l = drop-put_mid at k xs ys (at + n) (omega arith) h (l ∙ sym e) ∙ sym (drop-drop n at xs)
+pub behind_put : (at n k : ℕ) (xs ys : List ℕ) → k ≡ n → at ≤ length xs → length ys ≡ n
+    → drop (at + n) (take at xs ++ (ys ++ drop k (drop at xs))) ≡ drop n (drop at xs)
+behind_put at n k xs ys e h l =
+    drop-put_mid at k xs ys (at + n) (omega arith) h (l ∙ sym e) ∙ sym (drop-drop n at xs)
 
 byte-is : (i x : ℕ) → byte_at i x ≡ x / 256 ^ i % 256
 byte-is zero x = omega arith
@@ -46,8 +46,7 @@ pub legal_narrow : (w : ℕ) → legal w ≡ true → w ≤ 8
 legal_narrow w e = legal-small w e
 
 -- a part that is lent and written over, as bytes in the place of others
-pub mid_put : (s y bs : List ℕ) (p k : ℕ) → y ≡ bs → length bs ≡ k → put_mid p k s y ≡ put s p bs
+pub mid_put : (s y bs : List ℕ) (p k : ℕ) → y ≡ bs → length bs ≡ k
+    → take p s ++ (y ++ drop k (drop p s)) ≡ put s p bs
 unfolding put
-mid_put s y bs p k e n =
-    let q : drop k (drop p s) ≡ drop (p + length bs) s = drop-drop k p s ∙ ap (λ (m : ℕ). drop (p + m) s) (sym n) in
-    ap (λ (r : List ℕ). take p s ++ (y ++ r)) q ∙ ap (λ (x : List ℕ). take p s ++ (x ++ drop (p + length bs) s)) e ∙ sym (append_assoc (take p s) bs (drop (p + length bs) s))
+mid_put s y bs p k e n = rw (e, ← n, drop-drop (length bs) p s, append_assoc) refl

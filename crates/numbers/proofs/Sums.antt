@@ -1,26 +1,20 @@
 -- Sums of lists and of their front parts.
-use Prim.Native.Nat.{ℕ, ◌+◌, ◌-◌, ◌≤◌, ◌<◌}
-use mathlib.Core.Path.{◌≡◌, sym, ap, ◌∙◌}
-use mathlib.Core.List.{List, [], ◌∷◌, ◌++◌}
-use native.Mathlib.Omega.{arith}
-use native.Mathlib.Numerals.{add-one}
-use lib.ListN.{length, take, drop, get_or}
-use lib.Seq.{take-add, take-suc}
+use Rattle.std.proofs.Common.{ℕ, ◌+◌, ◌-◌, ◌≤◌, ◌<◌, ◌≡◌, sym, ap, ◌∙◌, List, [], ◌∷◌, ◌++◌, length, take, drop, take-suc}
+use Rattle.std.proofs.Common.{take-add, add-one, arith}
+use Rattle.std.specs.Prelude.{slice_index}
 use Rattle.numbers.specs.Sums.{sum}
 
 pub sum-append : (xs ys : List ℕ) → sum (xs ++ ys) ≡ sum xs + sum ys
 unfolding sum
-sum-append [] ys = sym (native.Mathlib.Nat.zero-add (sum ys))
-sum-append (x ∷ xs) ys = let z = sum-append xs ys in omega arith
+sum-append [] ys = omega arith
+sum-append (x ∷ xs) ys = omega (arith, sum-append xs ys)
 
-pub sum-take-suc : (l : List ℕ) (i : ℕ) → i < length l → sum (take (i + 1) l) ≡ sum (take i l) + get_or l i 0
+pub sum-take-suc : (l : List ℕ) (i : ℕ) → i < length l → sum (take (i + 1) l) ≡ sum (take i l) + slice_index l i
 unfolding sum
-sum-take-suc l i h =
-    ap (λ (j : ℕ). sum (take j l)) (add-one i) ∙ ap sum (take-suc l i 0 h) ∙ sum-append (take i l) (get_or l i 0 ∷ [])
-    ∙ (let e : sum (take i l) + (get_or l i 0 + 0) ≡ sum (take i l) + get_or l i 0 = omega arith in e)
+sum-take-suc l i h = rw (add-one, take-suc l i 0 h) (omega (arith, sum-append (take i l) (slice_index l i ∷ [])))
 
 pub sum-take-le : (l : List ℕ) (i n : ℕ) → i ≤ n → sum (take i l) ≤ sum (take n l)
 sum-take-le l i n h =
-    let e : i + (n - i) ≡ n = omega arith in
-    let z = ap (λ (j : ℕ). sum (take j l)) (sym e) ∙ ap sum (take-add i (n - i) l) ∙ sum-append (take i l) (take (n - i) (drop i l)) in
-    omega arith
+    let e : take n l ≡ take i l ++ take (n - i) (drop i l) =
+    ap (λ (j : ℕ). take j l) (let e : n ≡ i + (n - i) = omega arith in e) ∙ take-add i (n - i) l in
+    rw e (omega (arith, sum-append (take i l) (take (n - i) (drop i l))))

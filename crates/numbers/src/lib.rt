@@ -1,10 +1,12 @@
-//! Products and shifts of 64-bit numbers that stop at 2^64 - 1, and a number's exponent. Public for the crates above alone.
+//! Products and shifts of 64-bit numbers that stop at 2^64 - 1, and a number's exponent. Public for the crates above
+//! alone.
 #![tactic(auto)]
 
 ghost use Rattle.std.specs.Prelude.{◌≡◌, ◌*◌, ◌^◌, ◌<◌};
 ghost use Rattle.numbers.specs.Numbers.{saturated, log2, TopExponent};
 
-/// The product. A size below 2^48 takes no division: with a width it stays below 2^64.
+/// The product, or 2^64 - 1 where it is larger. A size below 2^48 takes no division: with a width it stays below 2^64.
+#[tactic(auto, using(crate::proofs::Saturating::products))]
 pub fn saturating_mul(size: u64, width: u16) -> u64
     ensures { result ≡ saturated (size * width) }
 {
@@ -19,7 +21,8 @@ pub fn saturating_mul(size: u64, width: u16) -> u64
     }
 }
 
-/// The product with 2^bits. The caller has tested that it is a shift.
+/// The product with 2^bits, or 2^64 - 1 where it is larger. The caller has tested that it is a shift.
+#[tactic(auto, using(crate::proofs::Saturating::shifts))]
 pub fn saturating_shl(size: u64, bits: u64) -> u64
     requires { bits < 64 }
     ensures { result ≡ saturated (size * 2 ^ bits) }
@@ -32,6 +35,7 @@ pub fn saturating_shl(size: u64, bits: u64) -> u64
 }
 
 /// The exponent of the largest power of two that is at most `v`; 0 of 0.
+#[tactic(auto, using(crate::proofs::Log2::exponents), unfolding(crate::specs::Numbers::log2))]
 pub fn log2_floor(v: u64) -> u64
     ensures value { result ≡ log2 v }
     ensures top { 0 < v → TopExponent v result }

@@ -11,7 +11,7 @@ use fields::stores::Writer;
 use table::block_sizes::direct_block_header;
 
 // All but the checksum, whose field is zero.
-#[tactic(auto, unfolding(fields::specs::Signatures::direct_signature), using(table::proofs::Sizes::header_is))]
+#[tactic(auto, using(table::proofs::Sizes::header_is))]
 fn write_unsummed(block: &mut [u8], offset: u64, objects: &[u8], site: Site)
     requires narrow { site.offset_size ≤ 8 }
     requires room { direct_header fixed site.offset_size + length objects.now ≤ length block.old }

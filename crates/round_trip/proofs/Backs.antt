@@ -10,7 +10,7 @@ use native.Mathlib.Numerals.{add-one}
 use lib.ListN.{length, take, drop, get_or, drop_of_length-le, length-drop}
 use lib.Seq.{drop-cons, drop-drop}
 use Rattle.numbers.specs.Sums.{bit}
-use Rattle.table.proofs.Lists.{take_min, drop_min}
+use Rattle.std.proofs.lemmas.List.{take_min, drop_min}
 use Rattle.fractal_heap.specs.declared.header.FractalHeapHeader.{FractalHeapHeader}
 use Rattle.round_trip.specs.Backs.{comes_back, backs}
 

@@ -10,7 +10,7 @@ use Rattle.std.specs.Prelude.{Result, Ok, Err, IfOk}
 use Rattle.refusals.specs.declared.FormatError.{FormatError}
 use Rattle.fields.specs.LittleEndian.{put}
 use Rattle.fields.proofs.LittleEndian.{put_front}
-use Rattle.table.proofs.Lists.{take_min, drop_min}
+use Rattle.std.proofs.lemmas.List.{take_min, drop_min}
 use Rattle.plan.specs.declared.ManagedPlan.{ManagedPlan}
 
 module _ (file new : List ℕ) (a start k : ℕ) (s : start ≡ min a (length file)) (e : k ≡ length file - start) where

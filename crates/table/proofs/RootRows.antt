@@ -1,31 +1,33 @@
 -- The fewest rows that span a number of bytes.
-use Prim.Native.Nat.{ℕ, zero, suc, ◌+◌, ◌-◌, ◌^◌, ◌≤◌, ◌<◌, zero-le}
-use mathlib.Core.Path.{◌≡◌, refl, sym, ap, subst}
-use native.Mathlib.Omega.{arith}
-use native.Mathlib.Decide.{ℕ_discrete}
-use native.Mathlib.Numerals.{add-one}
-use borrow.Author.Tests.{le-leb, lt-leb}
-use Rattle.table.specs.Table.{Table, fixed, row_offset, row_of, max_rows, covering_in, covering}
+use Rattle.std.proofs.Common.{ℕ, zero, suc, ◌+◌, ◌-◌, ◌^◌, ◌≤◌, ◌<◌, ◌≡◌, zero-le, refl, ap, arith, add-one, inl, inr}
+use Rattle.std.proofs.lemmas.Bool.{cases_lt, le-leb, lt-leb}
 use Rattle.std.specs.Prelude.{Some, None}
+use Rattle.table.specs.Table.{Table, fixed, row_offset, row_of, max_rows, covering_in, covering}
 use Rattle.table.proofs.Rows.{row-mono, row-lo, row_up, row-29, heap-rows}
 
 module _ (t : Table) (x : ℕ) where
   -- n rows reach x and no fewer do
-  covering-is : (f m n : ℕ) → m ≤ n → n < m + f → ((j : ℕ) → m ≤ j → j < n → row_offset t j < x) → x ≤ row_offset t n → covering_in t f m x ≡ Some n
+  covering-is : (f m n : ℕ) → m ≤ n → n < m + f → ((j : ℕ) → m ≤ j → j < n → row_offset t j < x) → x ≤ row_offset t n
+      → covering_in t f m x ≡ Some n
   unfolding covering_in
   covering-is zero m n l u less enough = absurd (omega arith)
-  covering-is (suc f) m n l u less enough = go (ℕ_discrete m n) (λ v. covering-is f (suc m) n v (omega arith) (λ j a b. less j (omega arith) b) enough)
-    where
-      go : Dec (m ≡ n) → (suc m ≤ n → covering_in t f (suc m) x ≡ Some n) → covering_in t (suc f) m x ≡ Some n
-      go (yes e) ih = rw (le-leb x (row_offset t m) (subst (λ (k : ℕ). x ≤ row_offset t k) (sym e) enough), covering_in) (ap Some e)
-      go (no e) ih = rw (lt-leb x (row_offset t m) (less m (omega arith) (omega arith)), covering_in) (ih (omega arith))
+  covering-is (suc f) m n l u less enough =
+      elim (cases_lt m n) [
+        | inl v ↦
+            rw (lt-leb x (row_offset t m) (less m (omega arith) v), covering_in)
+            (covering-is f (suc m) n v (omega arith) (λ j a b. less j (omega arith) b) enough)
+        | inr v ↦
+            let e : m ≡ n = omega arith in
+            rw e (rw (le-leb x (row_offset t n) enough, covering_in) refl)
+      ]
 
   -- no row count reaches x
   covering-none : (f m : ℕ) → ((j : ℕ) → j < m + f → row_offset t j < x) → covering_in t f m x ≡ None
   unfolding covering_in
   covering-none zero m less = refl
   covering-none (suc f) m less =
-      rw (lt-leb x (row_offset t m) (less m (omega arith)), covering_in) (covering-none f (suc m) (λ j a. less j (omega arith)))
+      rw (lt-leb x (row_offset t m) (less m (omega arith)), covering_in)
+      (covering-none f (suc m) (λ j a. less j (omega arith)))
 
 -- ---- the fixed table
 
@@ -34,8 +36,8 @@ unfolding covering max_rows
 covers-zero = covering-is fixed 0 29 1 1 (omega arith) (omega arith) (λ j a b. absurd (omega arith)) zero-le
 
 pub covers-not : (x : ℕ) → 2 ^ 40 < x → covering fixed x ≡ None
-unfolding covering max_rows
-covers-not x h = covering-none fixed x 29 1 (λ j l. (let m = row-mono fixed j 29 (omega arith) in let e : row_offset fixed 29 ≡ 2 ^ 40 = unfold row_offset in refl in omega arith))
+unfolding covering max_rows row_offset
+covers-not x h = covering-none fixed x 29 1 (λ j l. omega (arith, row-mono fixed j 29 (omega arith)))
 
 -- the row of the last byte is the last row
 pub covers : (x : ℕ) → 0 < x → x ≤ 2 ^ 40 → covering fixed x ≡ Some (row_of fixed (x - 1) + 1)
@@ -47,5 +49,5 @@ covers x p h =
     let lo = row-lo fixed (x - 1) in
     let e = ap (row_offset fixed) (add-one r) in
     covering-is fixed x 29 1 (r + 1) (omega arith) (omega arith)
-    (λ j a b. let m = row-mono fixed j r (omega arith) in omega arith)
+    (λ j a b. omega (arith, row-mono fixed j r (omega arith)))
     (omega arith)

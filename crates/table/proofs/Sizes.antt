@@ -1,7 +1,5 @@
 -- The header of a direct block in the fixed geometry.
-use Prim.Native.Nat.{ℕ, ◌+◌}
-use mathlib.Core.Path.{◌≡◌}
-use native.Mathlib.Omega.{arith}
+use Rattle.std.proofs.Common.{ℕ, ◌+◌, ◌≡◌, arith}
 use Rattle.table.specs.Table.{fixed}
 use Rattle.table.specs.Sizes.{offset_bytes, direct_header}
 

@@ -8,7 +8,9 @@ use Rattle.table.specs.Table.{Table, row_bits}
 -- hold, whose capacities stand in front in l
 unfoldable pub block_capacity : Table → ℕ → ℕ → List ℕ → ℕ
 block_capacity t h r l =
-    if nat_le (row_bits t r) t.direct_bits then 2 ^ row_bits t r - h else 2 ^ t.width_bits * sum (take (r - t.width_bits) l)
+    if nat_le (row_bits t r) t.direct_bits
+    then 2 ^ row_bits t r - h
+    else 2 ^ t.width_bits * sum (take (r - t.width_bits) l)
 
 -- the capacities of a block of each of the rows before n
 unfoldable pub capacities : Table → ℕ → ℕ → List ℕ

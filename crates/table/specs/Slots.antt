@@ -2,7 +2,8 @@
 -- direct block is direct; a slot of a later row is an indirect block, a table in turn, whose rows fill it.
 -- HDF5 File Format Specification 3.0, III.G, before its tables; but how many rows fill a slot is our rule, since the
 -- text's nrows leaves out the width (docs/DIFFERENCES.md).
-use Rattle.std.specs.Prelude.{ℕ, zero, suc, ◌+◌, ◌-◌, ◌*◌, ◌/◌, ◌%◌, ◌^◌, ◌≤◌, ◌<◌, ◌≡◌, true, false, nat_le, if◌then◌else◌}
+use Rattle.std.specs.Prelude.{ℕ, zero, suc, ◌+◌, ◌-◌, ◌*◌, ◌/◌, ◌%◌, ◌^◌, ◌≤◌, ◌<◌, ◌≡◌, true, false, nat_le}
+use Rattle.std.specs.Prelude.{if◌then◌else◌}
 use Rattle.table.specs.Table.{Table, row_bits, row_offset, row_of}
 use Rattle.table.specs.Sizes.{indirect_size}
 use Rattle.table.specs.declared.Slot.{Slot}

@@ -4,10 +4,7 @@ ghost use Rattle.std.specs.Prelude.{◌≡◌, ◌^◌, ◌<◌};
 ghost use Rattle.table.specs.Table.{fixed};
 ghost use Rattle.table.specs.Sizes.{direct_header, max_managed, indirect_size};
 
-use crate::{MAX_DIRECT_BLOCK_SIZE, TABLE_WIDTH};
-
-/// Bytes that a heap offset has in blocks and IDs.
-pub const BLOCK_OFFSET_BYTES: u64 = 5;
+use crate::{BLOCK_OFFSET_BYTES, MAX_DIRECT_BLOCK_SIZE, TABLE_WIDTH};
 
 /// The bytes of a direct block before its objects.
 #[tactic(auto, unfolding(crate::specs::Sizes::direct_header, crate::specs::Sizes::offset_bytes))]
@@ -18,7 +15,7 @@ pub fn direct_block_header(offset_size: u8) -> u64
 }
 
 /// The largest object that a direct block holds.
-#[tactic(auto, unfolding(crate::specs::Sizes::max_managed, crate::specs::Sizes::direct_header, crate::specs::Sizes::offset_bytes))]
+#[tactic(auto, using(crate::proofs::Sizes::header_is), unfolding(crate::specs::Sizes::max_managed))]
 pub fn max_managed_object(offset_size: u8) -> u64
     ensures { result ≡ max_managed fixed offset_size }
 {

@@ -7,16 +7,20 @@ ghost use Rattle.numbers.specs.Sums.{sum};
 ghost use Rattle.table.specs.Capacity.{capacities};
 
 use crate::block_sizes::direct_block_header;
-use crate::{MAX_ROOT_ROWS, STARTING_BLOCK_SIZE, TABLE_WIDTH, is_direct, row_block_size};
+use crate::{
+    MAX_HEAP_SPACE, MAX_ROOT_ROWS, STARTING_BLOCK_SIZE, TABLE_WIDTH, is_direct, row_block_size,
+};
 
 // What a block of a row holds, `below` being what the blocks of the rows that fill an indirect one hold,
 // one of each row.
+#[tactic(auto, using(crate::proofs::Capacity::row_size_ge))]
 fn block_capacity(row: u64, below: u64, header: u64) -> u64
-    requires row_of_root { row < 29 }
-    requires below_in_heap { below ≤ 2 ^ 40 }
-    requires header_in_block { header ≤ 1024 }
+    requires row_of_root { row < MAX_ROOT_ROWS }
+    requires below_in_heap { below ≤ MAX_HEAP_SPACE }
+    requires header_in_block { header ≤ STARTING_BLOCK_SIZE }
     ensures { result
-        ≡ if nat_le (row_bits fixed row) 16 then 2 ^ row_bits fixed row - header else 4 * below }
+        ≡ if nat_le (row_bits fixed row) fixed.direct_bits then 2 ^ row_bits fixed row - header
+        else TABLE_WIDTH * below }
 {
     if is_direct(row) {
         row_block_size(row) - header
@@ -28,7 +32,7 @@ fn block_capacity(row: u64, below: u64, header: u64) -> u64
 /// What a block of each row holds, upward: an indirect row's blocks hold what the rows below that fill
 /// them hold. Rows 0 and 1 are alike and filled at once.
 pub fn rows_capacity(offset_size: u8) -> [u64; MAX_ROOT_ROWS]
-    ensures { result ≡ capacities fixed (direct_header fixed offset_size) 29 }
+    ensures { result ≡ capacities fixed (direct_header fixed offset_size) MAX_ROOT_ROWS }
 {
     let header = direct_block_header(offset_size);
     let mut per_block = [STARTING_BLOCK_SIZE - header; MAX_ROOT_ROWS];
@@ -42,9 +46,9 @@ pub fn rows_capacity(offset_size: u8) -> [u64; MAX_ROOT_ROWS]
 
 /// What `nrows` rows hold, from the capacities of their blocks.
 pub fn capacity_sum(per_block: [u64; MAX_ROOT_ROWS], nrows: usize) -> u64
-    requires rows_of_root { nrows ≤ 29 }
-    requires sum_in_heap { 4 * sum (take nrows per_block) ≤ 2 ^ 40 }
-    ensures { result ≡ 4 * sum (take nrows per_block) }
+    requires rows_of_root { nrows ≤ MAX_ROOT_ROWS }
+    requires sum_in_heap { TABLE_WIDTH * sum (take nrows per_block) ≤ MAX_HEAP_SPACE }
+    ensures { result ≡ TABLE_WIDTH * sum (take nrows per_block) }
 {
     let mut total = 0;
     for row in 0..nrows {

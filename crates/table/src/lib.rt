@@ -11,35 +11,53 @@ pub mod slot_places;
 ghost use Rattle.std.specs.Prelude.{◌≡◌, ◌^◌, ◌<◌, ◌≤◌, nat_le};
 ghost use Rattle.table.specs.Table.{fixed, row_bits, row_offset, row_of, place_of};
 
-/// Slots of a row (`H5O_FHEAP_MAN_WIDTH`).
+/// Slots of a row (`H5O_FHEAP_MAN_WIDTH`). This and the next three numbers are those of every heap that HDF5 writes for
+/// links and attributes; all others here follow from them.
 pub const TABLE_WIDTH: u64 = 4;
 
-/// Bytes of a block of rows 0 and 1 (`H5O_FHEAP_MAN_START_BLOCK_SIZE`).
+/// Bytes of a block of the first two rows (`H5O_FHEAP_MAN_START_BLOCK_SIZE`).
 pub const STARTING_BLOCK_SIZE: u64 = 1024;
 
-/// The largest direct block; rows whose blocks would be larger hold indirect blocks (`H5O_FHEAP_MAN_MAX_DIRECT_SIZE`).
+/// Bytes of the largest direct block (`H5O_FHEAP_MAN_MAX_DIRECT_SIZE`). Rows whose blocks would be larger hold
+/// indirect blocks: so a heap grows by levels, and no block has to be read whole that is larger.
 pub const MAX_DIRECT_BLOCK_SIZE: u64 = 65_536;
 
-/// All heap offsets lie below it: they have 40 bits (`H5O_FHEAP_MAN_MAX_INDEX`).
-pub const MAX_HEAP_SPACE: u64 = 0x100_0000_0000;
+/// Bits of a heap offset (`H5O_FHEAP_MAN_MAX_INDEX`), the header's Maximum Heap Size.
+pub const MAX_HEAP_SIZE_BITS: u32 = 40;
 
-/// Bytes of a row of the smallest blocks.
+/// Bytes that a heap offset takes in blocks and IDs: as many as its bits need.
+pub const BLOCK_OFFSET_BYTES: u64 = (MAX_HEAP_SIZE_BITS as u64 + 7) / 8;
+
+/// The logarithm of `STARTING_BLOCK_SIZE`. Rows are told by logarithms, since each is twice the one before.
+const START_BITS: u32 = 10;
+
+/// The logarithm of `TABLE_WIDTH`.
+const WIDTH_BITS: u32 = 2;
+
+/// The logarithm of `MAX_DIRECT_BLOCK_SIZE`.
+const MAX_DIRECT_BITS: u32 = 16;
+
+const _: () = prove!(1u64 << START_BITS == STARTING_BLOCK_SIZE);
+
+const _: () = prove!(1u64 << WIDTH_BITS == TABLE_WIDTH);
+
+const _: () = prove!(1u64 << MAX_DIRECT_BITS == MAX_DIRECT_BLOCK_SIZE);
+
+/// The logarithm of the bytes that the first row spans (`H5HF_dtable_t::first_row_bits`).
+const FIRST_ROW_BITS: u32 = START_BITS + WIDTH_BITS;
+
+/// Bytes that the first row spans: where the second begins.
 const FIRST_ROW_SIZE: u64 = STARTING_BLOCK_SIZE * TABLE_WIDTH;
 
-/// Its logarithm.
-const FIRST_ROW_BITS: u32 = 12;
+/// The rows before this one hold direct blocks, it and all behind it indirect ones: the first two have the starting
+/// size, and each later one doubles it (`H5HF__dtable_init`).
+pub const MAX_DIRECT_ROWS: u64 = (MAX_DIRECT_BITS - START_BITS + 2) as u64;
 
-/// The rows before this one hold direct blocks.
-pub const MAX_DIRECT_ROWS: u64 = 8;
+/// As many rows span the heap space, so no root has more (`H5HF_dtable_t::max_root_rows`).
+pub const MAX_ROOT_ROWS: usize = (MAX_HEAP_SIZE_BITS - FIRST_ROW_BITS + 1) as usize;
 
-/// As many rows span the heap space.
-pub const MAX_ROOT_ROWS: usize = 29;
-
-const _: () = prove!(1u64 << FIRST_ROW_BITS == FIRST_ROW_SIZE);
-
-const _: () = prove!(STARTING_BLOCK_SIZE << (MAX_DIRECT_ROWS - 2) == MAX_DIRECT_BLOCK_SIZE);
-
-const _: () = prove!(FIRST_ROW_SIZE << (MAX_ROOT_ROWS - 1) == MAX_HEAP_SPACE);
+/// Bytes of the heap space: all heap offsets lie below it.
+pub const MAX_HEAP_SPACE: u64 = 1u64 << MAX_HEAP_SIZE_BITS;
 
 /// Row and column of a slot.
 #[derive(Clone, Copy)]
@@ -63,9 +81,10 @@ pub struct TableSlot {
     pub size: u64,
 }
 
-/// The size of a block of a row.
+/// The size of a block of a row, in bytes: it doubles from row 2 on.
+#[tactic(auto, using(crate::proofs::Rows::row_sizes))]
 pub fn row_block_size(row: u64) -> u64
-    requires { row < 30 }
+    requires { row ≤ MAX_ROOT_ROWS }
     ensures { result ≡ 2 ^ row_bits fixed row }
 {
     if row <= 1 {
@@ -75,16 +94,19 @@ pub fn row_block_size(row: u64) -> u64
     }
 }
 
-/// Whether a row's slots are direct blocks; those of later rows are indirect.
+/// Whether a row's slots are direct blocks; those of later rows are indirect. It is the one place where the direct rows
+/// end.
 pub fn is_direct(row: u64) -> bool
     ensures { result ≡ nat_le (row_bits fixed row) fixed.direct_bits }
 {
     row < MAX_DIRECT_ROWS
 }
 
-/// Where a row begins, from its indirect block's own offset on.
+/// Where a row begins, in bytes from its indirect block's own offset on (`H5HF_dtable_t::row_block_off`); which is what
+/// the rows before it span.
+#[tactic(auto, using(crate::proofs::Rows::row_starts))]
 pub fn row_offset(row: u64) -> u64
-    requires { row < 30 }
+    requires { row ≤ MAX_ROOT_ROWS }
     ensures { result ≡ row_offset fixed row }
 {
     if row == 0 {
@@ -94,10 +116,11 @@ pub fn row_offset(row: u64) -> u64
     }
 }
 
-/// The row of an offset.
+/// The row of an offset. At the end of the heap space it is the number of all rows.
 pub fn row_of(offset: u64) -> u64
-    requires { offset ≤ 2 ^ 40 }
-    ensures { result ≡ row_of fixed offset }
+    requires { offset ≤ MAX_HEAP_SPACE }
+    ensures value { result ≡ row_of fixed offset }
+    ensures of_root { result ≤ MAX_ROOT_ROWS }
 {
     if offset < FIRST_ROW_SIZE {
         return 0;
@@ -106,10 +129,11 @@ pub fn row_of(offset: u64) -> u64
     u64::from(high_bit - FIRST_ROW_BITS + 1)
 }
 
-/// Row and column of an offset.
+/// Row and column of an offset within an indirect block (`H5HF__dtable_lookup`).
 pub fn lookup(offset: u64) -> RowCol
-    requires { offset < 2 ^ 40 }
-    ensures { result ≡ place_of fixed offset }
+    requires { offset < MAX_HEAP_SPACE }
+    ensures value { result ≡ place_of fixed offset }
+    ensures of_root { result.row < MAX_ROOT_ROWS }
 {
     let row = row_of(offset);
     RowCol {

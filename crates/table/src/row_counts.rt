@@ -3,12 +3,14 @@
 ghost use Rattle.std.specs.Prelude.{◌≡◌, ◌^◌, ◌≤◌};
 ghost use Rattle.table.specs.Table.{fixed, row_of, covering};
 
-use crate::{MAX_HEAP_SPACE, row_of};
+use crate::{MAX_HEAP_SPACE, MAX_ROOT_ROWS, row_of};
 
-/// The rows of an indirect block that spans `size` bytes: the row that would begin where it ends.
+/// The rows of an indirect block that spans `size` bytes (`H5HF__dtable_size_to_rows`): the row that would begin where
+/// it ends.
 pub fn size_to_rows(size: u64) -> u64
-    requires { size ≤ 2 ^ 40 }
-    ensures { result ≡ row_of fixed size }
+    requires { size ≤ MAX_HEAP_SPACE }
+    ensures value { result ≡ row_of fixed size }
+    ensures of_root { result ≤ MAX_ROOT_ROWS }
 {
     row_of(size)
 }

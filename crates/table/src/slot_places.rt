@@ -7,12 +7,14 @@ ghost use Rattle.table.specs.Slots.{table_slot, slot_at, entered_bytes};
 
 use crate::block_sizes::indirect_block_size;
 use crate::row_counts::size_to_rows;
-use crate::{Slot, TableSlot, is_direct, lookup, row_block_size, row_offset};
+use crate::{MAX_HEAP_SPACE, Slot, TableSlot, is_direct, lookup, row_block_size, row_offset};
 
-/// The table's own slot that holds an offset.
+/// The table's own slot that holds an offset, direct or indirect: what `locate` and `entered_blocks` do at each level.
 pub fn table_slot(offset: u64) -> TableSlot
-    requires { offset < 2 ^ 40 }
-    ensures { result ≡ table_slot fixed offset }
+    requires { offset < MAX_HEAP_SPACE }
+    ensures value { result ≡ table_slot fixed offset }
+    ensures before { result.start ≤ offset }
+    ensures size_in_heap { result.size ≤ MAX_HEAP_SPACE }
 {
     let at = lookup(offset);
     let size = row_block_size(at.row);
@@ -25,7 +27,7 @@ pub fn table_slot(offset: u64) -> TableSlot
 
 /// The direct slot that holds an offset.
 pub fn locate(offset: u64) -> Slot
-    requires { offset < 2 ^ 40 }
+    requires { offset < MAX_HEAP_SPACE }
     ensures { result ≡ slot_at fixed offset }
 {
     let mut base = 0;
@@ -46,7 +48,7 @@ pub fn locate(offset: u64) -> Slot
 // The bytes of an indirect block in a slot of `size` bytes that begins at `start`, or 0 where the block
 // before, which ended at `end`, lies in it too.
 fn entered_here(end: u64, start: u64, size: u64, offset_size: u8) -> u64
-    requires { size ≤ 2 ^ 40 }
+    requires { size ≤ MAX_HEAP_SPACE }
     ensures { result
         ≡ if nat_le end start then indirect_size fixed offset_size (row_of fixed size) else 0 }
 {
@@ -60,7 +62,7 @@ fn entered_here(end: u64, start: u64, size: u64, offset_size: u8) -> u64
 /// The bytes of the indirect blocks that a direct block at `start` opens, where the one before ended at
 /// `end`.
 pub fn entered_blocks(end: u64, start: u64, offset_size: u8) -> u64
-    requires { start < 2 ^ 40 }
+    requires { start < MAX_HEAP_SPACE }
     ensures { result ≡ entered_bytes fixed offset_size end start }
 {
     let mut total = 0;

@@ -1,12 +1,9 @@
 -- The laws of the table in the words of the contracts.
-use Rattle.std.specs.Prelude.{◌↔◌}
-use Prim.Native.Nat.{ℕ, zero, suc, ◌*◌, ◌/◌, ◌^◌, ◌≤◌, ◌<◌}
-use mathlib.Core.Path.{◌≡◌, refl, sym, ap, ◌∙◌, subst}
-use mathlib.Core.Bool.{Bool, true, ◌&&◌, and-eq-true_iff}
-use native.Mathlib.Omega.{arith}
-use native.Mathlib.Nat.{div-mul-le_self}
-use lib.Dec.{ltb}
-use borrow.Author.Tests.{lt-ltb, ltb-true}
+use Rattle.std.proofs.Common.{ℕ, zero, suc, ◌*◌, ◌/◌, ◌^◌, ◌≤◌, ◌<◌, ◌≡◌, refl, sym, ap, ◌∙◌, subst, Bool, true, ◌&&◌}
+use Rattle.std.proofs.Common.{arith}
+use Rattle.std.proofs.Math.Nat.{div-mul-le_self}
+use Rattle.std.proofs.lemmas.Bool.Decides.{nat_tests}
+use Rattle.std.specs.Prelude.{◌↔◌, nat_lt}
 use Rattle.table.specs.Table.{Table, row_offset, max_rows}
 use Rattle.table.specs.Slots.{Direct, slot_bits, slot_at, slot_end}
 use Rattle.table.specs.declared.Slot.{Slot}
@@ -38,7 +35,8 @@ module _ (t : Table) (g : t.start_bits ≤ t.direct_bits) (k : t.start_bits ≤ 
     size_is = ap (λ (b : ℕ). 2 ^ b) (sym (slot-again t g k x h));
   }
 
-  one : (x y : ℕ) → x < 2 ^ t.heap_bits → (slot_at t x).start ≤ y → y < slot_end (slot_at t x) → slot_at t y ≡ slot_at t x
+  one : (x y : ℕ) → x < 2 ^ t.heap_bits → (slot_at t x).start ≤ y → y < slot_end (slot_at t x)
+      → slot_at t y ≡ slot_at t x
   one x y h lo hi =
       let l : y < 2 ^ t.heap_bits = omega (arith, hi, end-le t x g k h) in
       let S = found x h in
@@ -50,7 +48,8 @@ module _ (t : Table) (g : t.start_bits ≤ t.direct_bits) (k : t.start_bits ≤ 
   unfolding slot_at
   aligned x = (x / 2 ^ slot_bits t x, refl)
 
-  distinct : (x y : ℕ) → x < 2 ^ t.heap_bits → y < 2 ^ t.heap_bits → (slot_at t x).start < (slot_at t y).start → slot_end (slot_at t x) ≤ (slot_at t y).start
+  distinct : (x y : ℕ) → x < 2 ^ t.heap_bits → y < 2 ^ t.heap_bits → (slot_at t x).start < (slot_at t y).start
+      → slot_end (slot_at t x) ≤ (slot_at t y).start
   distinct x y h l u =
       let S = found x h in
       let a = apart t g k (slot_at t x).start (slot_at t y).start S.starts (found y l).starts S.inside u in
@@ -70,13 +69,15 @@ module _ (t : Table) (T : IsTable t) where
   starts-below : t.start_bits ≤ t.heap_bits
   starts-below = omega (arith, T.heap)
 
-  of-format : (s z : ℕ) → Direct t (max_rows t) s z ↔ ((s < 2 ^ t.heap_bits) × (slot_at t s ≡ record { start = s; size = z }))
+  of-format : (s z : ℕ)
+      → Direct t (max_rows t) s z ↔ ((s < 2 ^ t.heap_bits) × (slot_at t s ≡ record { start = s; size = z }))
   of-format s z = (there, back)
     where
       there : Direct t (max_rows t) s z → (s < 2 ^ t.heap_bits) × (slot_at t s ≡ record { start = s; size = z })
       there D =
           let S = direct-start t T.direct T.width T.heap D in
-          (S.inside, same-slot (slot_at t s) (record { start = s; size = z }) (start-here t T.direct starts-below s S.starts S.inside) (sym S.size_is))
+          let e = start-here t T.direct starts-below s S.starts S.inside in
+          (S.inside, same-slot (slot_at t s) (record { start = s; size = z }) e (sym S.size_is))
 
       back : (s < 2 ^ t.heap_bits) × (slot_at t s ≡ record { start = s; size = z }) → Direct t (max_rows t) s z
       back (l, e) =
@@ -89,20 +90,18 @@ module _ (t : Table) (T : IsTable t) where
 
   module _ (h n : ℕ) (u : row_offset t (suc n) ≤ 2 ^ t.heap_bits) where
     abbrev below-and : ℕ → Bool
-    below-and x = in_body t h x && ltb x (row_offset t (suc n))
+    below-and x = in_body t h x && nat_lt x (row_offset t (suc n))
 
     passes : (x : ℕ) → (below-and x ≡ true) ↔ InBody t h (suc n) x
     passes x = (only, always)
       where
         only : below-and x ≡ true → InBody t h (suc n) x
-        only e =
-            let p = (and-eq-true_iff (in_body t h x) (ltb x (row_offset t (suc n)))).0 e in
-            body-out t T.direct T.width h n x u (ltb-true x (row_offset t (suc n)) p.1) p.0
+        only e = body-out t T.direct T.width h n x u (grind (arith, nat_tests)) (grind (arith, nat_tests))
 
         always : InBody t h (suc n) x → below-and x ≡ true
         always B =
             let p = body-in t T.direct T.width h n x u B in
-            (and-eq-true_iff (in_body t h x) (ltb x (row_offset t (suc n)))).1 (p.1, lt-ltb x (row_offset t (suc n)) p.0)
+            grind (arith, nat_tests, p.0, p.1)
 
     held : BodiesCounted t h (suc n)
     held = record {

@@ -1,5 +1,6 @@
--- What is counted: how many numbers pass a test, and the bodies of the direct slots of the managed space (docs/RULES.md).
--- A body is a block's Object Data: HDF5 File Format Specification 3.0, III.G, 'Fractal Heap Direct Block'.
+-- What is counted: how many numbers pass a test, and the bodies of the direct slots of the managed space
+-- (docs/RULES.md). A body is a block's Object Data: HDF5 File Format Specification 3.0, III.G, 'Fractal Heap Direct
+-- Block'.
 use Rattle.std.specs.Prelude.{ℕ, zero, suc, ◌+◌, ◌^◌, ◌≤◌, ◌<◌, ◌≡◌, Bool}
 use Rattle.numbers.specs.Sums.{bit}
 use Rattle.table.specs.Table.{Table}

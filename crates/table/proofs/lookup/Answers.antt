@@ -1,17 +1,14 @@
--- What is left of `lookup`: the offset lies in the row that `row_of` gives, one of 29.
+-- What is left of `lookup`: the row begins at or before the offset, and the row's blocks are counted.
 use Rattle.std.proofs.Common.{ap, arith}
 use Rattle.table.specs.Table.{fixed, row_offset}
 use Rattle.table.proofs.Rows.{row-29, row-lo, place_is}
 use Rattle.table.proofs.lookup.Goals as goal
 
-pub row_offset-requires : goal.row_offset-requires
-row_offset-requires c = omega (arith, row-29 c.args.offset c.requires)
-
 pub overflow_sub-result : goal.overflow_sub-result
-overflow_sub-result c = omega (arith, ap (row_offset fixed) c.row_of-row.ensures, row-lo fixed c.args.offset)
-
-pub row_block_size-requires : goal.row_block_size-requires
-row_block_size-requires c = omega (arith, row-29 c.args.offset c.requires)
+overflow_sub-result c = omega (arith, ap (row_offset fixed) c.row_of-row.ensures.value, row-lo fixed c.args.offset)
 
 pub returns : goal.returns
-returns c = place_is c.args.offset _ _ _ c.row_of-row.ensures c.row_offset.ensures c.row_block_size.ensures
+returns c = record {
+  value = place_is _ c.row_of-row.ensures.value c.row_offset.ensures c.row_block_size.ensures;
+  of_root = omega (arith, c.row_of-row.ensures.value, row-29 c.args.offset c.requires);
+}

@@ -8,5 +8,6 @@ use Rattle.fields.proofs.stores.store_le.Goals as goal
 pub returns : goal.returns
 returns c =
     let a = c.args in
-    mid_put _ _ (le a.width a.value) _ _ (c.copy_from_slice.ensures.after ∙ ap (take a.width) (c.to_le_bytes.ensures ∙ le-eight a.value) ∙ take-le a.width 8 a.value c.requires.narrow)
-    (length-le a.width a.value ∙ omega arith)
+    let eight = ap (take a.width) (c.to_le_bytes.ensures ∙ le-eight a.value) in
+    let low = c.copy_from_slice.ensures.after ∙ eight ∙ take-le a.width 8 a.value c.requires.narrow in
+    mid_put _ _ (le a.width a.value) _ _ low (length-le a.width a.value ∙ omega arith)

@@ -1,7 +1,10 @@
--- What is left of `block_capacity`: a block holds its header.
-use Rattle.std.proofs.Common.{arith}
-use Rattle.table.proofs.Capacity.{row-size-ge}
+-- What is left of `block_capacity`: the test tells the kind of block.
+use Rattle.std.proofs.Common.{ℕ, ◌-◌, refl, ap}
 use Rattle.table.proofs.capacities.block_capacity.Goals as goal
 
-pub overflow_sub-result : goal.overflow_sub-result
-overflow_sub-result c = omega (arith, row-size-ge c.args.row)
+pub returns-then-is_direct : goal.returns-then-is_direct
+returns-then-is_direct c =
+    rw (← c.if-is_direct.ensures) (ap (λ (k : ℕ). k - c.args.header) c.row_block_size.ensures)
+
+pub returns-else-is_direct : goal.returns-else-is_direct
+returns-else-is_direct c = rw (← c.if-is_direct.ensures) refl

@@ -8,8 +8,8 @@ loop-row-init c = adding-start _ _ (search rules)
 
 pub overflow_add-total : goal.overflow_add-total
 overflow_add-total c =
-    let more = adding-more _ _ _ _ c.loop-row.invariant c.loop-row-test.true c.requires.rows_of_root in
-    omega (arith, adding-le _ _ _ _ more, c.requires.sum_in_heap)
+    let more = adding-more c.loop-row.invariant c.loop-row-test.true c.requires.rows_of_root in
+    omega (arith, adding-le more, c.requires.sum_in_heap)
 
 pub loop-row-preserved : goal.loop-row-preserved
-loop-row-preserved c = adding-more _ _ _ _ c.loop-row.invariant c.loop-row-test.true c.requires.rows_of_root
+loop-row-preserved c = adding-more c.loop-row.invariant c.loop-row-test.true c.requires.rows_of_root

@@ -1,8 +1,7 @@
 -- What is left of `root_rows_covering`: no byte needs one row, and else the row of the last byte is the last row.
-use Rattle.std.proofs.Common.{ℕ, ◌+◌, ◌-◌, sym, ap, ◌∙◌, arith}
-use Rattle.table.specs.Table.{fixed, covering}
+use Rattle.std.proofs.Common.{ℕ, ◌+◌, sym, ap, ◌∙◌, arith}
 use Rattle.std.specs.Prelude.{Some}
-use Rattle.table.proofs.Rows.{row-29}
+use Rattle.table.specs.Table.{fixed, covering}
 use Rattle.table.proofs.RootRows.{covers-zero, covers-not, covers}
 use Rattle.table.proofs.row_counts.root_rows_covering.Goals as goal
 
@@ -12,10 +11,7 @@ returns-then-span-eq0 c = sym (ap (covering fixed) c.if-span-eq0.true ∙ covers
 pub returns-then-span-gt-MAX_HEAP_SPACE : goal.returns-then-span-gt-MAX_HEAP_SPACE
 returns-then-span-gt-MAX_HEAP_SPACE c = sym (covers-not c.args.span c.if-span-gt-MAX_HEAP_SPACE.true)
 
-pub overflow_add-result : goal.overflow_add-result
-overflow_add-result c = omega (arith, row-29 (c.args.span - 1) (omega arith))
-
 pub returns : goal.returns
 returns c =
-    ap (λ (n : ℕ). Some (n + 1)) c.row_of.ensures
+    ap (λ (n : ℕ). Some (n + 1)) c.row_of.ensures.value
     ∙ sym (covers c.args.span (omega arith) c.if-span-gt-MAX_HEAP_SPACE.false)

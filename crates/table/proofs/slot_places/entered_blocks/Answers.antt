@@ -1,6 +1,8 @@
 -- What is left of `entered_blocks`: a direct slot adds nothing, and each level of the descent adds its own block.
-use Rattle.std.proofs.Common.{sym, arith}
-use Rattle.table.proofs.Locating.{level, slot-size-le, rest_small, entered-small, entering-start, entering-done, entering-more}
+use Rattle.std.proofs.Common.{arith}
+use Rattle.table.specs.Slots.{table_slot}
+use Rattle.table.proofs.Locating.{direct-slot, deep-slot, deep_start, entered-small}
+use Rattle.table.proofs.Locating.{entering-start, entering-done, entering-more}
 use Rattle.table.proofs.slot_places.entered_blocks.Goals as goal
 
 pub loop-at-init : goal.loop-at-init
@@ -8,30 +10,24 @@ loop-at-init c = entering-start c.args.offset_size c.args.end c.args.start c.req
 
 pub returns-then-is_direct : goal.returns-then-is_direct
 returns-then-is_direct c =
-    let v = level c.loop-at.local _ (omega arith) c.table_slot-at.ensures in
-    entering-done _ _ _ _ _ _ _ _ _ c.loop-at.invariant (omega arith) v (sym c.if-is_direct.ensures)
-
-pub overflow_add-base : goal.overflow_add-base
-overflow_add-base c = omega (arith, (level c.loop-at.local _ (omega arith) c.table_slot-at.ensures).below)
-
-pub overflow_sub-local : goal.overflow_sub-local
-overflow_sub-local c = (level c.loop-at.local _ (omega arith) c.table_slot-at.ensures).below
-
-pub entered_here-total-requires : goal.entered_here-total-requires
-entered_here-total-requires c = slot-size-le _ _ _ _ (level c.loop-at.local _ (omega arith) c.table_slot-at.ensures)
+    entering-done c.loop-at.invariant (direct-slot _ c.table_slot-at.ensures.value c.if-is_direct.ensures)
 
 pub overflow_add-total : goal.overflow_add-total
+unfolding table_slot
 overflow_add-total c =
-    let v = level c.loop-at.local _ (omega arith) c.table_slot-at.ensures in
-    let more = entering-more _ _ _ _ _ _ _ _ _ c.loop-at.invariant (omega arith) v (sym c.if-is_direct.ensures) _ c.entered_here-total.ensures in
+    let e = c.table_slot-at.ensures.value in
+    let deep = deep-slot _ e c.if-is_direct.ensures in
+    let more = entering-more c.loop-at.invariant deep _ (rw e at c.entered_here-total.ensures) in
     omega (arith, more.rest, entered-small c.args.offset_size c.args.end c.args.start (omega arith))
 
 pub loop-at-smaller : goal.loop-at-smaller
 loop-at-smaller c =
-    let v = level c.loop-at.local _ (omega arith) c.table_slot-at.ensures in
-    omega (arith, (rest_small _ _ _ _ v (sym c.if-is_direct.ensures) (omega arith)).1, v.below)
+    let s = deep_start c.loop-at.local c.table_slot-at.ensures.value (omega arith) c.if-is_direct.ensures in
+    omega arith
 
 pub loop-at-preserved : goal.loop-at-preserved
+unfolding table_slot
 loop-at-preserved c =
-    let v = level c.loop-at.local _ (omega arith) c.table_slot-at.ensures in
-    entering-more _ _ _ _ _ _ _ _ _ c.loop-at.invariant (omega arith) v (sym c.if-is_direct.ensures) _ c.entered_here-total.ensures
+    let e = c.table_slot-at.ensures.value in
+    let deep = deep-slot _ e c.if-is_direct.ensures in
+    rw e (entering-more c.loop-at.invariant deep _ (rw e at c.entered_here-total.ensures))

@@ -10,5 +10,6 @@ returns c = record {
   at = search rules;
   len = search rules;
   written = grind (arith, common_steps);
-  behind = behind_put c.args.self.now.at c.args.count _ c.args.self.now.bytes.now c.fill.new.self (omega arith) (omega arith) (omega (arith, c.fill.auto.self));
+  behind = behind_put c.args.self.now.at c.args.count _ c.args.self.now.bytes.now c.fill.new.self (omega arith)
+      (omega arith) (omega (arith, c.fill.auto.self));
 }

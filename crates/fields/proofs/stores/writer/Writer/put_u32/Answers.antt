@@ -5,10 +5,12 @@ use Rattle.fields.proofs.Writing.{le_four}
 use Rattle.fields.proofs.stores.writer.Writer.put_u32.Goals as goal
 
 pub returns : goal.returns
-returns c = record {
+returns c =
+    let four = c.to_le_bytes.ensures ∙ le_four c.args.number in
+    record {
   same_reference = search rules;
   at = search rules;
   len = search rules;
-  written = c.put.ensures.written ∙ ap (λ (bs : List ℕ). written c.args.self.now ++ bs) (c.to_le_bytes.ensures ∙ le_four c.args.number);
+  written = c.put.ensures.written ∙ ap (λ (bs : List ℕ). written c.args.self.now ++ bs) four;
   behind = search rules;
 }
