@@ -1,11 +1,19 @@
 //! Headers.
-ghost use Rattle.std.specs.Prelude.{◌≡◌};
+ghost use Rattle.std.specs.Prelude.{◌≡◌, ◌++◌, ◌≤◌, length, drop};
 ghost use Rattle.fractal_heap.specs.Header.{header_at};
 ghost use Rattle.tools_c.specs.HeaderTools.{header_number, header_list};
 
 use fields::convert::to_usize;
 use fractal_heap::FractalHeapHeader;
 use refusals::{Reported, SLICE_TOO_SHORT};
+
+// Puts the numbers at the front of a list.
+fn put_front(list: &mut [u64], numbers: &[u64])
+    requires { length numbers.now ≤ length list.old }
+    ensures { list.new ≡ numbers.now ++ drop (length numbers.now) list.old }
+{
+    list[..numbers.len()].copy_from_slice(numbers);
+}
 
 /// The header's twelve fields, or the refusal's pair, in the first places of a list of at least twelve; a shorter
 /// one gives 13 and is left as it is.
@@ -27,12 +35,12 @@ pub extern "C" fn tools_parse_header(
     }
     match FractalHeapHeader::parse(file, to_usize(at), offset_size, length_size) {
         Ok(header) => {
-            fields[..12].copy_from_slice(&header.numbers());
+            put_front(fields, &header.numbers());
             0
         }
         Err(refusal) => {
             let answer = refusal.answer();
-            fields[..2].copy_from_slice(&[answer.first, answer.second]);
+            put_front(fields, &[answer.first, answer.second]);
             answer.number
         }
     }
