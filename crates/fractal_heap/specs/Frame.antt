@@ -6,7 +6,8 @@ use Rattle.fields.specs.Signatures.{header_signature}
 use Rattle.fields.specs.Fields.{len_ensured}
 use Rattle.refusals.specs.Steps.{◌>>=◌, required}
 use Rattle.refusals.specs.declared.FormatError.{FormatError}
-use Rattle.refusals.specs.declared.FormatError.TheVariants.{InvalidFractalHeapSignature, InvalidFractalHeapVersion, ChecksumMismatch}
+use Rattle.refusals.specs.declared.FormatError.TheVariants.{InvalidFractalHeapSignature, InvalidFractalHeapVersion}
+use Rattle.refusals.specs.declared.FormatError.TheVariants.{ChecksumMismatch}
 use Rattle.checksum.specs.Lookup3.{hashlittle}
 
 -- Signature FRHP and Version 0 stand at p: where the first field begins

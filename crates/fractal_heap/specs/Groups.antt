@@ -1,5 +1,5 @@
--- The fields of the header in the file s, in four groups and in header order. HDF5 File Format Specification 3.0, III.G,
--- 'Fractal Heap Header'. Each group begins at p, gives its fields and where the next group begins, and makes the
+-- The fields of the header in the file s, in four groups and in header order. HDF5 File Format Specification 3.0,
+-- III.G, 'Fractal Heap Header'. Each group begins at p, gives its fields and where the next group begins, and makes the
 -- original's tests in the original's order. os is Size of Offsets, ls is Size of Lengths; beside each group is how many
 -- bytes it has.
 use Rattle.std.specs.Prelude.{ℕ, ◌+◌, ◌*◌, List, Ok}
@@ -30,9 +30,9 @@ abbrev pub front_size : ℕ
 front_size = 9
 
 -- the huge objects' tree, and how many managed objects there are; one test is made for the five fields between these:
--- Amount of Free Space in Managed Blocks (ls), Address of Managed Block Free Space Manager (os), Amount of Managed Space in
--- Heap (ls), Amount of Allocated Managed Space in Heap (ls), Offset of Direct Block Allocation Iterator in Managed Space
--- (ls)
+-- Amount of Free Space in Managed Blocks (ls), Address of Managed Block Free Space Manager (os), Amount of Managed
+-- Space in Heap (ls), Amount of Allocated Managed Space in Heap (ls), Offset of Direct Block Allocation Iterator in
+-- Managed Space (ls)
 abbrev pub object_fields : List ℕ → ℕ → ℕ → ℕ → Step ObjectFields
 object_fields s p os ls = do
   p ← passed s p ls  -- Next Huge Object ID
@@ -50,8 +50,8 @@ object_fields s p os ls = do
 abbrev pub objects_size : ℕ → ℕ → ℕ
 objects_size os ls = 6 * ls + 2 * os
 
--- the doubling table; the four lengths before it are stepped over without a test: Size of Huge Objects in Heap, Number of
--- Huge Objects in Heap, Size of Tiny Objects in Heap, Number of Tiny Objects in Heap
+-- the doubling table; the four lengths before it are stepped over without a test: Size of Huge Objects in Heap, Number
+-- of Huge Objects in Heap, Size of Tiny Objects in Heap, Number of Tiny Objects in Heap
 abbrev pub table_fields : List ℕ → ℕ → ℕ → Step DoublingTable
 table_fields s p ls = do
   let p = p + 4 * ls  -- the four

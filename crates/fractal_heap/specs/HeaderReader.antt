@@ -1,5 +1,5 @@
--- Steps through a header: each gives what stands at p of the file s, and where the next field begins. A field that is not
--- all there is refused, with the end that it would have.
+-- Steps through a header: each gives what stands at p of the file s, and where the next field begins. A field that is
+-- not all there is refused, with the end that it would have.
 use Rattle.std.specs.Prelude.{ℕ, ◌+◌, List, Result, Ok}
 use Rattle.refusals.specs.Steps.{◌>>=◌}
 use Rattle.refusals.specs.declared.FormatError.{FormatError}

@@ -12,19 +12,20 @@ use refusals::FormatError;
 pub struct FractalHeapHeader {
     /// How many bytes an ID of this heap has: Heap ID Length.
     pub heap_id_length: u16,
-    /// How many bytes the filter information takes that a header with filters has before its checksum; 0 where the heap has
-    /// no filters: I/O Filters' Encoded Length.
+    /// How many bytes the filter information takes that a header with filters has before its checksum; 0 where the heap
+    /// has no filters: I/O Filters' Encoded Length.
     pub io_filter_encoded_length: u16,
     /// The most bytes that a managed object may have, a longer one being huge: Maximum Size of Managed Objects.
     pub max_managed_object_size: u32,
-    /// The address of the tree by which huge objects are found, in bytes from the file's base: v2 B-tree Address of Huge
-    /// Objects.
+    /// The address of the tree by which huge objects are found, in bytes from the file's base: v2 B-tree Address of
+    /// Huge Objects.
     pub btree_huge_objects_address: u64,
     /// How many managed objects the heap holds: Number of Managed Objects in Heap.
     pub managed_objects_count: u64,
     /// The numbers that say how large each block is, and where in the heap space: Table Width to Maximum Heap Size.
     pub table: DoublingTable,
-    /// With how many rows the root indirect block began; nothing is read by it: Starting # of Rows in Root Indirect Block.
+    /// With how many rows the root indirect block began; nothing is read by it: Starting # of Rows in Root Indirect
+    /// Block.
     pub start_root_rows: u16,
     /// The address of the block that reading begins at, in bytes from the file's base; all bits are set where there is
     /// none: Address of Root Block.

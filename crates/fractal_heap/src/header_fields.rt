@@ -1,6 +1,6 @@
-//! The fields of a heap's header, in groups: its front, the numbers of objects, the doubling table, the root block. Each
-//! reader begins at `pos`, and gives a group and where the next one begins. It refuses as its first field does that is not
-//! all there.
+//! The fields of a heap's header, in groups: its front, the numbers of objects, the doubling table, the root block.
+//! Each reader begins at `pos`, and gives a group and where the next one begins. It refuses as its first field does
+//! that is not all there.
 
 pub mod reader;
 
@@ -37,7 +37,8 @@ impl Reader<'_> {
     ghost use Rattle.std.specs.Prelude.{true, OnOk, IfOk};
     ghost use Rattle.fields.specs.Widths.{legal};
     ghost use Rattle.fractal_heap.specs.Header.{sum_place};
-    ghost use Rattle.fractal_heap.specs.Groups.{front_fields, front_size, object_fields, objects_size, table_fields, table_size, root_fields, root_size};
+    ghost use Rattle.fractal_heap.specs.Groups.{front_fields, front_size, object_fields, objects_size, table_fields};
+    ghost use Rattle.fractal_heap.specs.Groups.{table_size, root_fields, root_size};
 
     /// From Heap ID Length to Maximum Size of Managed Objects.
     #[inline(always)]
@@ -83,8 +84,8 @@ impl Reader<'_> {
         Ok((objects, pos))
     }
 
-    /// From Size of Huge Objects in Heap to Maximum Heap Size. The first four lengths are stepped over untested, as in the
-    /// original.
+    /// From Size of Huge Objects in Heap to Maximum Heap Size. The first four lengths are stepped over untested, as in
+    /// the original.
     #[inline(always)]
     pub fn table(&self, pos: usize) -> Result<(DoublingTable, usize), FormatError>
         requires { pos ≤ length self.now.file.now }
@@ -125,8 +126,8 @@ impl Reader<'_> {
         Ok((root, pos))
     }
 
-    /// Where the checksum stands, the last group ending at `pos`: behind Size of Filtered Root Direct Block and I/O Filter
-    /// Mask where there are filters. They are stepped over untested.
+    /// Where the checksum stands, the last group ending at `pos`: behind Size of Filtered Root Direct Block and I/O
+    /// Filter Mask where there are filters. They are stepped over untested.
     #[inline(always)]
     pub fn sum_place(&self, pos: usize, io_filter_encoded_length: u16) -> usize
         requires { pos ≤ length self.now.file.now }

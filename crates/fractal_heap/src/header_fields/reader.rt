@@ -3,8 +3,9 @@ ghost use Rattle.std.specs.Prelude.{◌≡◌, ◌≤◌, length};
 
 use refusals::FormatError;
 
-/// A file with a header in it. Fields that the format marks O have `offset_size` bytes, those marked L `length_size`. Each
-/// method reads what stands at `pos`, and tells where the next field begins; it refuses a field that is not all there (1).
+/// A file with a header in it. Fields that the format marks O have `offset_size` bytes, those marked L `length_size`.
+/// Each method reads what stands at `pos`, and tells where the next field begins; it refuses a field that is not all
+/// there (1).
 #[derive(Clone, Copy)]
 pub struct Reader<'a> {
     pub file: &'a [u8],
