@@ -1,26 +1,28 @@
 -- What frames a header. HDF5 File Format Specification 3.0, III.G, 'Fractal Heap Header': Signature and Version at its
 -- start, Checksum at its end. What the checksum covers the text does not say: the original.
-use Rattle.std.specs.Prelude.{ℕ, ◌+◌, List, ◌==◌, slice_index, take, drop, bytes_eq, Result}
+use Rattle.std.specs.Prelude.{ℕ, ◌+◌, ◌-◌, List, ◌==◌, slice_index, take, drop, bytes_eq, Result, Ok}
 use Rattle.fields.specs.LittleEndian.{le_at}
 use Rattle.fields.specs.Signatures.{header_signature}
 use Rattle.fields.specs.Fields.{len_ensured}
 use Rattle.refusals.specs.Steps.{◌>>=◌, required}
 use Rattle.refusals.specs.declared.FormatError.{FormatError}
-use Rattle.refusals.specs.declared.FormatError.TheVariants.{InvalidFractalHeapSignature, InvalidFractalHeapVersion, ChecksumMismatch}
+use Rattle.refusals.specs.declared.FormatError.TheVariants.{InvalidFractalHeapSignature, InvalidFractalHeapVersion}
+use Rattle.refusals.specs.declared.FormatError.TheVariants.{ChecksumMismatch}
 use Rattle.checksum.specs.Lookup3.{hashlittle}
 
--- Signature FRHP and Version 0
-abbrev pub start_checked : List ℕ → ℕ → Result (Unit {0}) FormatError
+-- Signature FRHP and Version 0 stand at p: where the first field begins
+abbrev pub start_checked : List ℕ → ℕ → Result ℕ FormatError
 start_checked s p = do
   _ ← len_ensured s p 5
   _ ← required (bytes_eq (take 4 (drop p s)) header_signature) InvalidFractalHeapSignature
   let version = slice_index s (p + 4)
-  required (version == 0) (InvalidFractalHeapVersion version)
+  _ ← required (version == 0) (InvalidFractalHeapVersion version)
+  Ok (p + 5)
 
--- Checksum at its place is that of all bytes of the header before it
+-- Checksum at `place` is that of all bytes of the header at p before it
 abbrev pub sum_checked : List ℕ → ℕ → ℕ → Result (Unit {0}) FormatError
 sum_checked s p place = do
-  _ ← len_ensured s (p + place) 4
-  let stored = le_at s (p + place) 4
-  let computed = hashlittle (take place (drop p s))
+  _ ← len_ensured s place 4
+  let stored = le_at s place 4
+  let computed = hashlittle (take (place - p) (drop p s))
   required (computed == stored) (ChecksumMismatch stored computed)

@@ -1,69 +1,91 @@
--- The fields of the header at p of the file s, in groups, each read at its place in the one list, FieldList.antt, in the
--- original's order. A field is tested where it is read. os is Size of Offsets, ls is Size of Lengths.
-use Rattle.std.specs.Prelude.{ℕ, ◌+◌, ◌*◌, List, Result, Ok}
+-- The fields of the header in the file s, in four groups and in header order. HDF5 File Format Specification 3.0,
+-- III.G, 'Fractal Heap Header'. Each group begins at p, gives its fields and where the next group begins, and makes the
+-- original's tests in the original's order. os is Size of Offsets, ls is Size of Lengths; beside each group is how many
+-- bytes it has.
+use Rattle.std.specs.Prelude.{ℕ, ◌+◌, ◌*◌, List, Ok}
 use Rattle.refusals.specs.Steps.{◌>>=◌}
-use Rattle.refusals.specs.declared.FormatError.{FormatError}
-use Rattle.fields.specs.Fields.{len_ensured, plain_at, offset_at, length_at}
 use Rattle.reading.specs.declared.rows.DoublingTable.{DoublingTable}
-use Rattle.fractal_heap.specs.FieldList.{header_list, width_in, field_place}
+use Rattle.fractal_heap.specs.HeaderReader.{Step, plain_field, offset_field, length_field, passed}
 use Rattle.fractal_heap.specs.declared.header_fields.FrontFields.{FrontFields}
 use Rattle.fractal_heap.specs.declared.header_fields.ObjectFields.{ObjectFields}
 use Rattle.fractal_heap.specs.declared.header_fields.RootFields.{RootFields}
 
--- the number in field n, and that field n is there
-abbrev pub field_number : List ℕ → ℕ → ℕ → ℕ → ℕ → Result ℕ FormatError
-field_number s p os ls n = plain_at s (p + field_place os ls n) (width_in n (header_list os ls))
+-- what stands before the fields whose sizes the file chooses
+abbrev pub front_fields : List ℕ → ℕ → Step FrontFields
+front_fields s p = do
+  (heap_id_length, p) ← plain_field s p 2  -- Heap ID Length
+  (io_filter_encoded_length, p) ← plain_field s p 2  -- I/O Filters' Encoded Length
+  p ← passed s p 1  -- Flags
+  (max_managed_object_size, p) ← plain_field s p 4  -- Maximum Size of Managed Objects
+  Ok (
+    record {
+      heap_id_length = heap_id_length;
+      io_filter_encoded_length = io_filter_encoded_length;
+      max_managed_object_size = max_managed_object_size;
+    },
+    p,
+  )
 
-abbrev pub field_ensured : List ℕ → ℕ → ℕ → ℕ → ℕ → Result (Unit {0}) FormatError
-field_ensured s p os ls n = len_ensured s (p + field_place os ls n) (width_in n (header_list os ls))
+abbrev pub front_size : ℕ
+front_size = 9
 
--- up to Next Huge Object ID
-abbrev pub front_at : List ℕ → ℕ → ℕ → ℕ → Result FrontFields FormatError
-front_at s p os ls = do
-  heap_id_length ← field_number s p os ls 0
-  io_filter_encoded_length ← field_number s p os ls 1
-  _ ← field_ensured s p os ls 2
-  max_managed_object_size ← field_number s p os ls 3
-  _ ← field_ensured s p os ls 4
-  Ok
-      (record {
-        heap_id_length = heap_id_length;
-        io_filter_encoded_length = io_filter_encoded_length;
-        max_managed_object_size = max_managed_object_size;
-      })
+-- the huge objects' tree, and how many managed objects there are; one test is made for the five fields between these:
+-- Amount of Free Space in Managed Blocks (ls), Address of Managed Block Free Space Manager (os), Amount of Managed
+-- Space in Heap (ls), Amount of Allocated Managed Space in Heap (ls), Offset of Direct Block Allocation Iterator in
+-- Managed Space (ls)
+abbrev pub object_fields : List ℕ → ℕ → ℕ → ℕ → Step ObjectFields
+object_fields s p os ls = do
+  p ← passed s p ls  -- Next Huge Object ID
+  (btree_huge_objects_address, p) ← offset_field s p os  -- v2 B-tree Address of Huge Objects
+  p ← passed s p (4 * ls + os)  -- the five
+  (managed_objects_count, p) ← length_field s p ls  -- Number of Managed Objects in Heap
+  Ok (
+    record {
+      btree_huge_objects_address = btree_huge_objects_address;
+      managed_objects_count = managed_objects_count;
+    },
+    p,
+  )
 
--- v2 B-tree Address of Huge Objects, the five fields behind it as one, Number of Managed Objects in Heap
-abbrev pub objects_at : List ℕ → ℕ → ℕ → ℕ → Result ObjectFields FormatError
-objects_at s p os ls = do
-  btree_huge_objects_address ← offset_at s (p + field_place os ls 5) os
-  _ ← len_ensured s (p + field_place os ls 6) (4 * ls + os)
-  managed_objects_count ← length_at s (p + field_place os ls 11) ls
-  Ok (record { btree_huge_objects_address = btree_huge_objects_address; managed_objects_count = managed_objects_count })
+abbrev pub objects_size : ℕ → ℕ → ℕ
+objects_size os ls = 6 * ls + 2 * os
 
--- Table Width and the three fields behind it; the four before it are stepped over
-abbrev pub table_at : List ℕ → ℕ → ℕ → ℕ → Result DoublingTable FormatError
-table_at s p os ls = do
-  table_width ← field_number s p os ls 16
-  starting_block_size ← length_at s (p + field_place os ls 17) ls
-  max_direct_block_size ← length_at s (p + field_place os ls 18) ls
-  max_heap_size ← field_number s p os ls 19
-  Ok
-      (record {
-        table_width = table_width;
-        starting_block_size = starting_block_size;
-        max_direct_block_size = max_direct_block_size;
-        max_heap_size = max_heap_size;
-      })
+-- the doubling table; the four lengths before it are stepped over without a test: Size of Huge Objects in Heap, Number
+-- of Huge Objects in Heap, Size of Tiny Objects in Heap, Number of Tiny Objects in Heap
+abbrev pub table_fields : List ℕ → ℕ → ℕ → Step DoublingTable
+table_fields s p ls = do
+  let p = p + 4 * ls  -- the four
+  (table_width, p) ← plain_field s p 2  -- Table Width
+  (starting_block_size, p) ← length_field s p ls  -- Starting Block Size
+  (max_direct_block_size, p) ← length_field s p ls  -- Maximum Direct Block Size
+  (max_heap_size, p) ← plain_field s p 2  -- Maximum Heap Size
+  Ok (
+    record {
+      table_width = table_width;
+      starting_block_size = starting_block_size;
+      max_direct_block_size = max_direct_block_size;
+      max_heap_size = max_heap_size;
+    },
+    p,
+  )
 
--- Starting # of Rows in Root Indirect Block, Address of Root Block, Current # of Rows in Root Indirect Block
-abbrev pub root_at : List ℕ → ℕ → ℕ → ℕ → Result RootFields FormatError
-root_at s p os ls = do
-  start_root_rows ← field_number s p os ls 20
-  root_block_address ← offset_at s (p + field_place os ls 21) os
-  current_rows_in_root_indirect_block ← field_number s p os ls 22
-  Ok
-      (record {
-        start_root_rows = start_root_rows;
-        root_block_address = root_block_address;
-        current_rows_in_root_indirect_block = current_rows_in_root_indirect_block;
-      })
+abbrev pub table_size : ℕ → ℕ
+table_size ls = 6 * ls + 4
+
+-- the root block, and how many rows it has
+abbrev pub root_fields : List ℕ → ℕ → ℕ → Step RootFields
+root_fields s p os = do
+  (start_root_rows, p) ← plain_field s p 2  -- Starting # of Rows in Root Indirect Block
+  (root_block_address, p) ← offset_field s p os  -- Address of Root Block
+  (current_rows_in_root_indirect_block, p) ← plain_field s p 2  -- Current # of Rows in Root Indirect Block
+  Ok (
+    record {
+      start_root_rows = start_root_rows;
+      root_block_address = root_block_address;
+      current_rows_in_root_indirect_block = current_rows_in_root_indirect_block;
+    },
+    p,
+  )
+
+abbrev pub root_size : ℕ → ℕ
+root_size os = os + 4

@@ -1,17 +1,34 @@
--- What a reader of a header does.
-use Rattle.std.specs.Prelude.{ℕ, ◌≡◌, ◌+◌, ◌≤◌, length}
-use Rattle.fractal_heap.specs.FieldList.{field_place}
-use Rattle.fractal_heap.specs.declared.header_fields.reader.Reader.{Reader}
+-- Steps through a header: each gives what stands at p of the file s, and where the next field begins. A field that is
+-- not all there is refused, with the end that it would have.
+use Rattle.std.specs.Prelude.{ℕ, ◌+◌, List, Result, Ok}
+use Rattle.refusals.specs.Steps.{◌>>=◌}
+use Rattle.refusals.specs.declared.FormatError.{FormatError}
+use Rattle.fields.specs.Fields.{len_ensured, plain_at, offset_at, length_at}
 
--- where field n of its header begins
-abbrev pub field_at : Reader → ℕ → ℕ
-field_at r n = r.start + field_place r.offset_size r.length_size n
+-- a value, and where the next field begins
+abbrev pub Step : Type 0 → Type 0
+Step T = Result (T × ℕ) FormatError
 
--- on to a place, in the same header; what is before it is there
-pub record MovedTo (old new : Reader) (place : ℕ) : Type 0 where
-  pub pos : new.pos ≡ place
-  pub there : new.pos ≤ length new.file.now
-  pub file : new.file ≡ old.file
-  pub start : new.start ≡ old.start
-  pub offset_size : new.offset_size ≡ old.offset_size
-  pub length_size : new.length_size ≡ old.length_size
+-- the number of w bytes, where w is known
+abbrev pub plain_field : List ℕ → ℕ → ℕ → Step ℕ
+plain_field s p w = do
+  number ← plain_at s p w
+  Ok (number, p + w)
+
+-- an address, a field marked O
+abbrev pub offset_field : List ℕ → ℕ → ℕ → Step ℕ
+offset_field s p os = do
+  address ← offset_at s p os
+  Ok (address, p + os)
+
+-- a length, a field marked L
+abbrev pub length_field : List ℕ → ℕ → ℕ → Step ℕ
+length_field s p ls = do
+  number ← length_at s p ls
+  Ok (number, p + ls)
+
+-- n bytes whose numbers the header value has no place for: only where the next field begins
+abbrev pub passed : List ℕ → ℕ → ℕ → Result ℕ FormatError
+passed s p n = do
+  _ ← len_ensured s p n
+  Ok (p + n)

@@ -1,16 +1,18 @@
 //! What frames a heap's header: its signature and version, and its checksum.
-ghost use Rattle.std.specs.Prelude.{◌≡◌, ◌+◌, ◌≤◌, length, OnOk};
+ghost use Rattle.std.specs.Prelude.{◌≡◌, ◌+◌, ◌≤◌, length, OnOk, IfOk};
 ghost use Rattle.fractal_heap.specs.Frame.{start_checked, sum_checked};
 
 use checksum::jenkins_lookup3;
+use fields::ensure_len;
 use fields::little_endian::read_u32_le;
-use fields::{ensure_len, read_u32};
 use refusals::FormatError;
 
-/// Signature FRHP and Version 0.
-pub fn check_start(file: &[u8], at: usize) -> Result<(), FormatError>
+/// Tests signature FRHP (else 4) and version 0 (else 5) at `at`, and tells where the first field begins.
+#[inline(always)]
+pub fn check_start(file: &[u8], at: usize) -> Result<usize, FormatError>
     ensures value { result ≡ start_checked file.now at }
-    ensures there { OnOk result (at + 5 ≤ length file.now) }
+    ensures first { IfOk result (λ pos. pos ≡ at + 5) }
+    ensures there { IfOk result (λ pos. pos ≤ length file.now) }
 {
     ensure_len(file, at, 5)?;
     if &file[at..at + 4] != b"FRHP".as_slice() {
@@ -20,17 +22,16 @@ pub fn check_start(file: &[u8], at: usize) -> Result<(), FormatError>
     if version != 0 {
         return Err(FormatError::InvalidFractalHeapVersion(version));
     }
-    Ok(())
+    Ok(at + 5)
 }
 
-/// The checksum at its place is that of the header's bytes before it.
+/// Tests that the checksum at `pos` is that of the bytes from `at`, where the header begins, up to it.
 #[inline(always)]
-pub fn check_sum(file: &[u8], at: usize, place: usize) -> Result<(), FormatError>
-    requires at_in_bounds { at ≤ length file.now }
-    requires place_bound { place ≤ 65536 }
-    ensures { result ≡ sum_checked file.now at place }
+pub fn check_sum(file: &[u8], at: usize, pos: usize) -> Result<(), FormatError>
+    requires { at ≤ pos }
+    ensures value { result ≡ sum_checked file.now at pos }
+    ensures there { OnOk result (pos + 4 ≤ length file.now) }
 {
-    let pos = at + place;
     ensure_len(file, pos, 4)?;
     let stored = read_u32_le(file, pos);
     let computed = jenkins_lookup3(&file[at..pos]);

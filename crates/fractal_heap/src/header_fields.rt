@@ -1,13 +1,13 @@
-//! The fields of a heap's header, read in groups by a reader that goes through it: its front, the numbers of objects,
-//! the doubling table, the root block. A field that is not there is refused, with the end that it would have (1), and then
-//! the reader stays before its group.
+//! The fields of a heap's header, in groups: its front, the numbers of objects, the doubling table, the root block.
+//! Each reader begins at `pos`, and gives a group and where the next one begins. It refuses as its first field does
+//! that is not all there.
 
 pub mod reader;
 
-ghost use Rattle.std.specs.Prelude.{length};
+ghost use Rattle.std.specs.Prelude.{◌≡◌, ◌+◌, ◌≤◌, length};
 
 use crate::header_fields::reader::Reader;
-use reading::rows::DoublingTable;
+use reading::DoublingTable;
 use refusals::FormatError;
 
 /// What stands before the fields whose sizes the file chooses.
@@ -34,97 +34,110 @@ pub struct RootFields {
 }
 
 impl Reader<'_> {
-    ghost use Rattle.std.specs.Prelude.{◌≡◌, ◌≤◌, OnOk, OnErr};
-    ghost use Rattle.fractal_heap.specs.HeaderReader.{field_at, MovedTo};
-    ghost use Rattle.fractal_heap.specs.Groups.{front_at, objects_at, table_at, root_at};
+    ghost use Rattle.std.specs.Prelude.{true, OnOk, IfOk};
+    ghost use Rattle.fields.specs.Widths.{legal};
+    ghost use Rattle.fractal_heap.specs.Header.{sum_place};
+    ghost use Rattle.fractal_heap.specs.Groups.{front_fields, front_size, object_fields, objects_size, table_fields};
+    ghost use Rattle.fractal_heap.specs.Groups.{table_size, root_fields, root_size};
 
-    /// From Heap ID Length on.
+    /// From Heap ID Length to Maximum Size of Managed Objects.
     #[inline(always)]
-    pub fn front(&mut self) -> Result<FrontFields, FormatError>
-        requires { self.old.pos ≡ field_at self.old 0 }
-        ensures value { result ≡ front_at self.old.file.now self.old.start
-            self.old.offset_size self.old.length_size }
-        ensures moved { OnOk result (MovedTo self.old self.new (field_at self.old 5)) }
-        ensures kept { OnErr result (self.new ≡ self.old) }
+    pub fn front(&self, pos: usize) -> Result<(FrontFields, usize), FormatError>
+        ensures value { result ≡ front_fields self.now.file.now pos }
+        ensures size { IfOk result (λ group. group.1 ≡ pos + front_size) }
+        ensures there { IfOk result (λ group. group.1 ≤ length self.now.file.now) }
     {
-        let mut reader = *self;
-        let heap_id_length = reader.u16()?;
-        let io_filter_encoded_length = reader.u16()?;
-        reader.skip(1)?; // Flags
-        let max_managed_object_size = reader.u32()?;
-        reader.skip(usize::from(self.length_size))?; // Next Huge Object ID
-        *self = reader;
-        Ok(FrontFields {
+        let (heap_id_length, pos) = self.u16(pos)?;
+        let (io_filter_encoded_length, pos) = self.u16(pos)?;
+        let pos = self.skip(pos, 1)?; // Flags
+        let (max_managed_object_size, pos) = self.u32(pos)?;
+        let front = FrontFields {
             heap_id_length,
             io_filter_encoded_length,
             max_managed_object_size,
-        })
+        };
+        Ok((front, pos))
     }
 
-    /// From v2 B-tree Address of Huge Objects on.
+    /// From Next Huge Object ID to Number of Managed Objects in Heap.
     #[inline(always)]
-    pub fn objects(&mut self) -> Result<ObjectFields, FormatError>
-        requires { self.old.pos ≡ field_at self.old 5 }
-        ensures value { result ≡ objects_at self.old.file.now self.old.start
-            self.old.offset_size self.old.length_size }
-        ensures moved { OnOk result (MovedTo self.old self.new (field_at self.old 12)) }
-        ensures kept { OnErr result (self.new ≡ self.old) }
+    pub fn objects(&self, pos: usize) -> Result<(ObjectFields, usize), FormatError>
+        ensures value { result
+            ≡ object_fields self.now.file.now pos self.now.offset_size self.now.length_size }
+        ensures size { IfOk result
+            (λ group. group.1 ≡ pos + objects_size self.now.offset_size self.now.length_size) }
+        ensures there { IfOk result (λ group. group.1 ≤ length self.now.file.now) }
+        ensures offsets { OnOk result (legal self.now.offset_size ≡ true) }
+        ensures lengths { OnOk result (legal self.now.length_size ≡ true) }
     {
-        let mut reader = *self;
-        let btree_huge_objects_address = reader.offset()?;
+        let os = usize::from(self.offset_size);
+        let ls = usize::from(self.length_size);
+        let pos = self.skip(pos, ls)?; // Next Huge Object ID
+        let (btree_huge_objects_address, pos) = self.offset(pos)?;
         // free space, its manager, managed space, allocated space, allocation iterator
-        reader.skip(4 * usize::from(self.length_size) + usize::from(self.offset_size))?;
-        let managed_objects_count = reader.length()?;
-        *self = reader;
-        Ok(ObjectFields {
+        let pos = self.skip(pos, 4 * ls + os)?;
+        let (managed_objects_count, pos) = self.length(pos)?;
+        let objects = ObjectFields {
             btree_huge_objects_address,
             managed_objects_count,
-        })
+        };
+        Ok((objects, pos))
     }
 
-    /// From Size of Huge Objects in Heap on. The four lengths there are stepped over untested, as in the original.
+    /// From Size of Huge Objects in Heap to Maximum Heap Size. The first four lengths are stepped over untested, as in
+    /// the original.
     #[inline(always)]
-    pub fn table(&mut self) -> Result<DoublingTable, FormatError>
-        requires place { self.old.pos ≡ field_at self.old 12 }
-        requires there { self.old.pos ≤ length self.old.file.now }
-        ensures value { result ≡ table_at self.old.file.now self.old.start
-            self.old.offset_size self.old.length_size }
-        ensures moved { OnOk result (MovedTo self.old self.new (field_at self.old 20)) }
-        ensures kept { OnErr result (self.new ≡ self.old) }
+    pub fn table(&self, pos: usize) -> Result<(DoublingTable, usize), FormatError>
+        requires { pos ≤ length self.now.file.now }
+        ensures value { result ≡ table_fields self.now.file.now pos self.now.length_size }
+        ensures size { IfOk result (λ group. group.1 ≡ pos + table_size self.now.length_size) }
+        ensures there { IfOk result (λ group. group.1 ≤ length self.now.file.now) }
     {
-        let mut reader = *self;
-        reader.pos += 4 * usize::from(self.length_size);
-        let table_width = reader.u16()?;
-        let starting_block_size = reader.length()?;
-        let max_direct_block_size = reader.length()?;
-        let max_heap_size = reader.u16()?;
-        *self = reader;
-        Ok(DoublingTable {
+        // sizes and numbers of huge and of tiny objects
+        let pos = pos + 4 * usize::from(self.length_size);
+        let (table_width, pos) = self.u16(pos)?;
+        let (starting_block_size, pos) = self.length(pos)?;
+        let (max_direct_block_size, pos) = self.length(pos)?;
+        let (max_heap_size, pos) = self.u16(pos)?;
+        let table = DoublingTable {
             table_width,
             starting_block_size,
             max_direct_block_size,
             max_heap_size,
-        })
+        };
+        Ok((table, pos))
     }
 
-    /// From Starting # of Rows in Root Indirect Block on.
+    /// From Starting # of Rows in Root Indirect Block to Current # of Rows in Root Indirect Block.
     #[inline(always)]
-    pub fn root(&mut self) -> Result<RootFields, FormatError>
-        requires { self.old.pos ≡ field_at self.old 20 }
-        ensures value { result ≡ root_at self.old.file.now self.old.start
-            self.old.offset_size self.old.length_size }
-        ensures moved { OnOk result (MovedTo self.old self.new (field_at self.old 23)) }
-        ensures kept { OnErr result (self.new ≡ self.old) }
+    pub fn root(&self, pos: usize) -> Result<(RootFields, usize), FormatError>
+        ensures value { result ≡ root_fields self.now.file.now pos self.now.offset_size }
+        ensures size { IfOk result (λ group. group.1 ≡ pos + root_size self.now.offset_size) }
+        ensures there { IfOk result (λ group. group.1 ≤ length self.now.file.now) }
     {
-        let mut reader = *self;
-        let start_root_rows = reader.u16()?;
-        let root_block_address = reader.offset()?;
-        let current_rows_in_root_indirect_block = reader.u16()?;
-        *self = reader;
-        Ok(RootFields {
+        let (start_root_rows, pos) = self.u16(pos)?;
+        let (root_block_address, pos) = self.offset(pos)?;
+        let (current_rows_in_root_indirect_block, pos) = self.u16(pos)?;
+        let root = RootFields {
             start_root_rows,
             root_block_address,
             current_rows_in_root_indirect_block,
-        })
+        };
+        Ok((root, pos))
+    }
+
+    /// Where the checksum stands, the last group ending at `pos`: behind Size of Filtered Root Direct Block and I/O
+    /// Filter Mask where there are filters. They are stepped over untested.
+    #[inline(always)]
+    pub fn sum_place(&self, pos: usize, io_filter_encoded_length: u16) -> usize
+        requires { pos ≤ length self.now.file.now }
+        ensures value { result ≡ sum_place io_filter_encoded_length self.now.length_size pos }
+        ensures behind { pos ≤ result }
+    {
+        if io_filter_encoded_length > 0 {
+            pos + usize::from(self.length_size) + 4
+        } else {
+            pos
+        }
     }
 }

@@ -5,10 +5,10 @@ ghost use Rattle.ids.specs.Decoded.{decoded_id};
 ghost use Rattle.fractal_heap.specs.Read.{managed_at};
 
 use crate::header::FractalHeapHeader;
+use fields::place::Place;
 use ids::decode::ManagedId;
 use ids::decode::types::HeapIdType;
 use reading::Search;
-use fields::place::Place;
 use refusals::FormatError;
 
 impl FractalHeapHeader {

@@ -1,9 +1,6 @@
 -- The bytes of an ID are those of one number.
-use Prim.Native.Nat.{ℕ, zero, suc, ◌+◌, ◌*◌, ◌/◌, ◌%◌, ◌^◌, ◌<◌}
-use mathlib.Core.Path.{◌≡◌, ap, ◌∙◌}
-use mathlib.Core.List.{List, ◌∷◌, ◌++◌}
-use native.Mathlib.Omega.{arith}
-use lib.ListN.{length, length-append}
+use Rattle.std.proofs.Common.{◌≡◌, ap, ◌∙◌, ℕ, zero, suc, ◌+◌, ◌*◌, ◌/◌, ◌%◌, ◌^◌, ◌<◌, List, ◌∷◌, ◌++◌, length}
+use Rattle.std.proofs.Common.{length-append, arith}
 use Rattle.fields.specs.LittleEndian.{le}
 use Rattle.fields.proofs.LittleEndian.{pow-byte, length-le}
 use Rattle.table.specs.Table.{fixed}
@@ -35,4 +32,5 @@ pub id_in_one : (o n : ℕ) → o < 2 ^ 40 → le 8 (o * 0x100 + n * 0x100000000
 unfolding offset_bytes
 id_in_one o n h =
     let e : o * 0x100 + n * 0x1000000000000 ≡ 0 + (o + n * 2 ^ (8 * 5)) * 2 ^ (8 * 1) = omega arith in
-    ap (le 8) e ∙ le-add 1 7 0 (o + n * 2 ^ (8 * 5)) (omega arith) ∙ ap (λ (bs : List ℕ). le 1 0 ++ bs) (le-add 5 2 o n h)
+    ap (le 8) e ∙ le-add 1 7 0 (o + n * 2 ^ (8 * 5)) (omega arith)
+    ∙ ap (λ (bs : List ℕ). le 1 0 ++ bs) (le-add 5 2 o n h)

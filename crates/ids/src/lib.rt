@@ -4,3 +4,6 @@
 pub mod decode;
 pub mod tiny;
 pub mod write;
+
+pub use decode::ManagedId;
+pub use decode::types::HeapIdType;

@@ -30,8 +30,8 @@ fn put_eight(id: &mut [u8], number: u64)
     id[..8].copy_from_slice(&number.to_le_bytes());
 }
 
-/// Writes the ID of the object of `size` bytes at the heap offset `offset` into the first eight bytes of `id`. An offset
-/// of 2^40 or more and a size of 2^16 or more give 16, fewer than eight bytes 13; then `id` stays as it is.
+/// Writes the ID of the object of `size` bytes at the heap offset `offset` into the first eight bytes of `id`. An
+/// offset of 2^40 or more and a size of 2^16 or more give 16, fewer than eight bytes 13; then `id` stays as it is.
 #[tactic(auto, using(crate::proofs::ReadBack::decodes))]
 pub fn write_managed_id(offset: u64, size: u64, id: &mut [u8]) -> Result<(), FormatError>
     ensures answer { result ≡ id_checked fixed offset size (length id.old) }

@@ -1,25 +1,41 @@
 -- Laws of the walk, one block at a time.
 use Rattle.std.proofs.Common.{◌≡◌, ℕ, zero, suc, ◌+◌, ◌-◌, ◌<◌, List, length, arith}
-use Rattle.std.specs.Prelude.{Some, Ok, Err}
+use Rattle.std.specs.Prelude.{Option, Some, Result, Ok, Err}
 use Rattle.numbers.specs.Numbers.{saturated}
 use Rattle.refusals.specs.Steps.{◌>>=◌}
+use Rattle.refusals.specs.declared.FormatError.{FormatError}
 use Rattle.refusals.specs.declared.FormatError.TheVariants.{UnexpectedEof, DepthExceeded}
 use Rattle.reading.specs.declared.rows.DoublingTable.{DoublingTable}
+use Rattle.fields.specs.declared.place.Place.{Place}
+use Rattle.reading.specs.declared.children.HeapChild.{HeapChild}
 use Rattle.reading.specs.declared.children.HeapChild.TheVariants.{Indirect}
 use Rattle.reading.specs.Blocks.{child_at}
 use Rattle.reading.specs.Walk.{direct_at, by_child, walk_from}
 
-pub walk_none : (table : DoublingTable) (s : List ℕ) (w t len d a n start : ℕ) → d ≡ 0 → walk_from table s w t len d a n start ≡ Err DepthExceeded
+pub walk_none : (table : DoublingTable) (s : List ℕ) (w t len d a n start : ℕ) → d ≡ 0
+    → walk_from table s w t len d a n start ≡ Err DepthExceeded
 unfolding walk_from
 walk_none table s w t len d a n start e = rw e
 
+-- what follows the child that was found in a block, with d blocks to go behind it
+abbrev pub block_passed : DoublingTable → List ℕ → ℕ → ℕ → ℕ → ℕ → Option HeapChild → Result Place FormatError
+block_passed table s w t len d child =
+    by_child child (λ b o. direct_at s b o t len) (λ b m o. walk_from table s w t len d b m o)
+    (UnexpectedEof (saturated (t + len)) (length s))
+
 -- one block, and the child in it
-pub walk_more : (table : DoublingTable) (s : List ℕ) (w t len d a n start : ℕ) → 0 < d → walk_from table s w t len d a n start ≡ (child_at table s a n start t w >>= (λ child. by_child child (λ b o. direct_at s b o t len) (λ b m o. walk_from table s w t len (d - 1) b m o) (UnexpectedEof (saturated (t + len)) (length s))))
+pub walk_more : (table : DoublingTable) (s : List ℕ) (w t len d a n start : ℕ) → 0 < d
+    → walk_from table s w t len d a n start ≡ (child_at table s a n start t w >>= block_passed table s w t len (d - 1))
 unfolding walk_from
 walk_more table s w t len zero a n start h = absurd (omega arith)
 walk_more table s w t len (suc d) a n start h = let e : suc d - 1 ≡ d = omega arith in rw e
 
 -- with blocks to go, the walk goes on in a child that is an indirect block
-pub walk_deeper : (table : DoublingTable) (s : List ℕ) (w t len d k a n start b m o : ℕ) → d ≡ suc k → child_at table s a n start t w ≡ Ok (Some (Indirect b m o)) → walk_from table s w t len d a n start ≡ walk_from table s w t len k b m o
+pub walk_deeper : (table : DoublingTable) (s : List ℕ) (w t len k a n start : ℕ) {d b m o : ℕ} → d ≡ suc k
+    → child_at table s a n start t w ≡ Ok (Some (Indirect b m o))
+    → walk_from table s w t len d a n start ≡ walk_from table s w t len k b m o
 unfolding walk_from
-walk_deeper table s w t len d k a n start b m o e f = rw (e, f)
+walk_deeper table s w t len k a n start e f = rw (e, f)
+
+-- what the loop of the walk comes to, block by block
+pub ruleset walking = (walk_none, walk_more)

@@ -1,9 +1,10 @@
--- The child of an indirect block that holds a heap offset, as the original seeks it. HDF5 File Format Specification 3.0,
--- III.G, 'Fractal Heap Indirect Block': Child Direct Block #K Address, then Child Indirect Block #N Address, the
+-- The child of an indirect block that holds a heap offset, as the original seeks it. HDF5 File Format Specification
+-- 3.0, III.G, 'Fractal Heap Indirect Block': Child Direct Block #K Address, then Child Indirect Block #N Address, the
 -- entries here, row by row. That an undefined address is a block that is not there the text does not say: the original.
 -- w is Size of Offsets, target the wanted heap offset. An address is a place in s, which is to begin at Base Address
 -- (II.A).
-use Rattle.std.specs.Prelude.{ℕ, zero, suc, ◌+◌, ◌/◌, ◌==◌, List, [], ◌∷◌, ◌++◌, replicate, Bool, not, ◌&&◌, nat_le, nat_lt, drop, if◌then◌else◌, Option, Some, None, Result, Ok}
+use Rattle.std.specs.Prelude.{ℕ, zero, suc, ◌+◌, ◌/◌, ◌==◌, List, [], ◌∷◌, ◌++◌, replicate, Bool, not, ◌&&◌, nat_le}
+use Rattle.std.specs.Prelude.{nat_lt, drop, if◌then◌else◌, Option, Some, None, Result, Ok}
 use Rattle.fields.specs.LittleEndian.{value, le_at}
 use Rattle.numbers.specs.Numbers.{saturated}
 use Rattle.fields.specs.Signatures.{indirect_signature}
@@ -39,7 +40,8 @@ child_in_slots table s w target [] p start = Ok None
 child_in_slots table s w target (row ∷ rows) p start = do
   a ← offset_at s p w
   let end = saturated (start + slot_size table row)
-  if holds_offset a w start end target then Ok (Some (child_of table row a start)) else child_in_slots table s w target rows (p + w) end
+  let found = holds_offset a w start end target
+  if found then Ok (Some (child_of table row a start)) else child_in_slots table s w target rows (p + w) end
 
 -- where the entries of an indirect block begin: after Signature, Version, Heap Header Address, Block Offset
 unfoldable pub entries_place : DoublingTable → ℕ → ℕ

@@ -29,8 +29,11 @@ heap_size table (suc r) = saturated (heap_size table r + saturated (block_size t
 -- text the row's block size
 unfoldable pub slot_size : DoublingTable → ℕ → ℕ
 slot_size table row =
-    if nat_lt row (direct_rows table) then block_size table row else heap_size table (size_to_rows table (block_size table row))
+    if nat_lt row (direct_rows table)
+    then block_size table row
+    else heap_size table (size_to_rows table (block_size table row))
 
 -- what a block of some rows spans is its first row, doubled by each row after it
 abbrev pub SpansDouble : Type 0
-SpansDouble = (table : DoublingTable) (n : ℕ) → n ≤ 64 → heap_size table (suc n) ≡ saturated (table.starting_block_size * table.table_width * 2 ^ n)
+SpansDouble = (table : DoublingTable) (n : ℕ) → n ≤ 64
+    → heap_size table (suc n) ≡ saturated (table.starting_block_size * table.table_width * 2 ^ n)

@@ -1,7 +1,8 @@
 -- Where an object of a heap lies, from the root block down, as the original walks. HDF5 File Format Specification 3.0,
 -- III.G, 'Fractal Heap Header': Address of Root Block, Current # of Rows in Root Indirect Block. w is Size of Offsets,
 -- target the wanted heap offset.
-use Rattle.std.specs.Prelude.{ℕ, zero, suc, ◌+◌, ◌-◌, ◌^◌, ◌==◌, List, not, nat_le, length, if◌then◌else◌, Option, Some, None, Result, Ok, Err}
+use Rattle.std.specs.Prelude.{ℕ, zero, suc, ◌+◌, ◌-◌, ◌^◌, ◌==◌, List, not, nat_le, length, if◌then◌else◌, Option, Some}
+use Rattle.std.specs.Prelude.{None, Result, Ok, Err}
 use Rattle.numbers.specs.Numbers.{saturated}
 use Rattle.fields.specs.Fields.{len_ensured}
 use Rattle.fields.specs.Undefined.{is_undefined_addr}
@@ -23,7 +24,8 @@ direct_at s a start target len = do
   Ok (record { position = a + distance; length = len })
 
 -- what follows a child, or none
-abbrev pub by_child : Option HeapChild → (ℕ → ℕ → Result Place FormatError) → (ℕ → ℕ → ℕ → Result Place FormatError) → FormatError → Result Place FormatError
+abbrev pub by_child : Option HeapChild → (ℕ → ℕ → Result Place FormatError) → (ℕ → ℕ → ℕ → Result Place FormatError)
+    → FormatError → Result Place FormatError
 by_child (Some (Direct a size start)) direct indirect missing = direct a start
 by_child (Some (Indirect a n start)) direct indirect missing = indirect a n start
 by_child None direct indirect missing = Err missing

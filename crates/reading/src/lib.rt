@@ -5,10 +5,11 @@ pub mod children;
 pub mod rows;
 pub mod walk;
 
-use crate::rows::DoublingTable;
+pub use children::HeapChild;
+pub use rows::DoublingTable;
 
-/// What is sought below a heap's header, and where: the `len` bytes at the heap offset `target`, in a file whose addresses
-/// have `offset_size` bytes.
+/// What is sought below a heap's header, and where: the `len` bytes at the heap offset `target`, in a file whose
+/// addresses have `offset_size` bytes.
 #[derive(Clone, Copy)]
 pub struct Search<'a> {
     pub table: DoublingTable,

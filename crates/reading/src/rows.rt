@@ -6,12 +6,18 @@ ghost use Rattle.reading.specs.Rows.{block_size, direct_rows, size_to_rows, heap
 
 use numbers::{log2_floor, saturating_mul, saturating_shl};
 
-/// The header's fields that shape the heap.
+/// The header's fields that shape the heap, with the format's name after each.
 #[derive(Clone, Copy, Debug, PartialEq, Eq)]
 pub struct DoublingTable {
+    /// How many slots a row has: Table Width. The format asks for a power of two; reading takes any number.
     pub table_width: u16,
+    /// How many bytes a block of row 0 or of row 1 has, from where each row has blocks twice as large: Starting Block
+    /// Size. A power of two in the format, any number in reading.
     pub starting_block_size: u64,
+    /// The most bytes of a direct block; a row of larger blocks has indirect ones: Maximum Direct Block Size. A power
+    /// of two in the format, any number in reading.
     pub max_direct_block_size: u64,
+    /// How many bits a heap offset has, which says where a block's entries and an ID's length begin: Maximum Heap Size.
     pub max_heap_size: u16,
 }
 

@@ -32,7 +32,7 @@ impl Search<'_> {
     }
 
     // The object below the indirect root block at `root`: child by child, through at most 64 blocks.
-    #[tactic(auto, using(crate::proofs::Walking::walk_more, crate::proofs::Walking::walk_none), unfolding(numbers::specs::Numbers::saturated))]
+    #[tactic(auto, using(crate::proofs::Walking::walking), unfolding(numbers::specs::Numbers::saturated))]
     fn read_from_indirect_block(&self, root: u64, root_rows: u64) -> Result<Place, FormatError>
         ensures value { result ≡ walk_from self.now.table self.now.file.now self.now.offset_size
             self.now.target self.now.len 64 root root_rows 0 }
@@ -69,8 +69,8 @@ impl Search<'_> {
         Err(FormatError::DepthExceeded)
     }
 
-    /// The object, from the root block of `nrows` rows at `root` on. A direct root, which has no rows, is read without a
-    /// look at the offset size.
+    /// The object, from the root block of `nrows` rows at `root` on. A direct root, which has no rows, is read without
+    /// a look at the offset size.
     #[tactic(auto, unfolding(crate::specs::Walk::root_walk))]
     pub fn read_from_root(&self, root: u64, nrows: u16) -> Result<Place, FormatError>
         ensures value { result ≡ root_walk self.now.table self.now.file.now root nrows

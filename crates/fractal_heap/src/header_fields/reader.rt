@@ -1,103 +1,74 @@
-//! A reader of a header, field after field.
-ghost use Rattle.std.specs.Prelude.{◌≡◌, ◌+◌, ◌≤◌, length};
+//! A reader of single fields.
+ghost use Rattle.std.specs.Prelude.{◌≡◌, ◌≤◌, length};
 
 use refusals::FormatError;
 
-/// A header in a file, and the place that is read next. Fields marked O have `offset_size` bytes, those
-/// marked L `length_size`. What is refused leaves the reader where it was.
+/// A file with a header in it. Fields that the format marks O have `offset_size` bytes, those marked L `length_size`.
+/// Each method reads what stands at `pos`, and tells where the next field begins; it refuses a field that is not all
+/// there (1).
 #[derive(Clone, Copy)]
 pub struct Reader<'a> {
     pub file: &'a [u8],
-    pub start: usize,
-    pub pos: usize,
     pub offset_size: u8,
     pub length_size: u8,
-    // no field is farther off than four lengths
-    pub ghost near: { pos ≤ length file.now + 1020 },
 }
 
 impl Reader<'_> {
-    ghost use Rattle.std.specs.Prelude.{OnOk, OnErr};
-    ghost use Rattle.fields.specs.Fields.{len_ensured, plain_at, offset_at, length_at};
-    ghost use Rattle.fractal_heap.specs.HeaderReader.{field_at, MovedTo};
-
-    /// At the first field of the header at `start`.
-    pub fn new(file: &[u8], start: usize, offset_size: u8, length_size: u8) -> Reader<'_>
-        requires { start + 5 ≤ length file.now }
-        ensures file { result.file.now ≡ file.now }
-        ensures start { result.start ≡ start }
-        ensures offset_size { result.offset_size ≡ offset_size }
-        ensures length_size { result.length_size ≡ length_size }
-        ensures place { result.pos ≡ field_at result 0 }
-    {
-        Reader {
-            file,
-            start,
-            pos: start + 5,
-            offset_size,
-            length_size,
-        }
-    }
+    ghost use Rattle.std.specs.Prelude.{true, OnOk, IfOk};
+    ghost use Rattle.fields.specs.Widths.{legal};
+    ghost use Rattle.fractal_heap.specs.HeaderReader.{plain_field, offset_field, length_field, passed};
 
     /// Steps over `n` bytes.
     #[inline(always)]
-    pub fn skip(&mut self, n: usize) -> Result<(), FormatError>
-        ensures value { result ≡ len_ensured self.old.file.now self.old.pos n }
-        ensures moved { OnOk result (MovedTo self.old self.new (self.old.pos + n)) }
-        ensures kept { OnErr result (self.new ≡ self.old) }
+    pub fn skip(&self, pos: usize, n: usize) -> Result<usize, FormatError>
+        ensures value { result ≡ passed self.now.file.now pos n }
+        ensures there { IfOk result (λ next. next ≤ length self.now.file.now) }
     {
-        fields::ensure_len(self.file, self.pos, n)?;
-        self.pos += n;
-        Ok(())
+        fields::ensure_len(self.file, pos, n)?;
+        Ok(pos + n)
     }
 
-    /// The number in the next two bytes.
+    /// A number of two bytes.
     #[inline(always)]
-    pub fn u16(&mut self) -> Result<u16, FormatError>
-        ensures value { result ≡ plain_at self.old.file.now self.old.pos 2 }
-        ensures moved { OnOk result (MovedTo self.old self.new (self.old.pos + 2)) }
-        ensures kept { OnErr result (self.new ≡ self.old) }
+    pub fn u16(&self, pos: usize) -> Result<(u16, usize), FormatError>
+        ensures value { result ≡ plain_field self.now.file.now pos 2 }
+        ensures there { IfOk result (λ field. field.1 ≤ length self.now.file.now) }
     {
-        let number = fields::read_u16(self.file, self.pos)?;
-        self.pos += 2;
-        Ok(number)
+        let number = fields::read_u16(self.file, pos)?;
+        Ok((number, pos + 2))
     }
 
-    /// The number in the next four bytes.
+    /// A number of four bytes.
     #[inline(always)]
-    pub fn u32(&mut self) -> Result<u32, FormatError>
-        ensures value { result ≡ plain_at self.old.file.now self.old.pos 4 }
-        ensures moved { OnOk result (MovedTo self.old self.new (self.old.pos + 4)) }
-        ensures kept { OnErr result (self.new ≡ self.old) }
+    pub fn u32(&self, pos: usize) -> Result<(u32, usize), FormatError>
+        ensures value { result ≡ plain_field self.now.file.now pos 4 }
+        ensures there { IfOk result (λ field. field.1 ≤ length self.now.file.now) }
     {
-        let number = fields::read_u32(self.file, self.pos)?;
-        self.pos += 4;
-        Ok(number)
+        let number = fields::read_u32(self.file, pos)?;
+        Ok((number, pos + 4))
     }
 
-    /// The next address.
+    /// An address; an `offset_size` that is no width is refused first (2).
     #[inline(always)]
-    pub fn offset(&mut self) -> Result<u64, FormatError>
-        ensures value { result ≡ offset_at self.old.file.now self.old.pos self.old.offset_size }
-        ensures moved { OnOk result
-            (MovedTo self.old self.new (self.old.pos + self.old.offset_size)) }
-        ensures kept { OnErr result (self.new ≡ self.old) }
+    #[tactic(auto, unfolding(fields::specs::Fields::offset_at, fields::specs::Fields::number_at))]
+    pub fn offset(&self, pos: usize) -> Result<(u64, usize), FormatError>
+        ensures value { result ≡ offset_field self.now.file.now pos self.now.offset_size }
+        ensures there { IfOk result (λ field. field.1 ≤ length self.now.file.now) }
+        ensures width { OnOk result (legal self.now.offset_size ≡ true) }
     {
-        let addr = fields::read_offset(self.file, self.pos, self.offset_size)?;
-        self.pos += usize::from(self.offset_size);
-        Ok(addr)
+        let address = fields::read_offset(self.file, pos, self.offset_size)?;
+        Ok((address, pos + usize::from(self.offset_size)))
     }
 
-    /// The next length.
+    /// A length; a `length_size` that is no width is refused first (3).
     #[inline(always)]
-    pub fn length(&mut self) -> Result<u64, FormatError>
-        ensures value { result ≡ length_at self.old.file.now self.old.pos self.old.length_size }
-        ensures moved { OnOk result
-            (MovedTo self.old self.new (self.old.pos + self.old.length_size)) }
-        ensures kept { OnErr result (self.new ≡ self.old) }
+    #[tactic(auto, unfolding(fields::specs::Fields::length_at, fields::specs::Fields::number_at))]
+    pub fn length(&self, pos: usize) -> Result<(u64, usize), FormatError>
+        ensures value { result ≡ length_field self.now.file.now pos self.now.length_size }
+        ensures there { IfOk result (λ field. field.1 ≤ length self.now.file.now) }
+        ensures width { OnOk result (legal self.now.length_size ≡ true) }
     {
-        let len = fields::read_length(self.file, self.pos, self.length_size)?;
-        self.pos += usize::from(self.length_size);
-        Ok(len)
+        let number = fields::read_length(self.file, pos, self.length_size)?;
+        Ok((number, pos + usize::from(self.length_size)))
     }
 }

@@ -4,4 +4,6 @@ use Rattle.ids.proofs.Decoding.{number_padded}
 use Rattle.ids.proofs.decode.short_number.Goals as goal
 
 pub returns : goal.returns
-returns c = c.read_u64_le.ensures ∙ number_padded c.args.id.now _ _ c.requires.1 c.copy_from_slice.ensures.after (omega arith)
+returns c =
+    c.read_u64_le.ensures
+    ∙ number_padded c.args.id.now _ _ c.requires.1 c.copy_from_slice.ensures.after (omega arith)

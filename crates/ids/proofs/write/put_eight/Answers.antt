@@ -9,4 +9,5 @@ pub returns : goal.returns
 returns c =
     let a = c.args in
     let bytes = c.copy_from_slice.ensures.after ∙ c.to_le_bytes.ensures ∙ le-eight a.number in
-    rw bytes (sym (put_front a.id.now (le 8 a.number) ∙ ap (λ (n : ℕ). le 8 a.number ++ drop n a.id.now) (length-le 8 a.number)))
+    let front = put_front a.id.now (le 8 a.number) in
+    rw bytes (sym (front ∙ ap (λ (n : ℕ). le 8 a.number ++ drop n a.id.now) (length-le 8 a.number)))

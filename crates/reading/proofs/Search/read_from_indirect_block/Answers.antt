@@ -7,4 +7,7 @@ pub loop-depth-preserved : goal.loop-depth-preserved
 loop-depth-preserved c =
     let found = rw c.in-Some.is at c.in_ok-child.ensures in
     let child = rw c.in-Indirect.is at found in
-    c.loop-depth.invariant ∙ walk_deeper _ _ _ _ _ _ (64 - (c.loop-depth._depth + 1)) _ _ _ _ _ _ (omega arith) (sym child)
+    let o = c.args.self.now in
+    let to_go = 64 - (c.loop-depth._depth + 1) in
+    c.loop-depth.invariant
+    ∙ walk_deeper o.table o.file.now o.offset_size o.target o.len to_go _ _ _ (omega arith) (sym child)

@@ -5,4 +5,5 @@ use Rattle.reading.proofs.Search.read_from_indirect_block.Given as goal
 
 abbrev pub invariant-loop-depth : goal.invariant-loop-depth
 invariant-loop-depth l =
-    walk_from l.self.table l.self.file.now l.self.offset_size l.self.target l.self.len 64 l.root l.root_rows 0 ≡ walk_from l.self.table l.self.file.now l.self.offset_size l.self.target l.self.len (64 - l._depth) l.block l.rows l.start
+    let walk = walk_from l.self.table l.self.file.now l.self.offset_size l.self.target l.self.len in
+    walk 64 l.root l.root_rows 0 ≡ walk (64 - l._depth) l.block l.rows l.start
