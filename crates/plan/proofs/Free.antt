@@ -1,13 +1,8 @@
 -- Free space is the number of heap offsets in the bodies of the managed space's direct slots and in no object.
-use Rattle.std.specs.Prelude.{Ok}
-use Prim.Native.Nat.{ℕ, zero, suc, ◌+◌, ◌-◌, ◌^◌, ◌≤◌, ◌<◌}
-use mathlib.Core.Path.{◌≡◌, refl, sym, ap, ap₂, ◌∙◌, subst₂}
-use mathlib.Core.Logic.{◌↔◌, ⊎_elim}
-use mathlib.Core.Bool.{Bool, true, false, not, ◌&&◌, ◌||◌, and-eq-true_iff, or-true, true≢false}
-use mathlib.Core.List.{List, [], ◌∷◌}
-use native.Mathlib.Omega.{arith}
-use lib.Dec.{leb, ltb}
-use borrow.Author.Tests.{lt-ltb, le-leb, lt-leb, leb-true, ltb-true, not-true}
+use Rattle.std.proofs.Common.{◌≡◌, ℕ, zero, suc, ◌+◌, ◌-◌, ◌^◌, ◌<◌, ◌≤◌, Bool, true, false, not, ◌&&◌, ◌||◌, ◌↔◌, List, [], ◌∷◌, nat_lt, nat_le, Ok, sym, refl, ap, ◌∙◌, ap₂, subst₂, ⊎_elim, true≢false, arith, ltb-true, lt-ltb, le-leb, leb-true}
+use Rattle.std.proofs.Math.Bool.{and-eq-true_iff, or-true}
+use Rattle.std.proofs.lemmas.Bool.{not-true}
+use Rattle.std.proofs.lemmas.Bool.{lt-leb}
 use Rattle.fields.proofs.Widths.{legal-small}
 use Rattle.table.specs.Table.{Table, fixed, row_offset}
 use Rattle.table.specs.Sizes.{direct_header}
@@ -33,18 +28,18 @@ use Rattle.plan.proofs.Root.{Bare, Rowed, shape}
 unfoldable in_objects : List ℕ → List ℕ → ℕ → Bool
 in_objects [] xs x = false
 in_objects (o ∷ os) [] x = false
-in_objects (o ∷ os) (y ∷ xs) x = (leb o x && ltb x (o + y)) || in_objects os xs x
+in_objects (o ∷ os) (y ∷ xs) x = (nat_le o x && nat_lt x (o + y)) || in_objects os xs x
 
 -- what the test says, both ways
 in_some : (os xs : List ℕ) (x : ℕ) → in_objects os xs x ≡ true → (i : ℕ) × InObject os xs i x
 unfolding in_objects
 in_some [] xs x e = absurd (true≢false (sym e))
 in_some (o ∷ os) [] x e = absurd (true≢false (sym e))
-in_some (o ∷ os) (y ∷ xs) x e = go (leb o x && ltb x (o + y)) refl (in_some os xs x) e
+in_some (o ∷ os) (y ∷ xs) x e = go (nat_le o x && nat_lt x (o + y)) refl (in_some os xs x) e
   where
-    go : (b : Bool) → (leb o x && ltb x (o + y)) ≡ b → (in_objects os xs x ≡ true → (i : ℕ) × InObject os xs i x) → (b || in_objects os xs x) ≡ true → (i : ℕ) × InObject (o ∷ os) (y ∷ xs) i x
+    go : (b : Bool) → (nat_le o x && nat_lt x (o + y)) ≡ b → (in_objects os xs x ≡ true → (i : ℕ) × InObject os xs i x) → (b || in_objects os xs x) ≡ true → (i : ℕ) × InObject (o ∷ os) (y ∷ xs) i x
     go true p ih e =
-        let q = (and-eq-true_iff (leb o x) (ltb x (o + y))).0 p in
+        let q = (and-eq-true_iff (nat_le o x) (nat_lt x (o + y))).0 p in
         (0, record { object = omega arith; from = leb-true o x q.0; to = ltb-true x (o + y) q.1 })
     go false p ih e =
         let r = ih e in
@@ -56,15 +51,15 @@ unfolding in_objects
 in-at (none l) x i A = absurd (omega (arith, A.object))
 in-at (more {o = o} {x = y} {os = os} {xs = xs} l s) x zero A = ap (λ (v : Bool). v || in_objects os xs x) (ap₂ ◌&&◌ (le-leb o x A.from) (lt-ltb x (o + y) A.to))
 in-at (more {o = o} {x = y} {os = os} {xs = xs} l s) x (suc i) A =
-    ap (λ (v : Bool). (leb o x && ltb x (o + y)) || v) (in-at s x i (record { object = (let u = A.object in omega arith); from = A.from; to = A.to }))
-    ∙ or-true (leb o x && ltb x (o + y))
+    ap (λ (v : Bool). (nat_le o x && nat_lt x (o + y)) || v) (in-at s x i (record { object = (let u = A.object in omega arith); from = A.from; to = A.to }))
+    ∙ or-true (nat_le o x && nat_lt x (o + y))
 
 -- none before the first
 below_none : {lo hi : ℕ} {os xs : List ℕ} → Spaced lo os xs hi → (x : ℕ) → x < lo → in_objects os xs x ≡ false
 unfolding in_objects
 below_none (none l) x u = refl
 below_none (more {o = o} {x = y} {os = os} {xs = xs} l s) x u =
-    ap₂ ◌||◌ (ap (λ (v : Bool). v && ltb x (o + y)) (lt-leb o x (omega arith))) (below_none s x (omega arith))
+    ap₂ ◌||◌ (ap (λ (v : Bool). v && nat_lt x (o + y)) (lt-leb o x (omega arith))) (below_none s x (omega arith))
 
 spaced-le : {lo hi : ℕ} {os xs : List ℕ} → Spaced lo os xs hi → lo ≤ hi
 spaced-le (none l) = l
@@ -76,7 +71,7 @@ unfolding in_objects sum
 objects-count (none l) m u = count_none _ m (λ x g. refl)
 objects-count (more {o = o} {x = y} {os = os} {xs = xs} l s) m u =
     let e = spaced-le s in
-    count-or (λ x. leb o x && ltb x (o + y)) (in_objects os xs) m (λ x g. below_none s x (ltb-true x (o + y) ((and-eq-true_iff (leb o x) (ltb x (o + y))).0 g).1))
+    count-or (λ x. nat_le o x && nat_lt x (o + y)) (in_objects os xs) m (λ x g. below_none s x (ltb-true x (o + y) ((and-eq-true_iff (nat_le o x) (nat_lt x (o + y))).0 g).1))
     ∙ ap₂ (λ (a b : ℕ). a + b) (count-interval o y m (omega arith)) (objects-count s m u)
 
 -- ---- the managed space
@@ -153,11 +148,11 @@ module _ (t : Table) (g : t.start_bits ≤ t.direct_bits) (k : t.start_bits ≤ 
 
   -- such a test
   free_test : ℕ → Bool
-  free_test x = ltb x m && is_free x
+  free_test x = nat_lt x m && is_free x
 
   free-test : (x : ℕ) → (free_test x ≡ true) ↔ FreeByte t (direct_header t w) n os xs x
   unfolding free_test
-  free-test x = (λ e. let q = (and-eq-true_iff (ltb x m) (is_free x)).0 e in free-out x (ltb-true x m q.0) q.1, λ F. let b = free_in x F in ap₂ ◌&&◌ (lt-ltb x m b.0) b.1)
+  free-test x = (λ e. let q = (and-eq-true_iff (nat_lt x m) (is_free x)).0 e in free-out x (ltb-true x m q.0) q.1, λ F. let b = free_in x F in ap₂ ◌&&◌ (lt-ltb x m b.0) b.1)
 
 -- free space is the count of the free bytes
 pub free-is-count : (xs : List ℕ) (o b w : ℕ) (p : ManagedPlan) → planned_for xs o b w ≡ Ok p → FreeCounted w xs p

@@ -1,11 +1,6 @@
 -- A front part of an accepted list is accepted, with the same offsets and, as far as they go, the same blocks.
-use Rattle.std.specs.Prelude.{None, Ok, Option, Some}
-use Prim.Native.Nat.{ℕ, zero, suc, ◌≤◌, ◌<◌, max}
-use mathlib.Core.Path.{◌≡◌, refl, sym, ap, ◌∙◌}
-use mathlib.Core.List.{List, [], ◌∷◌, ◌++◌}
-use native.Mathlib.Omega.{arith}
-use native.Mathlib.Decide.{dec_le}
-use lib.ListN.{length, take, length-take}
+use Rattle.std.proofs.Common.{◌≡◌, ℕ, zero, suc, ◌<◌, ◌≤◌, max, List, [], ◌∷◌, ◌++◌, length, take, Some, None, Ok, Option, sym, refl, ap, ◌∙◌, arith, length-take}
+use Rattle.std.proofs.Math.Decide.{dec_le}
 use Rattle.std.proofs.lemmas.Bool.Decides.{nat_tests}
 use Rattle.table.specs.Table.{Table, fixed}
 use Rattle.planner.specs.declared.State.{State}

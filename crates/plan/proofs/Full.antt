@@ -1,15 +1,5 @@
 -- The heap space ends at an object exactly where no slot that is left fits it.
-use Rattle.std.specs.Prelude.{Err, None, Ok, Option, Some}
-use Prim.Native.Nat.{ℕ, zero, suc, ◌+◌, ◌≤◌, ◌<◌}
-use mathlib.Core.Path.{◌≡◌, refl, sym, ap, ◌∙◌, subst}
-use mathlib.Core.Logic.{◌↔◌}
-use mathlib.Core.Bool.{Bool, true, false}
-use mathlib.Core.List.{List, [], ◌∷◌}
-use native.Mathlib.Omega.{arith}
-use native.Mathlib.Nat.{zero-add}
-use lib.Dec.{leb}
-use lib.ListN.{length, take, get_or}
-use borrow.Author.Tests.{leb-false}
+use Rattle.std.proofs.Common.{◌≡◌, ℕ, zero, suc, ◌+◌, ◌<◌, ◌≤◌, Bool, true, false, ◌↔◌, List, [], ◌∷◌, length, take, nat_le, slice_index, Some, None, Ok, Err, Option, sym, refl, ap, ◌∙◌, subst, zero-add, arith, leb-false}
 use Rattle.refusals.specs.declared.FormatError.TheVariants.{HeapSpaceExhausted}
 use Rattle.table.specs.Table.{Table, fixed}
 use Rattle.table.specs.Sizes.{direct_header}
@@ -33,7 +23,7 @@ record Stopped (t : Table) (w : ℕ) (s : State) (xs : List ℕ) (i n : ℕ) : T
   object : n < length xs
   state : State
   before : run_from t w s (take n xs) i ≡ Ok state
-  ends : step_of t w state (get_or xs n 0) ≡ None
+  ends : step_of t w state (slice_index xs n) ≡ None
 
 module _ (t : Table) (w : ℕ) where
   -- a run that stops has such a size
@@ -82,9 +72,9 @@ module _ (t : Table) (g : t.start_bits ≤ t.direct_bits) (k : t.start_bits ≤ 
   -- a step ends exactly there
   step-ends : step_of t w s x ≡ None → Nowhere
   unfolding step_of
-  step-ends e = go (leb (s.fill + x) s.size) refl (open_at t (direct_header t w + x) (block_end s)) refl e
+  step-ends e = go (nat_le (s.fill + x) s.size) refl (open_at t (direct_header t w + x) (block_end s)) refl e
     where
-      go : (u : Bool) → leb (s.fill + x) s.size ≡ u → (v : Option Slot) → open_at t (direct_header t w + x) (block_end s) ≡ v
+      go : (u : Bool) → nat_le (s.fill + x) s.size ≡ u → (v : Option Slot) → open_at t (direct_header t w + x) (block_end s) ≡ v
           → ◌≡◌ {A = Option (State × ℕ)} (elim u [ true ↦ Some ((filled s x), s.start + s.fill) | false ↦ opened t w s x v ]) None → Nowhere
       go true p v q e = absurd cc
       go false p (Some b) q e = absurd cc
@@ -123,7 +113,7 @@ ends-iff-none-fits xs o b w i = (only, always)
         let R = stopped fixed w xs (initial fixed w) 0 i (sym (run_is w xs) ∙ E.1) in
         let S = subst (Stopped fixed w (initial fixed w) xs 0) (sym (R.1 ∙ zero-add R.0)) R.2 in
         let before : run fixed w (take i xs) ≡ Ok S.state = run_is w (take i xs) ∙ S.before in
-        let N = step-ends fixed (omega arith) (omega arith) w S.state (get_or xs i 0) (ok-after w (take i xs) S.state before) S.ends in
+        let N = step-ends fixed (omega arith) (omega arith) w S.state (slice_index xs i) (ok-after w (take i xs) S.state before) S.ends in
         (E.0, record { object = S.object; state = S.state; before = before; not-here = N.not-here; nowhere = λ c z D l. N.nowhere c z (fixed-slot D) l })
 
     always : (input_checked xs o b w ≡ (Ok tt)) × NoSlotFits w xs i → planned_for xs o b w ≡ Err (HeapSpaceExhausted i)
@@ -133,6 +123,6 @@ ends-iff-none-fits xs o b w i = (only, always)
           object = N.object;
           state = N.state;
           before = sym (run_is w (take i xs)) ∙ N.before;
-          ends = ends-step fixed (omega arith) (omega arith) w N.state (get_or xs i 0) I (record { not-here = N.not-here; nowhere = λ c z S l. N.nowhere c z (slot-fixed S) l });
+          ends = ends-step fixed (omega arith) (omega arith) w N.state (slice_index xs i) I (record { not-here = N.not-here; nowhere = λ c z S l. N.nowhere c z (slot-fixed S) l });
         } in
         answers xs o b w (Err i) c (run_is w xs ∙ stops fixed w xs (initial fixed w) 0 i S ∙ ap Err (zero-add i))

@@ -1,12 +1,5 @@
 -- Planning that goes through, object by object: where each goes, and what follows for all of them.
-use Rattle.std.specs.Prelude.{None, Ok, Option, Some}
-use Prim.Native.Nat.{ℕ, zero, suc, ◌+◌, ◌≤◌, ◌<◌}
-use mathlib.Core.Path.{◌≡◌, refl, sym, ap, ap₂, ◌∙◌, subst, subst₂}
-use mathlib.Core.Logic.{◌⊎◌, inl, inr, ⊎_elim}
-use mathlib.Core.List.{List, [], ◌∷◌}
-use native.Mathlib.Omega.{arith}
-use native.Mathlib.Nat.{le_refl}
-use lib.ListN.{length, get_or}
+use Rattle.std.proofs.Common.{◌≡◌, ℕ, zero, suc, ◌+◌, ◌<◌, ◌≤◌, ◌⊎◌, List, [], ◌∷◌, length, slice_index, Some, None, Ok, Option, sym, refl, ap, ◌∙◌, subst, ap₂, subst₂, inl, inr, ⊎_elim, le_refl, arith}
 use Rattle.table.specs.Table.{Table, fixed}
 use Rattle.table.specs.Sizes.{direct_header}
 use Rattle.numbers.specs.Sums.{sum}
@@ -77,9 +70,9 @@ module _ {t : Table} {w : ℕ} where
   count-starts (new P n L) = let z = count-starts L in let u = n.count-is in omega arith
 
   -- the last block is the current one
-  pub last-start : {s s' : State} {xs os bs : List ℕ} → Laid t w s xs os bs s' → get_or (s.start ∷ bs) (length bs) 0 ≡ s'.start
+  pub last-start : {s s' : State} {xs os bs : List ℕ} → Laid t w s xs os bs s' → slice_index (s.start ∷ bs) (length bs) ≡ s'.start
   last-start end = refl
-  last-start (same {bs = bs} P n L) = ap (λ (b : ℕ). get_or (b ∷ bs) (length bs) 0) (sym n.start_is) ∙ last-start L
+  last-start (same {bs = bs} P n L) = ap (λ (b : ℕ). slice_index (b ∷ bs) (length bs)) (sym n.start_is) ∙ last-start L
   last-start (new P n L) = last-start L
 
   pub still-ok : {s s' : State} {xs os bs : List ℕ} → Sane t w s → Laid t w s xs os bs s' → Sane t w s'
@@ -100,9 +93,9 @@ pub record Held (t : Table) (w : ℕ) (bs : List ℕ) (o x : ℕ) : Type 0 where
   pub n : ℕ
   pub placed : n < length bs
   pub size : ℕ
-  pub slot : SlotOf t (get_or bs n 0) size
-  pub from : get_or bs n 0 + direct_header t w ≤ o
-  pub to : o + x ≤ get_or bs n 0 + size
+  pub slot : SlotOf t (slice_index bs n) size
+  pub from : slice_index bs n + direct_header t w ≤ o
+  pub to : o + x ≤ slice_index bs n + size
 
 module _ {t : Table} {w : ℕ} where
   pub block_same : {s s₁ : State} {x o : ℕ} → Block t w s → Placing t w s x s₁ o → Same s s₁ o → Block t w s₁
@@ -136,7 +129,7 @@ module _ {t : Table} {w : ℕ} where
       inr (⊎_elim (λ (e : (bs ≡ []) × (s'.start ≡ s₁.start)). let c = e.1 in omega arith) (λ (u : block_end s₁ ≤ s'.start). omega arith) (later-start L))
 
   -- each object in a block
-  held-from : {s s' : State} {xs os bs : List ℕ} → Block t w s → Laid t w s xs os bs s' → (i : ℕ) → i < length xs → Held t w (s.start ∷ bs) (get_or os i 0) (get_or xs i 0)
+  held-from : {s s' : State} {xs os bs : List ℕ} → Block t w s → Laid t w s xs os bs s' → (i : ℕ) → i < length xs → Held t w (s.start ∷ bs) (slice_index os i) (slice_index xs i)
   held-from B end i l = absurd (omega arith)
   held-from {s} B (same {s₁ = s₁} P n L) zero l =
       let a = B.past in
@@ -147,7 +140,7 @@ module _ {t : Table} {w : ℕ} where
       let f = n.size_is in
       record { n = 0; placed = omega arith; size = s.size; slot = B.slot; from = omega arith; to = omega arith }
   held-from {s} B (same {s₁ = s₁} {xs = xs} {os = os} {bs = bs} P n L) (suc i) l =
-      subst (λ (b : ℕ). Held t w (b ∷ bs) (get_or os i 0) (get_or xs i 0)) n.start_is (held-from (block_same B P n) L i (omega arith))
+      subst (λ (b : ℕ). Held t w (b ∷ bs) (slice_index os i) (slice_index xs i)) n.start_is (held-from (block_same B P n) L i (omega arith))
   held-from {s} B (new {s₁ = s₁} P n L) zero l =
       let b = P.to in
       let d = P.within in
@@ -166,7 +159,7 @@ pub record Blocks (t : Table) (w : ℕ) (bs : List ℕ) (s' : State) : Type 0 wh
   pub n : ℕ
   pub many : length bs ≡ suc n
   pub counted : s'.count ≡ suc n
-  pub last : get_or bs n 0 ≡ s'.start
+  pub last : slice_index bs n ≡ s'.start
   pub only : s'.start ≡ 0 → bs ≡ 0 ∷ []
 
 header-pos : (t : Table) (w : ℕ) → 0 < direct_header t w
@@ -179,7 +172,7 @@ not_same t w P n = omega (arith, header-pos t w, P.to, P.within, n.place, n.star
 
 module _ {t : Table} {w : ℕ} where
   -- each object lies in the body of a block that opened
-  pub held : {s' : State} {xs os bs : List ℕ} → Laid t w (initial t w) xs os bs s' → (i : ℕ) → i < length xs → Held t w bs (get_or os i 0) (get_or xs i 0)
+  pub held : {s' : State} {xs os bs : List ℕ} → Laid t w (initial t w) xs os bs s' → (i : ℕ) → i < length xs → Held t w bs (slice_index os i) (slice_index xs i)
   held end i l = absurd (omega arith)
   held (same P n L) i l = absurd (not_same t w P n)
   held (new {s₁ = s₁} P n L) zero l =

@@ -1,10 +1,5 @@
 -- No two objects share a byte, each lies in the body of a placed block, and none touches a block header.
-use Rattle.std.specs.Prelude.{Ok}
-use Prim.Native.Nat.{ℕ, zero, suc, ◌+◌, ◌≤◌, ◌<◌}
-use mathlib.Core.Path.{◌≡◌, sym, subst}
-use mathlib.Core.List.{List}
-use native.Mathlib.Omega.{arith}
-use lib.ListN.{length, get_or}
+use Rattle.std.proofs.Common.{◌≡◌, ℕ, zero, suc, ◌+◌, ◌<◌, ◌≤◌, List, length, slice_index, Ok, sym, subst, arith}
 use Rattle.fields.proofs.Widths.{legal-small}
 use Rattle.table.specs.Table.{fixed}
 use Rattle.table.specs.Slots.{Direct}
@@ -19,12 +14,12 @@ use Rattle.plan.proofs.Answering.{accepted}
 use Rattle.plan.proofs.Laying.{Spaced, none, more, spaced, Held, held, starts-some, ran-ok, ran-laid}
 
 -- objects in order: each ends before the later ones begin
-spaced-from : {lo hi : ℕ} {os xs : List ℕ} → Spaced lo os xs hi → (j : ℕ) → j < length xs → lo ≤ get_or os j 0
+spaced-from : {lo hi : ℕ} {os xs : List ℕ} → Spaced lo os xs hi → (j : ℕ) → j < length xs → lo ≤ slice_index os j
 spaced-from (none l) j u = absurd (omega arith)
 spaced-from (more l s) zero u = l
 spaced-from (more l s) (suc j) u = let z = spaced-from s j (omega arith) in omega arith
 
-spaced-apart : {lo hi : ℕ} {os xs : List ℕ} → Spaced lo os xs hi → (i j : ℕ) → i < j → j < length xs → get_or os i 0 + get_or xs i 0 ≤ get_or os j 0
+spaced-apart : {lo hi : ℕ} {os xs : List ℕ} → Spaced lo os xs hi → (i j : ℕ) → i < j → j < length xs → slice_index os i + slice_index xs i ≤ slice_index os j
 spaced-apart (none l) i j u v = absurd (omega arith)
 spaced-apart (more l s) i zero u v = absurd (omega arith)
 spaced-apart (more l s) zero (suc j) u v = spaced-from s j (omega arith)
@@ -48,7 +43,7 @@ module _ (xs : List ℕ) (o b w : ℕ) (p : ManagedPlan) (e : planned_for xs o b
   pub in-one-body : (i : ℕ) → i < length xs → InPlacedBlock w xs i
   in-one-body i l =
       let G = (accepted xs o b w p e).1 in
-      let H = subst (λ (bs : List ℕ). Held fixed w bs (get_or (plan_offsets fixed w xs) i 0) (get_or xs i 0)) (sym (starts-some w xs (omega arith))) (held (ran-laid w xs G.state G.ran) i l) in
+      let H = subst (λ (bs : List ℕ). Held fixed w bs (slice_index (plan_offsets fixed w xs) i) (slice_index xs i)) (sym (starts-some w xs (omega arith))) (held (ran-laid w xs G.state G.ran) i l) in
       record { n = H.n; placed = H.placed; size = H.size; slot = slot-fixed H.slot; from = H.from; to = H.to }
 
   -- no object has a byte in a block header, be the block placed or not

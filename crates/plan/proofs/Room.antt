@@ -1,14 +1,8 @@
 -- The objects of a plan fit into the bodies of the root's slots: so no total falls below zero.
-use Rattle.std.specs.Prelude.{Err, None, Ok, Option, Result, Some, unwrap_or}
-use Prim.Native.Nat.{ℕ, suc, ◌+◌, ◌-◌, ◌^◌, ◌≤◌, ◌<◌, zero-le}
-use mathlib.Core.Path.{◌≡◌, refl, sym, ap, ◌∙◌, subst}
-use mathlib.Core.Logic.{◌⊎◌, inl, inr, ∥∥₁_elim}
-use mathlib.Core.Bool.{Bool}
-use mathlib.Core.List.{List, [], ◌∷◌}
-use native.Mathlib.Omega.{arith}
-use native.Mathlib.Decide.{ℕ_discrete}
-use native.Mathlib.Numerals.{add-one}
-use borrow.Author.Tests.{eq-eqb, ne_eqb}
+use Rattle.std.proofs.Common.{◌≡◌, ℕ, suc, ◌+◌, ◌-◌, ◌^◌, ◌<◌, ◌≤◌, Bool, ◌⊎◌, List, [], ◌∷◌, Some, None, Ok, Err, Option, Result, unwrap_or, sym, refl, ap, ◌∙◌, subst, inl, inr, zero-le, add-one, arith, eq-eqb, ne_eqb}
+use Rattle.std.proofs.Math.Decide.{ℕ_discrete}
+use Rattle.std.proofs.Math.Logic.{∥∥₁_elim}
+use Rattle.std.proofs.Props.{props}
 use Rattle.table.specs.Table.{fixed, row_offset, row_of}
 use Rattle.table.specs.Slots.{slot_at}
 use Rattle.table.specs.Sizes.{offset_bytes, direct_header}
@@ -22,7 +16,6 @@ use Rattle.table_laws.proofs.Format.{in_body, slot-body}
 use Rattle.table_laws.proofs.Bodies.{first-bodies, bodies}
 use Rattle.planner.specs.Steps.{block_end, initial, step_of, run_from, run}
 use Rattle.plan.specs.End.{one_block, end_state, rows_of_root}
-use Rattle.std.proofs.Props.{props}
 use Rattle.planner.specs.Requires.{IsReached}
 use Rattle.plan.specs.Requires.{Totalled}
 use Rattle.planner.specs.declared.State.{State}

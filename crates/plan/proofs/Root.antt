@@ -1,14 +1,6 @@
 -- The root: the one block of the starting size at 0, or the fewest rows that reach the last block's end.
-use Rattle.std.specs.Prelude.{Ok}
-use Prim.Native.Nat.{ℕ, suc, ◌+◌, ◌-◌, ◌^◌, ◌≤◌, ◌<◌}
-use mathlib.Core.Path.{◌≡◌, refl, sym, ap, ap₂, ◌∙◌, subst}
-use mathlib.Core.Logic.{◌⊎◌, inl, inr, ⊎_elim}
-use mathlib.Core.List.{List, [], ◌∷◌}
-use native.Mathlib.Omega.{arith}
-use native.Mathlib.Decide.{ℕ_discrete}
-use native.Mathlib.Numerals.{add-one}
-use lib.ListN.{length, get_or}
-use borrow.Author.Tests.{eq-eqb, ne_eqb}
+use Rattle.std.proofs.Common.{◌≡◌, ℕ, suc, ◌+◌, ◌-◌, ◌^◌, ◌<◌, ◌≤◌, ◌⊎◌, List, [], ◌∷◌, length, slice_index, Ok, sym, refl, ap, ◌∙◌, subst, ap₂, inl, inr, ⊎_elim, add-one, arith, eq-eqb, ne_eqb}
+use Rattle.std.proofs.Math.Decide.{ℕ_discrete}
 use Rattle.fields.proofs.Widths.{legal-small}
 use Rattle.table.specs.Table.{fixed, row_bits, row_offset, row_in, row_of}
 use Rattle.table.specs.Slots.{Direct, slot_bits_in, slot_bits, slot_at}
@@ -195,6 +187,6 @@ module _ (xs : List ℕ) (o b w : ℕ) (p : ManagedPlan) (e : planned_for xs o b
           let l = F.last in
           let a = ap length q in
           let n : F.n ≡ 0 = omega arith in
-          let z : get_or (plan_starts fixed w xs) F.n 0 ≡ 0 = ap₂ (λ (bs : List ℕ) (i : ℕ). get_or bs i 0) q n in
+          let z : slice_index (plan_starts fixed w xs) F.n ≡ 0 = ap₂ (λ (bs : List ℕ) (i : ℕ). slice_index bs i) q n in
           let S = fixed-slot (subst (λ (y : ℕ). Direct fixed 29 y F.size) z F.slot) in
           F.end ∙ ap₂ (λ (a b : ℕ). a + b) z (S.size_is ∙ slot-zero)

@@ -1,15 +1,5 @@
 -- How many offsets and blocks a plan has, and how large its blocks are together.
-use Rattle.std.specs.Prelude.{Ok}
-use Prim.Native.Nat.{ℕ, suc, ◌+◌}
-use mathlib.Core.Path.{◌≡◌, refl, sym, ap, ◌∙◌, subst}
-use mathlib.Core.Logic.{◌⊎◌, inl, inr, ⊎_elim}
-use mathlib.Core.Bool.{Bool, true, false, cond}
-use mathlib.Core.List.{List, [], ◌∷◌}
-use native.Mathlib.Omega.{arith}
-use native.Mathlib.Nat.{zero-add}
-use lib.Dec.{eqb}
-use lib.ListN.{length}
-use borrow.Author.Tests.{ne_eqb}
+use Rattle.std.proofs.Common.{◌≡◌, ℕ, suc, ◌+◌, Bool, true, false, ◌⊎◌, List, [], ◌∷◌, length, if◌then◌else◌, ◌==◌, Ok, sym, refl, ap, ◌∙◌, subst, inl, inr, ⊎_elim, zero-add, arith, ne_eqb}
 use Rattle.table.specs.Table.{fixed, row_bits, row_offset, row_in, row_of}
 use Rattle.table.specs.Slots.{slot_bits_in, slot_bits, slot_at}
 use Rattle.planner.specs.declared.State.{State}
@@ -55,13 +45,13 @@ counted w (x ∷ xs) s e =
 totals-count : (w : ℕ) (s : State) → (((totals fixed w s).root_rows ≡ 0) × ((totals fixed w s).block_count ≡ 1) × ((totals fixed w s).allocated_space ≡ 1024))
     ⊎ (((totals fixed w s).block_count ≡ s.count) × ((totals fixed w s).allocated_space ≡ s.allocated))
 unfolding totals
-totals-count w s = go (eqb (rows_of_root fixed (block_end s)) 0)
+totals-count w s = go (((rows_of_root fixed (block_end s)) == 0))
   where
-    go : (b : Bool) → (((cond b (bare_totals fixed w s) (row_totals fixed w s (rows_of_root fixed (block_end s)))).root_rows ≡ 0)
-        × ((cond b (bare_totals fixed w s) (row_totals fixed w s (rows_of_root fixed (block_end s)))).block_count ≡ 1)
-        × ((cond b (bare_totals fixed w s) (row_totals fixed w s (rows_of_root fixed (block_end s)))).allocated_space ≡ 1024))
-        ⊎ (((cond b (bare_totals fixed w s) (row_totals fixed w s (rows_of_root fixed (block_end s)))).block_count ≡ s.count)
-        × ((cond b (bare_totals fixed w s) (row_totals fixed w s (rows_of_root fixed (block_end s)))).allocated_space ≡ s.allocated))
+    go : (b : Bool) → ((((if b then (bare_totals fixed w s) else (row_totals fixed w s (rows_of_root fixed (block_end s))))).root_rows ≡ 0)
+        × (((if b then (bare_totals fixed w s) else (row_totals fixed w s (rows_of_root fixed (block_end s))))).block_count ≡ 1)
+        × (((if b then (bare_totals fixed w s) else (row_totals fixed w s (rows_of_root fixed (block_end s))))).allocated_space ≡ 1024))
+        ⊎ ((((if b then (bare_totals fixed w s) else (row_totals fixed w s (rows_of_root fixed (block_end s))))).block_count ≡ s.count)
+        × (((if b then (bare_totals fixed w s) else (row_totals fixed w s (rows_of_root fixed (block_end s))))).allocated_space ≡ s.allocated))
     go true = inl (refl, refl, refl)
     go false = inr (refl, refl)
 

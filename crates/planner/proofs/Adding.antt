@@ -1,7 +1,5 @@
 -- One object: the step of its definition, from the numbers that the code has.
-use Prim.Native.Nat.{ℕ, ◌+◌, ◌<◌}
-use mathlib.Core.Path.{◌≡◌, sym, ap, ap₂, ◌∙◌}
-use Rattle.std.specs.Prelude.{Option, Some, None, IfNone}
+use Rattle.std.proofs.Common.{◌≡◌, ℕ, ◌+◌, ◌<◌, IfNone, Some, None, Option, sym, ap, ◌∙◌, ap₂}
 use Rattle.table.specs.Table.{fixed}
 use Rattle.table.specs.Slots.{entered_bytes}
 use Rattle.table.specs.Sizes.{direct_header}

@@ -1,15 +1,6 @@
 -- Objects that fit into the current block, taken at once: planning goes on from the state after them.
-use Prim.Native.Nat.{ℕ, suc, ◌+◌, ◌≤◌, ◌<◌, zero-le}
-use mathlib.Core.Path.{◌≡◌, refl, sym, ap, ap₂, ◌∙◌, subst}
-use mathlib.Core.Bool.{Bool, true, false}
-use mathlib.Core.List.{List, [], ◌∷◌, ◌++◌}
-use native.Mathlib.Omega.{arith}
-use native.Mathlib.Nat.{add-zero}
-use native.Mathlib.Numerals.{add-one}
-use lib.Dec.{leb}
-use lib.ListN.{length, take, drop, get_or, length-drop, drop_of_length-le}
-use lib.Seq.{drop-cons, drop-drop, get_or-drop}
-use borrow.Author.Tests.{le-leb, lt-leb, leb-true, leb-false}
+use Rattle.std.proofs.Common.{◌≡◌, ℕ, suc, ◌+◌, ◌<◌, ◌≤◌, Bool, true, false, List, [], ◌∷◌, ◌++◌, length, take, drop, nat_le, slice_index, sym, refl, ap, ◌∙◌, subst, ap₂, zero-le, add-zero, add-one, arith, length-drop, drop_of_length-le, get_or-drop, drop-cons, drop-drop, le-leb, leb-false, leb-true}
+use Rattle.std.proofs.lemmas.Bool.{lt-leb}
 use Rattle.std.proofs.lemmas.List.{take-append-drop, take-take, drop-take}
 use Rattle.table.specs.Table.{Table, fixed}
 use Rattle.planner.specs.Steps.{filled, run_from, offsets_from, starts_from}
@@ -46,10 +37,10 @@ pub record Fill (t : Table) (w : ℕ) (s : State) (xs : List ℕ) (s' : State) (
   pub same-offsets : offsets_from t w s xs ≡ os ++ offsets_from t w s' (drop (length os) xs)
   pub same-starts : starts_from t w s xs ≡ starts_from t w s' (drop (length os) xs)
   pub same_count : s'.count ≡ s.count
-  pub stops : length os < length xs → s'.size < s'.fill + get_or xs (length os) 0
+  pub stops : length os < length xs → s'.size < s'.fill + slice_index xs (length os)
 
 module _ (t : Table) (w : ℕ) where
-  fill_none : (s : State) (xs : List ℕ) → (0 < length xs → s.size < s.fill + get_or xs 0 0) → Fill t w s xs s []
+  fill_none : (s : State) (xs : List ℕ) → (0 < length xs → s.size < s.fill + slice_index xs 0) → Fill t w s xs s []
   fill_none s xs h = record {
     inside = zero-le;
     same-run = λ ys i. ap (run_from t w s ys) (sym (add-zero i));
@@ -76,9 +67,9 @@ module _ (t : Table) (w : ℕ) where
   pub fill : (xs : List ℕ) (s : State) → Fill t w s xs (fill_state s xs) (fill_offsets s xs)
   unfolding fill_state fill_offsets
   fill [] s = fill_none s [] (λ u. absurd (omega arith))
-  fill (x ∷ xs) s = go (leb (s.fill + x) s.size) refl (fill xs (filled s x))
+  fill (x ∷ xs) s = go (nat_le (s.fill + x) s.size) refl (fill xs (filled s x))
     where
-      go : (b : Bool) → leb (s.fill + x) s.size ≡ b → Fill t w (filled s x) xs (fill_state (filled s x) xs) (fill_offsets (filled s x) xs)
+      go : (b : Bool) → nat_le (s.fill + x) s.size ≡ b → Fill t w (filled s x) xs (fill_state (filled s x) xs) (fill_offsets (filled s x) xs)
           → Fill t w s (x ∷ xs) (elim b [ true ↦ fill_state (filled s x) xs | false ↦ s ]) (elim b [ true ↦ (s.start + s.fill) ∷ fill_offsets (filled s x) xs | false ↦ [] ])
       go true e ih = fill_more s x xs (fill_state (filled s x) xs) (fill_offsets (filled s x) xs) (leb-true (s.fill + x) s.size e) ih
       go false e ih = fill_none s (x ∷ xs) (λ u. leb-false (s.fill + x) s.size e)
@@ -86,9 +77,9 @@ module _ (t : Table) (w : ℕ) where
 sound-fill : (w : ℕ) → w ≤ 255 → (xs : List ℕ) (s : State) → Sound w s → Sound w (fill_state s xs)
 unfolding fill_state
 sound-fill w l [] s S = S
-sound-fill w l (x ∷ xs) s S = go (leb (s.fill + x) s.size) refl (sound-fill w l xs (filled s x))
+sound-fill w l (x ∷ xs) s S = go (nat_le (s.fill + x) s.size) refl (sound-fill w l xs (filled s x))
   where
-    go : (b : Bool) → leb (s.fill + x) s.size ≡ b → (Sound w (filled s x) → Sound w (fill_state (filled s x) xs))
+    go : (b : Bool) → nat_le (s.fill + x) s.size ≡ b → (Sound w (filled s x) → Sound w (fill_state (filled s x) xs))
         → Sound w (elim b [ true ↦ fill_state (filled s x) xs | false ↦ s ])
     go true e ih = ih (sound-step w s x (filled s x) (s.start + s.fill) l S (step_same fixed w s x (leb-true (s.fill + x) s.size e)))
     go false e ih = S
@@ -104,20 +95,20 @@ module _ (xs : List ℕ) (s : State) (next : ℕ) where
     step-on : drop (suc next) xs ≡ drop (next + 1) xs
     step-on = ap (λ (j : ℕ). drop j xs) (sym (add-one next))
 
-    pub state-on : s.fill + get_or xs next 0 ≤ s.size → fill_state s (drop next xs) ≡ fill_state (filled s (get_or xs next 0)) (drop (next + 1) xs)
+    pub state-on : s.fill + slice_index xs next ≤ s.size → fill_state s (drop next xs) ≡ fill_state (filled s (slice_index xs next)) (drop (next + 1) xs)
     state-on f =
-        ap (fill_state s) (drop-cons xs next 0 l) ∙ state-fits s (get_or xs next 0) (drop (suc next) xs) f ∙ ap (fill_state (filled s (get_or xs next 0))) step-on
+        ap (fill_state s) (drop-cons xs next 0 l) ∙ state-fits s (slice_index xs next) (drop (suc next) xs) f ∙ ap (fill_state (filled s (slice_index xs next))) step-on
 
-    pub offsets-on : s.fill + get_or xs next 0 ≤ s.size → fill_offsets s (drop next xs) ≡ (s.start + s.fill) ∷ fill_offsets (filled s (get_or xs next 0)) (drop (next + 1) xs)
+    pub offsets-on : s.fill + slice_index xs next ≤ s.size → fill_offsets s (drop next xs) ≡ (s.start + s.fill) ∷ fill_offsets (filled s (slice_index xs next)) (drop (next + 1) xs)
     offsets-on f =
-        ap (fill_offsets s) (drop-cons xs next 0 l) ∙ offsets-fit s (get_or xs next 0) (drop (suc next) xs) f
-        ∙ ap (λ (ys : List ℕ). (s.start + s.fill) ∷ fill_offsets (filled s (get_or xs next 0)) ys) step-on
+        ap (fill_offsets s) (drop-cons xs next 0 l) ∙ offsets-fit s (slice_index xs next) (drop (suc next) xs) f
+        ∙ ap (λ (ys : List ℕ). (s.start + s.fill) ∷ fill_offsets (filled s (slice_index xs next)) ys) step-on
 
-    pub state-stop : s.size < s.fill + get_or xs next 0 → fill_state s (drop next xs) ≡ s
-    state-stop f = ap (fill_state s) (drop-cons xs next 0 l) ∙ state-full s (get_or xs next 0) (drop (suc next) xs) f
+    pub state-stop : s.size < s.fill + slice_index xs next → fill_state s (drop next xs) ≡ s
+    state-stop f = ap (fill_state s) (drop-cons xs next 0 l) ∙ state-full s (slice_index xs next) (drop (suc next) xs) f
 
-    pub offsets-stop : s.size < s.fill + get_or xs next 0 → fill_offsets s (drop next xs) ≡ []
-    offsets-stop f = ap (fill_offsets s) (drop-cons xs next 0 l) ∙ offsets-full s (get_or xs next 0) (drop (suc next) xs) f
+    pub offsets-stop : s.size < s.fill + slice_index xs next → fill_offsets s (drop next xs) ≡ []
+    offsets-stop f = ap (fill_offsets s) (drop-cons xs next 0 l) ∙ offsets-full s (slice_index xs next) (drop (suc next) xs) f
 
   pub state-end : length xs ≤ next → fill_state s (drop next xs) ≡ s
   unfolding fill_state
@@ -167,11 +158,11 @@ module _ (w : ℕ) (xs : List ℕ) (s : State) (i : ℕ) (s' : State) (j : ℕ) 
   pub count_kept : s'.count ≡ s.count
   count_kept = ap (λ (y : State). y.count) state-is ∙ (fill fixed w (drop i xs) s).same_count
 
-  pub next-full : j < length xs → s'.size < s'.fill + get_or xs j 0
+  pub next-full : j < length xs → s'.size < s'.fill + slice_index xs j
   next-full l =
       let z = next-is in let b = length-drop i xs in
       let q = (fill fixed w (drop i xs) s).stops (omega arith) in
-      let g : get_or (drop i xs) (length (fill_offsets s (drop i xs))) 0 ≡ get_or xs j 0 = get_or-drop i xs (length (fill_offsets s (drop i xs))) 0 ∙ ap (λ (k : ℕ). get_or xs k 0) (sym z) in
+      let g : slice_index (drop i xs) (length (fill_offsets s (drop i xs))) ≡ slice_index xs j = get_or-drop i xs (length (fill_offsets s (drop i xs))) 0 ∙ ap (λ (k : ℕ). slice_index xs k) (sym z) in
       let c = ap (λ (y : State). y.size) state-is in let d = ap (λ (y : State). y.fill) state-is in
       omega arith
 

@@ -1,20 +1,16 @@
 -- A slot begins at a multiple of its size: so no slot of 2 ^ e bytes or more begins between two multiples of
 -- 2 ^ e, and the search may go on at the next one.
-use Prim.Native.Nat.{ℕ, zero, suc, ◌+◌, ◌-◌, ◌*◌, ◌/◌, ◌%◌, ◌^◌, ◌≤◌, ◌<◌, max}
-use mathlib.Core.Path.{◌≡◌, sym, ap, ◌∙◌, subst}
-use native.Mathlib.Omega.{arith}
-use native.Mathlib.Nat.{lt_of_not-le, mul-le-mul_right}
-use native.Mathlib.Decide.{dec_le, dec_lt}
-use lib.Pow.{pow_pos, pow_mono}
+use Rattle.std.proofs.Common.{◌≡◌, ℕ, zero, suc, ◌+◌, ◌-◌, ◌*◌, ◌/◌, ◌%◌, ◌^◌, ◌<◌, ◌≤◌, max, sym, ap, ◌∙◌, subst, mul-le-mul_right, lt_of_not-le, arith, pow_pos, pow_mono}
+use Rattle.std.proofs.Math.Decide.{dec_le, dec_lt}
+use Rattle.std.specs.Int.{IsPowerOfTwo}
+use Rattle.std.specs.Int.Bits.{bit_and}
+use Rattle.std.proofs.lemmas.Nat.{and_mask}
 use Rattle.table.specs.Table.{Table, fixed}
 use Rattle.table.specs.Slots.{slot_bits, slot_at, slot_end}
 use Rattle.table.specs.declared.Slot.{Slot}
 use Rattle.table.proofs.Powers.{le_of_not_lt, pow-split}
 use Rattle.table.proofs.Slots.{Start, end-gt, end-le, start-here, start-next, end-start}
 use Rattle.planner.specs.Steps.{open_at}
-use Rattle.std.specs.Int.{IsPowerOfTwo}
-use Rattle.std.specs.Int.Bits.{bit_and}
-use Rattle.std.proofs.lemmas.Nat.{and_mask}
 use Rattle.planner.proofs.Opening.{open-pass}
 
 module _ (t : Table) (g : t.start_bits ≤ t.direct_bits) (k : t.start_bits ≤ t.heap_bits) where

@@ -1,12 +1,7 @@
 -- The search for a slot that is large enough, a slot at a time: what it finds, and when it finds nothing.
-use Rattle.std.specs.Prelude.{None, Option, Some}
-use Prim.Native.Nat.{ℕ, zero, suc, ◌+◌, ◌-◌, ◌^◌, ◌≤◌, ◌<◌}
-use mathlib.Core.Path.{◌≡◌, refl, sym, ap, ◌∙◌, subst}
-use mathlib.Core.Bool.{Bool, true, false}
-use native.Mathlib.Omega.{arith}
-use native.Mathlib.Decide.{dec_lt}
-use lib.Dec.{leb, ltb}
-use borrow.Author.Tests.{lt-ltb, le-ltb, le-leb, lt-leb, ltb-true, ltb-false, leb-true, leb-false}
+use Rattle.std.proofs.Common.{◌≡◌, ℕ, zero, suc, ◌+◌, ◌-◌, ◌^◌, ◌<◌, ◌≤◌, Bool, true, false, nat_lt, nat_le, Some, None, Option, sym, refl, ap, ◌∙◌, subst, arith, ltb-false, ltb-true, le-ltb, lt-ltb, le-leb, leb-false, leb-true}
+use Rattle.std.proofs.Math.Decide.{dec_lt}
+use Rattle.std.proofs.lemmas.Bool.{lt-leb}
 use Rattle.table.specs.Table.{Table}
 use Rattle.table.specs.Slots.{slot_at, slot_end}
 use Rattle.table.specs.declared.Slot.{Slot}
@@ -19,7 +14,7 @@ module _ (t : Table) where
   open-fuel zero zero n c h k = refl
   open-fuel zero (suc g) n c h k = rw (le-ltb c (2 ^ t.heap_bits) (omega arith), open_in)
   open-fuel (suc f) zero n c h k = rw (le-ltb c (2 ^ t.heap_bits) (omega arith), open_in)
-  open-fuel (suc f) (suc g) n c h k = let z = end-gt t c in go (ltb c (2 ^ t.heap_bits)) (leb n (slot_at t c).size) (open-fuel f g n (slot_end (slot_at t c)) (omega arith) (omega arith))
+  open-fuel (suc f) (suc g) n c h k = let z = end-gt t c in go (nat_lt c (2 ^ t.heap_bits)) (nat_le n (slot_at t c).size) (open-fuel f g n (slot_end (slot_at t c)) (omega arith) (omega arith))
     where
       go : (u v : Bool) → open_in t f n (slot_end (slot_at t c)) ≡ open_in t g n (slot_end (slot_at t c))
           → ◌≡◌ {A = Option Slot} (elim u [ true ↦ elim v [ true ↦ Some (slot_at t c) | false ↦ open_in t f n (slot_end (slot_at t c)) ] | false ↦ None ])
@@ -31,13 +26,13 @@ module _ (t : Table) where
 
   -- one slot of the walk
   open-one : (n c : ℕ) → c < 2 ^ t.heap_bits
-      → open_at t n c ≡ elim (leb n (slot_at t c).size) [ true ↦ Some (slot_at t c) | false ↦ open_at t n (slot_end (slot_at t c)) ]
+      → open_at t n c ≡ elim (nat_le n (slot_at t c).size) [ true ↦ Some (slot_at t c) | false ↦ open_at t n (slot_end (slot_at t c)) ]
   unfolding open_at open_in
   open-one n c h =
       let z = end-gt t c in
       open-fuel (2 ^ t.heap_bits - c) (suc (2 ^ t.heap_bits - c)) n c (omega arith) (omega arith)
       ∙ rw (lt-ltb c (2 ^ t.heap_bits) h, open_in)
-      (ap (λ (o : Option Slot). elim (leb n (slot_at t c).size) as (λ b. Option Slot) [ true ↦ Some (slot_at t c) | false ↦ o ])
+      (ap (λ (o : Option Slot). elim (nat_le n (slot_at t c).size) as (λ b. Option Slot) [ true ↦ Some (slot_at t c) | false ↦ o ])
       (open-fuel (2 ^ t.heap_bits - c) (2 ^ t.heap_bits - slot_end (slot_at t c)) n (slot_end (slot_at t c)) (omega arith) (omega arith)))
 
   pub open-here : (n c : ℕ) → c < 2 ^ t.heap_bits → n ≤ (slot_at t c).size → open_at t n c ≡ Some (slot_at t c)
@@ -55,9 +50,9 @@ module _ (t : Table) (g : t.start_bits ≤ t.direct_bits) (k : t.start_bits ≤ 
   open-in-ends : (f n c : ℕ) (b : Slot) → open_in t f n c ≡ Some b → (0 < b.size) × (slot_end b ≤ 2 ^ t.heap_bits)
   unfolding open_in
   open-in-ends zero n c b e = absurd cc
-  open-in-ends (suc f) n c b e = go (ltb c (2 ^ t.heap_bits)) refl (leb n (slot_at t c).size) (open-in-ends f n (slot_end (slot_at t c)) b) e
+  open-in-ends (suc f) n c b e = go (nat_lt c (2 ^ t.heap_bits)) refl (nat_le n (slot_at t c).size) (open-in-ends f n (slot_end (slot_at t c)) b) e
     where
-      go : (u : Bool) → ltb c (2 ^ t.heap_bits) ≡ u → (v : Bool)
+      go : (u : Bool) → nat_lt c (2 ^ t.heap_bits) ≡ u → (v : Bool)
           → (open_in t f n (slot_end (slot_at t c)) ≡ Some b → (0 < b.size) × (slot_end b ≤ 2 ^ t.heap_bits))
           → ◌≡◌ {A = Option Slot} (elim u [ true ↦ elim v [ true ↦ Some (slot_at t c) | false ↦ open_in t f n (slot_end (slot_at t c)) ] | false ↦ None ]) (Some b)
           → (0 < b.size) × (slot_end b ≤ 2 ^ t.heap_bits)
@@ -82,9 +77,9 @@ module _ (t : Table) (g : t.start_bits ≤ t.direct_bits) (k : t.start_bits ≤ 
   open-in-found : (f n c : ℕ) → Start t c → (b : Slot) → open_in t f n c ≡ Some b → Found n c b
   unfolding open_in
   open-in-found zero n c s b e = absurd cc
-  open-in-found (suc f) n c s b e = go (ltb c (2 ^ t.heap_bits)) refl (leb n (slot_at t c).size) refl (open-in-found f n (slot_end (slot_at t c))) e
+  open-in-found (suc f) n c s b e = go (nat_lt c (2 ^ t.heap_bits)) refl (nat_le n (slot_at t c).size) refl (open-in-found f n (slot_end (slot_at t c))) e
     where
-      go : (u : Bool) → ltb c (2 ^ t.heap_bits) ≡ u → (v : Bool) → leb n (slot_at t c).size ≡ v
+      go : (u : Bool) → nat_lt c (2 ^ t.heap_bits) ≡ u → (v : Bool) → nat_le n (slot_at t c).size ≡ v
           → (Start t (slot_end (slot_at t c)) → (b : Slot) → open_in t f n (slot_end (slot_at t c)) ≡ Some b → Found n (slot_end (slot_at t c)) b)
           → ◌≡◌ {A = Option Slot} (elim u [ true ↦ elim v [ true ↦ Some (slot_at t c) | false ↦ open_in t f n (slot_end (slot_at t c)) ] | false ↦ None ]) (Some b)
           → Found n c b
@@ -116,9 +111,9 @@ module _ (t : Table) (g : t.start_bits ≤ t.direct_bits) (k : t.start_bits ≤ 
   full-in : (f n c : ℕ) → 2 ^ t.heap_bits ≤ c + f → Start t c → open_in t f n c ≡ None → (b : ℕ) → Start t b → c ≤ b → b < 2 ^ t.heap_bits → (slot_at t b).size < n
   unfolding open_in
   full-in zero n c h s e b r l u = absurd (omega arith)
-  full-in (suc f) n c h s e b r l u = go (ltb c (2 ^ t.heap_bits)) refl (leb n (slot_at t c).size) refl (full-in f n (slot_end (slot_at t c))) e (dec_lt c b)
+  full-in (suc f) n c h s e b r l u = go (nat_lt c (2 ^ t.heap_bits)) refl (nat_le n (slot_at t c).size) refl (full-in f n (slot_end (slot_at t c))) e (dec_lt c b)
     where
-      go : (a : Bool) → ltb c (2 ^ t.heap_bits) ≡ a → (v : Bool) → leb n (slot_at t c).size ≡ v
+      go : (a : Bool) → nat_lt c (2 ^ t.heap_bits) ≡ a → (v : Bool) → nat_le n (slot_at t c).size ≡ v
           → (2 ^ t.heap_bits ≤ slot_end (slot_at t c) + f → Start t (slot_end (slot_at t c)) → open_in t f n (slot_end (slot_at t c)) ≡ None → (b : ℕ) → Start t b → slot_end (slot_at t c) ≤ b → b < 2 ^ t.heap_bits → (slot_at t b).size < n)
           → ◌≡◌ {A = Option Slot} (elim a [ true ↦ elim v [ true ↦ Some (slot_at t c) | false ↦ open_in t f n (slot_end (slot_at t c)) ] | false ↦ None ]) None
           → Dec (c < b) → (slot_at t b).size < n

@@ -1,12 +1,6 @@
 -- The states after the objects of some list: one object more reaches the next state, and each of them is within bounds.
-use Prim.Native.Nat.{ℕ, suc, ◌+◌, ◌≤◌}
-use mathlib.Core.Path.{◌≡◌, refl, ap, ◌∙◌, subst}
-use mathlib.Core.Logic.{∥∥₁_elim, ∥∥₁_map}
-use mathlib.Core.Bool.{Bool, true, false}
-use mathlib.Core.List.{List, [], ◌∷◌, ◌++◌}
-use lib.Dec.{leb}
-use borrow.Author.Tests.{leb-true}
-use Rattle.std.specs.Prelude.{Option, Some, None, Result, Ok, Err}
+use Rattle.std.proofs.Common.{◌≡◌, ℕ, suc, ◌+◌, ◌≤◌, Bool, true, false, List, [], ◌∷◌, ◌++◌, nat_le, Some, None, Ok, Err, Option, Result, refl, ap, ◌∙◌, subst, leb-true}
+use Rattle.std.proofs.Math.Logic.{∥∥₁_elim, ∥∥₁_map}
 use Rattle.std.proofs.Props.{props}
 use Rattle.table.specs.Table.{Table, fixed}
 use Rattle.planner.specs.Steps.{initial, filled, step_of, run_from, run}
@@ -64,9 +58,9 @@ module _ (w : ℕ) (s : State) (R : IsReached w s) where
 pub reached-fill : (w : ℕ) (xs : List ℕ) (s : State) → IsReached w s → IsReached w (fill_state s xs)
 unfolding fill_state
 reached-fill w [] s R = R
-reached-fill w (x ∷ xs) s R = go (leb (s.fill + x) s.size) refl (reached-fill w xs (filled s x))
+reached-fill w (x ∷ xs) s R = go (nat_le (s.fill + x) s.size) refl (reached-fill w xs (filled s x))
   where
-    go : (b : Bool) → leb (s.fill + x) s.size ≡ b → (IsReached w (filled s x) → IsReached w (fill_state (filled s x) xs))
+    go : (b : Bool) → nat_le (s.fill + x) s.size ≡ b → (IsReached w (filled s x) → IsReached w (fill_state (filled s x) xs))
         → IsReached w (elim b [ true ↦ fill_state (filled s x) xs | false ↦ s ])
     go true e ih = ih (reached-step w s R x (filled s x) (s.start + s.fill) (step_same fixed w s x (leb-true (s.fill + x) s.size e)))
     go false e ih = R

@@ -1,14 +1,5 @@
 -- The loops over the sizes, a turn at a time: what is left gives the answer.
-use Rattle.std.specs.Prelude.{Err, None, Ok, Some}
-use Prim.Native.Nat.{ℕ, suc, ◌+◌, ◌*◌, ◌^◌, ◌≤◌, ◌<◌, zero-le}
-use mathlib.Core.Path.{◌≡◌, refl, sym, ap, ◌∙◌}
-use mathlib.Core.Logic.{◌⊎◌, inl, inr}
-use mathlib.Core.List.{List, [], ◌∷◌}
-use native.Mathlib.Omega.{arith}
-use native.Mathlib.Numerals.{add-one}
-use lib.ListN.{length, drop, get_or, drop_of_length-le}
-use lib.Seq.{drop-cons}
-use borrow.Author.Tests.{le-ltb, lt-ltb}
+use Rattle.std.proofs.Common.{◌≡◌, ℕ, suc, ◌+◌, ◌*◌, ◌^◌, ◌<◌, ◌≤◌, ◌⊎◌, List, [], ◌∷◌, length, drop, slice_index, Some, None, Ok, Err, sym, refl, ap, ◌∙◌, inl, inr, zero-le, add-one, arith, drop_of_length-le, drop-cons, le-ltb, lt-ltb}
 use Rattle.table.specs.Table.{Table, fixed}
 use Rattle.table.specs.Sizes.{offset_bytes, direct_header}
 use Rattle.table.proofs.Locating.{entered-small}
@@ -54,29 +45,29 @@ module _ (t : Table) (w : ℕ) (s : State) (x : ℕ) (xs : List ℕ) where
 -- ---- one turn of a loop
 
 module _ (t : Table) (w : ℕ) (xs : List ℕ) (s : State) (i : ℕ) (l : i < length xs) where
-  pub run_ends : step_of t w s (get_or xs i 0) ≡ None → run_from t w s (drop i xs) i ≡ Err i
-  run_ends e = ap (λ (ys : List ℕ). run_from t w s ys i) (drop-cons xs i 0 l) ∙ run-stops t w s (get_or xs i 0) (drop (suc i) xs) i e
+  pub run_ends : step_of t w s (slice_index xs i) ≡ None → run_from t w s (drop i xs) i ≡ Err i
+  run_ends e = ap (λ (ys : List ℕ). run_from t w s ys i) (drop-cons xs i 0 l) ∙ run-stops t w s (slice_index xs i) (drop (suc i) xs) i e
 
-  pub offsets-ended : step_of t w s (get_or xs i 0) ≡ None → offsets_from t w s (drop i xs) ≡ []
-  offsets-ended e = ap (offsets_from t w s) (drop-cons xs i 0 l) ∙ offsets-stop-here t w s (get_or xs i 0) (drop (suc i) xs) e
+  pub offsets-ended : step_of t w s (slice_index xs i) ≡ None → offsets_from t w s (drop i xs) ≡ []
+  offsets-ended e = ap (offsets_from t w s) (drop-cons xs i 0 l) ∙ offsets-stop-here t w s (slice_index xs i) (drop (suc i) xs) e
 
-  pub starts-ended : step_of t w s (get_or xs i 0) ≡ None → starts_from t w s (drop i xs) ≡ []
-  starts-ended e = ap (starts_from t w s) (drop-cons xs i 0 l) ∙ starts-stop-here t w s (get_or xs i 0) (drop (suc i) xs) e
+  pub starts-ended : step_of t w s (slice_index xs i) ≡ None → starts_from t w s (drop i xs) ≡ []
+  starts-ended e = ap (starts_from t w s) (drop-cons xs i 0 l) ∙ starts-stop-here t w s (slice_index xs i) (drop (suc i) xs) e
 
-  module _ (s' : State) (o : ℕ) (e : step_of t w s (get_or xs i 0) ≡ Some (s', o)) where
+  module _ (s' : State) (o : ℕ) (e : step_of t w s (slice_index xs i) ≡ Some (s', o)) where
     pub run-placed : run_from t w s (drop i xs) i ≡ run_from t w s' (drop (i + 1) xs) (i + 1)
     run-placed =
-        ap (λ (ys : List ℕ). run_from t w s ys i) (drop-cons xs i 0 l) ∙ run-goes t w s (get_or xs i 0) (drop (suc i) xs) s' o e i
+        ap (λ (ys : List ℕ). run_from t w s ys i) (drop-cons xs i 0 l) ∙ run-goes t w s (slice_index xs i) (drop (suc i) xs) s' o e i
         ∙ ap (λ (j : ℕ). run_from t w s' (drop j xs) j) (sym (add-one i))
 
     pub offsets-placed : offsets_from t w s (drop i xs) ≡ o ∷ offsets_from t w s' (drop (i + 1) xs)
     offsets-placed =
-        ap (offsets_from t w s) (drop-cons xs i 0 l) ∙ offsets-go t w s (get_or xs i 0) (drop (suc i) xs) s' o e
+        ap (offsets_from t w s) (drop-cons xs i 0 l) ∙ offsets-go t w s (slice_index xs i) (drop (suc i) xs) s' o e
         ∙ ap (λ (j : ℕ). o ∷ offsets_from t w s' (drop j xs)) (sym (add-one i))
 
     pub starts-new : s.count < s'.count → starts_from t w s (drop i xs) ≡ s'.start ∷ starts_from t w s' (drop (i + 1) xs)
     starts-new u =
-        ap (starts_from t w s) (drop-cons xs i 0 l) ∙ starts-go-new t w s (get_or xs i 0) (drop (suc i) xs) s' o e u
+        ap (starts_from t w s) (drop-cons xs i 0 l) ∙ starts-go-new t w s (slice_index xs i) (drop (suc i) xs) s' o e u
         ∙ ap (λ (j : ℕ). s'.start ∷ starts_from t w s' (drop j xs)) (sym (add-one i))
 
 module _ (t : Table) (w : ℕ) (xs : List ℕ) (s : State) (i : ℕ) (l : length xs ≤ i) where
@@ -134,12 +125,12 @@ unfolding run
 going_start w xs = record { inside = zero-le; sound = sound-initial w; rest = refl }
 
 module _ (w : ℕ) (xs : List ℕ) (s : State) (i : ℕ) (I : Going w xs s i) where
-  pub going_on : w ≤ 255 → i < length xs → (s' : State) (o : ℕ) → step_of fixed w s (get_or xs i 0) ≡ Some (s', o) → Going w xs s' (i + 1)
+  pub going_on : w ≤ 255 → i < length xs → (s' : State) (o : ℕ) → step_of fixed w s (slice_index xs i) ≡ Some (s', o) → Going w xs s' (i + 1)
   going_on b l s' o e = record {
     inside = omega arith;
-    sound = sound-step w s (get_or xs i 0) s' o b I.sound e;
+    sound = sound-step w s (slice_index xs i) s' o b I.sound e;
     rest = I.rest ∙ run-placed fixed w xs s i l s' o e;
   }
 
-  pub going-ends : i < length xs → step_of fixed w s (get_or xs i 0) ≡ None → run fixed w xs ≡ Err i
+  pub going-ends : i < length xs → step_of fixed w s (slice_index xs i) ≡ None → run fixed w xs ≡ Err i
   going-ends l e = I.rest ∙ run_ends fixed w xs s i l e

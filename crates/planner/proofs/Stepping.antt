@@ -1,14 +1,6 @@
 -- What a step of planning keeps and does: in the same block, or in a new one after it.
-use Rattle.std.specs.Prelude.{None, Option, Some}
-use Prim.Native.Nat.{ℕ, suc, ◌+◌, ◌-◌, ◌*◌, ◌^◌, ◌≤◌, ◌<◌, zero-le}
-use mathlib.Core.Path.{◌≡◌, refl, sym, ap, ◌∙◌, subst, subst₂}
-use mathlib.Core.Logic.{◌⊎◌, inl, inr}
-use mathlib.Core.Bool.{Bool, true, false}
-use mathlib.Core.List.{List}
-use native.Mathlib.Omega.{arith}
-use lib.Dec.{leb}
-use lib.Pow.{pow_pos}
-use borrow.Author.Tests.{le-leb, lt-leb, leb-true}
+use Rattle.std.proofs.Common.{◌≡◌, ℕ, suc, ◌+◌, ◌-◌, ◌*◌, ◌^◌, ◌<◌, ◌≤◌, Bool, true, false, ◌⊎◌, List, nat_le, Some, None, Option, sym, refl, ap, ◌∙◌, subst, subst₂, inl, inr, zero-le, arith, pow_pos, le-leb, leb-true}
+use Rattle.std.proofs.lemmas.Bool.{lt-leb}
 use Rattle.table.specs.Table.{Table, fixed}
 use Rattle.table.specs.Slots.{slot_at, slot_end, entered_bytes}
 use Rattle.table.specs.Sizes.{offset_bytes, direct_header, max_managed}
@@ -105,9 +97,9 @@ module _ (t : Table) (g : t.start_bits ≤ t.direct_bits) (k : t.start_bits ≤ 
     -- what a step that places an object does
     pub step-placed : (s' : State) (o : ℕ) → step_of t w s x ≡ Some (s', o) → Placing t w s x s' o
     unfolding step_of
-    step-placed s' o e = go (leb (s.fill + x) s.size) refl (open_at t (direct_header t w + x) (block_end s)) refl e
+    step-placed s' o e = go (nat_le (s.fill + x) s.size) refl (open_at t (direct_header t w + x) (block_end s)) refl e
       where
-        go : (u : Bool) → leb (s.fill + x) s.size ≡ u → (v : Option Slot) → open_at t (direct_header t w + x) (block_end s) ≡ v
+        go : (u : Bool) → nat_le (s.fill + x) s.size ≡ u → (v : Option Slot) → open_at t (direct_header t w + x) (block_end s) ≡ v
             → ◌≡◌ {A = Option (State × ℕ)} (elim u [ true ↦ Some (filled s x, s.start + s.fill) | false ↦ opened t w s x v ]) (Some (s', o)) → Placing t w s x s' o
         go true p v q e =
             let both = some-is (filled s x) s' (s.start + s.fill) o e in
