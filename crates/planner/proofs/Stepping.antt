@@ -1,6 +1,6 @@
 -- What a step of planning keeps and does: in the same block, or in a new one after it.
-use Rattle.std.proofs.Common.{◌≡◌, ℕ, suc, ◌+◌, ◌-◌, ◌*◌, ◌^◌, ◌<◌, ◌≤◌, Bool, true, false, ◌⊎◌, List, nat_le, Some, None, Option, sym, refl, ap, ◌∙◌, subst, subst₂, inl, inr, zero-le, arith, pow_pos, le-leb, leb-true}
-use Rattle.std.proofs.lemmas.Bool.{lt-leb}
+use Rattle.std.proofs.Common.{◌≡◌, ℕ, suc, ◌+◌, ◌-◌, ◌*◌, ◌^◌, ◌<◌, ◌≤◌, ◌⊎◌, inl, inr, List, Some, None, Option, sym, refl, ap, ◌∙◌, subst, zero-le, arith, pow_pos}
+use Rattle.std.proofs.lemmas.Bool.Decides.{nat_tests}
 use Rattle.table.specs.Table.{Table, fixed}
 use Rattle.table.specs.Slots.{slot_at, slot_end, entered_bytes}
 use Rattle.table.specs.Sizes.{offset_bytes, direct_header, max_managed}
@@ -50,74 +50,37 @@ pub record Placing (t : Table) (w : ℕ) (s : State) (x : ℕ) (s' : State) (o :
   pub is-used : s'.used ≡ s.used + x
   pub way : Same s s' o ⊎ New t w s s' o
 
--- what two steps that are the same placed
-pub some-is : (s s' : State) (o o' : ℕ) → ◌≡◌ {A = Option (State × ℕ)} (Some (s, o)) (Some (s', o')) → (s ≡ s') × (o ≡ o')
-some-is s s' o o' e =
-    let p : ◌≡◌ {A = State × ℕ} (s, o) (s', o') = cc in
-    (ap (λ (y : State × ℕ). y.0) p, ap (λ (y : State × ℕ). y.1) p)
-
 module _ (t : Table) (g : t.start_bits ≤ t.direct_bits) (k : t.start_bits ≤ t.heap_bits) where
   module _ (w : ℕ) (s : State) (x : ℕ) (I : Sane t w s) where
     placed_same : s.fill + x ≤ s.size → Placing t w s x (filled s x) (s.start + s.fill)
-    placed_same l =
-        let i1 = I.fits in let i2 = I.spent in
-        record {
-          ok = record { heap = I.heap; next-slot = I.next-slot; fits = omega arith; spent = omega arith; taken = I.taken; blocks = I.blocks };
-          from = omega arith;
-          to = omega arith;
-          within = l;
-          is-used = refl;
-          way = inl (record { count-is = refl; start_is = refl; size_is = refl; allocated-is = refl; indirect-is = refl; place = refl });
-        }
+    placed_same l = grind arith
 
-    placed-new : (b : Slot) → Found t g k (direct_header t w + x) (block_end s) b → Placing t w s x (in_new t w s x b) (b.start + direct_header t w)
-    placed-new b F =
-        let i1 = I.fits in let i2 = I.spent in let i3 = I.taken in let i4 = I.blocks in
-        let f1 = F.after in let f2 = F.inside in let f3 = F.enough in
-        let bs : b.size ≡ (slot_at t b.start).size = ap (λ (y : Slot). y.size) F.is in
-        let en : b.start + b.size ≡ slot_end (slot_at t b.start) = ap slot_end F.is in
-        let el : slot_end (slot_at t b.start) ≤ 2 ^ t.heap_bits = end-le t b.start g k f2 in
-        let sg = slot-least t g (record { starts = F.starts; inside = f2; size_is = bs }) in
-        record {
-          ok = record {
-            heap = omega arith;
-            next-slot = subst (Start t) (sym en) (start-next t g k b.start F.starts f2);
-            fits = omega arith;
-            spent = omega arith;
-            taken = omega arith;
-            blocks = omega arith;
-          };
-          from = omega arith;
-          to = omega arith;
-          within = f3;
-          is-used = refl;
-          way = inr (record { count-is = refl; place = refl; after = f1; inside = f2; size_is = bs; starts = F.starts; allocated-is = refl; indirect-is = refl });
-        }
+    placed-new : (b : Slot) → open_at t (direct_header t w + x) (block_end s) ≡ Some b
+        → Placing t w s x (in_new t w s x b) (b.start + direct_header t w)
+    placed-new b e =
+        let F : Found t g k (direct_header t w + x) (block_end s) b =
+          open-found t g k (direct_header t w + x) (block_end s) I.next-slot b e in
+        grind (arith, end-le t b.start g k F.inside, start-next t g k b.start F.starts F.inside,
+          slot-least t g {s = b.start} {z = b.size})
 
     -- what a step that places an object does
     pub step-placed : (s' : State) (o : ℕ) → step_of t w s x ≡ Some (s', o) → Placing t w s x s' o
     unfolding step_of
-    step-placed s' o e = go (nat_le (s.fill + x) s.size) refl (open_at t (direct_header t w + x) (block_end s)) refl e
+    step-placed s' o e = go (open_at t (direct_header t w + x) (block_end s)) refl
       where
-        go : (u : Bool) → nat_le (s.fill + x) s.size ≡ u → (v : Option Slot) → open_at t (direct_header t w + x) (block_end s) ≡ v
-            → ◌≡◌ {A = Option (State × ℕ)} (elim u [ true ↦ Some (filled s x, s.start + s.fill) | false ↦ opened t w s x v ]) (Some (s', o)) → Placing t w s x s' o
-        go true p v q e =
-            let both = some-is (filled s x) s' (s.start + s.fill) o e in
-            subst₂ (Placing t w s x) both.0 both.1 (placed_same (leb-true (s.fill + x) s.size p))
-        go false p (Some b) q e =
-            let both = some-is (in_new t w s x b) s' (b.start + direct_header t w) o e in
-            subst₂ (Placing t w s x) both.0 both.1
-            (placed-new b (open-found t g k (direct_header t w + x) (block_end s) I.next-slot b q))
-        go false p None q e = absurd cc
+        go : (v : Option Slot) → open_at t (direct_header t w + x) (block_end s) ≡ v → Placing t w s x s' o
+        go (Some b) q = grind (arith, nat_tests, placed_same, placed-new b q)
+        go None q = grind (arith, nat_tests, placed_same)
 
 module _ (t : Table) (w : ℕ) (s : State) (x : ℕ) where
   pub step_same : s.fill + x ≤ s.size → step_of t w s x ≡ Some (filled s x, s.start + s.fill)
   unfolding step_of
-  step_same l = rw (le-leb (s.fill + x) s.size l, step_of)
+  step_same l = grind (arith, nat_tests)
 
-  pub step-open : s.size < s.fill + x → step_of t w s x ≡ opened t w s x (open_at t (direct_header t w + x) (block_end s))
+  pub step-open : s.size < s.fill + x
+      → step_of t w s x ≡ opened t w s x (open_at t (direct_header t w + x) (block_end s))
   unfolding step_of
-  step-open l = rw (lt-leb (s.fill + x) s.size l, step_of)
+  step-open l = grind (arith, nat_tests)
 
 -- ---- the first state
 
