@@ -4,7 +4,7 @@ use Rattle.table.specs.Table.{fixed}
 use Rattle.table.specs.Slots.{entered_bytes}
 use Rattle.table.specs.Sizes.{direct_header}
 use Rattle.table.specs.declared.Slot.{Slot}
-use Rattle.planner.specs.Steps.{open_at, block_end, opened, step_of}
+use Rattle.planner.specs.Steps.{open_at, block_end, step_of}
 use Rattle.planner.specs.declared.State.{State}
 use Rattle.planner.proofs.Stepping.{step-open}
 

@@ -48,7 +48,7 @@ module _ (t : Table) (w : ℕ) where
       go : (b : Bool) → nat_le (s.fill + x) s.size ≡ b
           → Fill t w (filled s x) xs (fill_state (filled s x) xs) (fill_offsets (filled s x) xs)
           → Fill t w s (x ∷ xs) (elim b [ true ↦ fill_state (filled s x) xs | false ↦ s ])
-            (elim b [ true ↦ (s.start + s.fill) ∷ fill_offsets (filled s x) xs | false ↦ [] ])
+          (elim b [ true ↦ (s.start + s.fill) ∷ fill_offsets (filled s x) xs | false ↦ [] ])
       go true e ih = fill_more s x xs (fill_state (filled s x) xs) (fill_offsets (filled s x) xs) (leb-true (s.fill + x) s.size e) ih
       go false e ih = fill_none s (x ∷ xs) (λ u. leb-false (s.fill + x) s.size e)
 
@@ -56,8 +56,13 @@ sound-fill : (w : ℕ) → w ≤ 255 → (xs : List ℕ) (s : State) → Sound w
 unfolding fill_state
 sound-fill w l [] s S = S
 sound-fill w l (x ∷ xs) s S =
-    grind (arith, nat_tests, step_same fixed w s x, sound-fill w l xs (filled s x),
-      sound-step w s x (filled s x) (s.start + s.fill) l S)
+    grind (
+      arith,
+      nat_tests,
+      step_same fixed w s x,
+      sound-fill w l xs (filled s x),
+      sound-step w s x (filled s x) (s.start + s.fill) l S,
+    )
 
 -- the next object fits, or does not, or there is none
 module _ (xs : List ℕ) (s : State) (next : ℕ) where
@@ -113,8 +118,12 @@ module _ (w : ℕ) (xs : List ℕ) (s : State) (i : ℕ) (s' : State) (j : ℕ) 
 
   pub run-from-next : run_from fixed w s (drop i xs) i ≡ run_from fixed w s' (drop j xs) j
   run-from-next =
-      grind (arith, rest-is, run-then (drop (length (fill_offsets s (drop i xs))) (drop i xs)),
-        take-append-drop (length (fill_offsets s (drop i xs))) (drop i xs))
+      grind (
+        arith,
+        rest-is,
+        run-then (drop (length (fill_offsets s (drop i xs))) (drop i xs)),
+        take-append-drop (length (fill_offsets s (drop i xs))) (drop i xs),
+      )
 
   pub offsets-from-next : offsets_from fixed w s (drop i xs) ≡ fill_offsets s (drop i xs) ++ offsets_from fixed w s' (drop j xs)
   offsets-from-next = grind (arith, rest-is, (fill fixed w (drop i xs) s).same-offsets)
@@ -127,8 +136,12 @@ module _ (w : ℕ) (xs : List ℕ) (s : State) (i : ℕ) (s' : State) (j : ℕ) 
 
   pub next-full : j < length xs → s'.size < s'.fill + slice_index xs j
   next-full l =
-      grind (arith, length-drop i xs, (fill fixed w (drop i xs) s).stops,
-        get_or-drop i xs (length (fill_offsets s (drop i xs))) 0)
+      grind (
+        arith,
+        length-drop i xs,
+        (fill fixed w (drop i xs) s).stops,
+        get_or-drop i xs (length (fill_offsets s (drop i xs))) 0,
+      )
 
   pub going-fill : w ≤ 255 → Going w xs s i → Going w xs s' j
   going-fill l I = grind (arith, next-inside, run-from-next, sound-fill w l (drop i xs) s I.sound)

@@ -1,10 +1,10 @@
 -- The search for a slot that is large enough, a slot at a time: what it finds, and when it finds nothing.
-use Rattle.std.proofs.Common.{◌≡◌, ℕ, zero, suc, ◌+◌, ◌-◌, ◌^◌, ◌<◌, ◌≤◌, Some, None, Option, refl, arith}
+use Rattle.std.proofs.Common.{◌≡◌, ℕ, zero, suc, ◌+◌, ◌-◌, ◌^◌, ◌<◌, ◌≤◌, Some, None, refl, arith}
 use Rattle.std.proofs.lemmas.Bool.Decides.{nat_tests}
 use Rattle.table.specs.Table.{Table}
 use Rattle.table.specs.Slots.{slot_at, slot_end}
 use Rattle.table.specs.declared.Slot.{Slot}
-use Rattle.table.proofs.Slots.{Start, slot-some, end-gt, end-le, apart, start-here, start-next}
+use Rattle.table.proofs.Slots.{Start, end-gt, apart, start-here, start-next}
 use Rattle.planner.specs.Steps.{open_in, open_at}
 
 module _ (t : Table) where
@@ -29,8 +29,13 @@ module _ (t : Table) where
       → open_at t n c ≡ open_at t n (slot_end (slot_at t c))
   unfolding open_at open_in
   open-pass n c h l =
-      grind (arith, nat_tests, end-gt t c, open-one (2 ^ t.heap_bits) n c,
-        open-fuel (2 ^ t.heap_bits) (2 ^ t.heap_bits - slot_end (slot_at t c)) n (slot_end (slot_at t c)))
+      grind (
+        arith,
+        nat_tests,
+        end-gt t c,
+        open-one (2 ^ t.heap_bits) n c,
+        open-fuel (2 ^ t.heap_bits) (2 ^ t.heap_bits - slot_end (slot_at t c)) n (slot_end (slot_at t c)),
+      )
 
   pub open_full : (n c : ℕ) → 2 ^ t.heap_bits ≤ c → open_at t n c ≡ None
   unfolding open_in
@@ -45,23 +50,18 @@ module _ (t : Table) (g : t.start_bits ≤ t.direct_bits) (k : t.start_bits ≤ 
     pub inside : b.start < 2 ^ t.heap_bits
     pub enough : n ≤ b.size
 
-  -- a slot that opens lies in the heap
-  open-in-ends : (f n c : ℕ) (b : Slot) → open_in t f n c ≡ Some b → (0 < b.size) × (slot_end b ≤ 2 ^ t.heap_bits)
-  unfolding open_in
-  open-in-ends zero n c b e = absurd cc
-  open-in-ends (suc f) n c b e =
-      grind (arith, nat_tests, slot-some t c, end-le t c g k, open-in-ends f n (slot_end (slot_at t c)) b)
-
-  pub open-ends : (n c : ℕ) (b : Slot) → open_at t n c ≡ Some b → (0 < b.size) × (slot_end b ≤ 2 ^ t.heap_bits)
-  unfolding open_at
-  open-ends n c b e = open-in-ends (2 ^ t.heap_bits - c) n c b e
-
   open-in-found : (f n c : ℕ) (b : Slot) → Start t c → open_in t f n c ≡ Some b → Found n c b
   unfolding open_in
   open-in-found zero n c b s e = absurd cc
   open-in-found (suc f) n c b s e =
-      grind (arith, nat_tests, start-here t g k c s, end-gt t c, start-next t g k c s,
-        open-in-found f n (slot_end (slot_at t c)) b)
+      grind (
+        arith,
+        nat_tests,
+        start-here t g k c s,
+        end-gt t c,
+        start-next t g k c s,
+        open-in-found f n (slot_end (slot_at t c)) b,
+      )
 
   pub open-found : (n c : ℕ) → Start t c → (b : Slot) → open_at t n c ≡ Some b → Found n c b
   unfolding open_at

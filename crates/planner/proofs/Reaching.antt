@@ -1,5 +1,5 @@
 -- The states after the objects of some list: one object more reaches the next state, and each of them is within bounds.
-use Rattle.std.proofs.Common.{◌≡◌, ℕ, suc, ◌+◌, ◌≤◌, List, [], ◌∷◌, ◌++◌, Some, None, Ok, Option, refl, sym, subst, inl, inr, arith}
+use Rattle.std.proofs.Common.{◌≡◌, ℕ, suc, ◌+◌, ◌≤◌, List, [], ◌∷◌, ◌++◌, Some, Ok, refl, sym, subst, inl, inr, arith}
 use Rattle.std.proofs.Math.Logic.{∥∥₁_elim, ∥∥₁_map}
 use Rattle.std.proofs.Props.{props}
 use Rattle.std.proofs.lemmas.Bool.{cases_lt}
@@ -24,8 +24,11 @@ run-sound : (w : ℕ) → w ≤ 255 → (xs : List ℕ) (s : State) (i : ℕ) (s
 unfolding run_from
 run-sound w l [] s i s' S e = grind arith
 run-sound w l (x ∷ xs) s i s' S e =
-    grind (arith, λ (p : State × ℕ) (q : step_of fixed w s x ≡ Some p).
-      run-sound w l xs p.0 (suc i) s' (sound-step w s x p.0 p.1 l S q))
+    grind (
+      arith,
+      λ (p : State × ℕ) (q : step_of fixed w s x ≡ Some p).
+          run-sound w l xs p.0 (suc i) s' (sound-step w s x p.0 p.1 l S q),
+    )
 
 -- before the first object
 pub reached-initial : (w : ℕ) → IsReached w (initial fixed w)

@@ -1,11 +1,11 @@
 -- The loops over the sizes, a turn at a time: what is left gives the answer.
-use Rattle.std.proofs.Common.{◌≡◌, ℕ, suc, ◌+◌, ◌*◌, ◌^◌, ◌<◌, ◌≤◌, ◌⊎◌, List, [], ◌∷◌, length, drop, slice_index, Some, None, Ok, Err, refl, arith}
+use Rattle.std.proofs.Common.{◌≡◌, ℕ, suc, ◌+◌, ◌*◌, ◌^◌, ◌<◌, ◌≤◌, List, [], ◌∷◌, length, drop, slice_index, Some, None, Ok, Err, refl, arith}
 use Rattle.std.proofs.lemmas.Bool.Decides.{nat_tests}
 use Rattle.std.proofs.lemmas.List.{drop_more, drop_all}
 use Rattle.table.specs.Table.{Table, fixed}
 use Rattle.table.specs.Sizes.{offset_bytes, direct_header}
 use Rattle.table.proofs.Locating.{entered-small}
-use Rattle.planner.specs.Steps.{block_end, initial, start_if_new, step_of, run_from, offsets_from, starts_from, run}
+use Rattle.planner.specs.Steps.{block_end, initial, step_of, run_from, offsets_from, starts_from, run}
 use Rattle.planner.specs.Requires.{Bounded}
 use Rattle.planner.specs.declared.State.{State}
 use Rattle.planner.proofs.Stepping.{Sane, Placing, step-placed, ok-initial}

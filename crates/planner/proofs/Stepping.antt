@@ -1,16 +1,16 @@
 -- What a step of planning keeps and does: in the same block, or in a new one after it.
-use Rattle.std.proofs.Common.{◌≡◌, ℕ, suc, ◌+◌, ◌-◌, ◌*◌, ◌^◌, ◌<◌, ◌≤◌, ◌⊎◌, inl, inr, List, Some, None, Option, sym, refl, ap, ◌∙◌, subst, zero-le, arith, pow_pos}
+use Rattle.std.proofs.Common.{◌≡◌, ℕ, suc, ◌+◌, ◌-◌, ◌*◌, ◌^◌, ◌<◌, ◌≤◌, ◌⊎◌, List, Some, None, Option, refl, subst, arith, pow_pos}
 use Rattle.std.proofs.lemmas.Bool.Decides.{nat_tests}
 use Rattle.table.specs.Table.{Table, fixed}
-use Rattle.table.specs.Slots.{slot_at, slot_end, entered_bytes}
+use Rattle.table.specs.Slots.{slot_at, entered_bytes}
 use Rattle.table.specs.Sizes.{offset_bytes, direct_header, max_managed}
 use Rattle.table.specs.declared.Slot.{Slot}
 use Rattle.table.proofs.Slots.{Start, top_start, end-le, start-next}
 use Rattle.table_laws.proofs.Format.{slot-least}
 use Rattle.planner.specs.Steps.{open_at, block_end, initial, filled, in_new, opened, step_of}
-use Rattle.planner.specs.Requires.{InHeap, Small}
+use Rattle.planner.specs.Requires.{Small}
 use Rattle.planner.specs.declared.State.{State}
-use Rattle.planner.proofs.Opening.{Found, open-found, open-ends}
+use Rattle.planner.proofs.Opening.{Found, open-found}
 
 -- a state that planning can reach; before the first block `fill` is past the block of no bytes
 pub record Sane (t : Table) (w : ℕ) (s : State) : Type 0 where
@@ -59,9 +59,13 @@ module _ (t : Table) (g : t.start_bits ≤ t.direct_bits) (k : t.start_bits ≤ 
         → Placing t w s x (in_new t w s x b) (b.start + direct_header t w)
     placed-new b e =
         let F : Found t g k (direct_header t w + x) (block_end s) b =
-          open-found t g k (direct_header t w + x) (block_end s) I.next-slot b e in
-        grind (arith, end-le t b.start g k F.inside, start-next t g k b.start F.starts F.inside,
-          slot-least t g {s = b.start} {z = b.size})
+        open-found t g k (direct_header t w + x) (block_end s) I.next-slot b e in
+        grind (
+          arith,
+          end-le t b.start g k F.inside,
+          start-next t g k b.start F.starts F.inside,
+          slot-least t g {s = b.start} {z = b.size},
+        )
 
     -- what a step that places an object does
     pub step-placed : (s' : State) (o : ℕ) → step_of t w s x ≡ Some (s', o) → Placing t w s x s' o
@@ -88,17 +92,11 @@ module _ (t : Table) (w : ℕ) (s : State) (x : ℕ) where
 pub start-zero : (t : Table) → t.start_bits ≤ t.direct_bits → Start t 0
 start-zero t g =
     subst (Start t) (let z : 0 * 2 ^ t.start_bits ≡ 0 = omega arith in z)
-    (top_start t g 0 t.start_bits (record { lo = omega arith; up = pow_pos (suc t.width_bits); hi = λ z. absurd (omega arith) }))
+    (top_start t g 0 t.start_bits
+    (record { lo = omega arith; up = pow_pos (suc t.width_bits); hi = λ z. absurd (omega arith) }))
 
 pub ok-initial : (t : Table) (w : ℕ) → t.start_bits ≤ t.direct_bits → Sane t w (initial t w)
-ok-initial t w g = record {
-  heap = zero-le;
-  next-slot = start-zero t g;
-  fits = omega arith;
-  spent = omega arith;
-  taken = zero-le;
-  blocks = omega arith;
-}
+ok-initial t w g = grind (arith, start-zero t g)
 
 -- ---- the same of the code's numbers
 
@@ -106,10 +104,7 @@ pub size_fits : (w x : ℕ) → w ≤ 255 → x ≤ max_managed fixed w → dire
 unfolding max_managed direct_header offset_bytes
 size_fits w x l h = omega arith
 
-pub in_heap : (n c : ℕ) (v : Option Slot) (b : Slot) → v ≡ open_at fixed n c → v ≡ Some b → InHeap b
-in_heap n c v b e f = let z = open-ends fixed (omega arith) (omega arith) n c b (sym e ∙ f) in record { some = z.0; ends = z.1 }
-
 -- sizes within the limit are below 65,536
 pub limit-small : (w : ℕ) (xs : List ℕ) → Small (max_managed fixed w) xs → Small 65536 xs
 unfolding max_managed
-limit-small w xs S = record { small = λ k l. (let z = S.small k l in omega arith) }
+limit-small w xs S = grind arith
