@@ -17,9 +17,10 @@ use Rattle.plan.proofs.Laying.{Spaced, none, more, spaced, Held, held, starts-so
 spaced-from : {lo hi : ℕ} {os xs : List ℕ} → Spaced lo os xs hi → (j : ℕ) → j < length xs → lo ≤ slice_index os j
 spaced-from (none l) j u = absurd (omega arith)
 spaced-from (more l s) zero u = l
-spaced-from (more l s) (suc j) u = let z = spaced-from s j (omega arith) in omega arith
+spaced-from (more l s) (suc j) u = grind (arith, spaced-from s j)
 
-spaced-apart : {lo hi : ℕ} {os xs : List ℕ} → Spaced lo os xs hi → (i j : ℕ) → i < j → j < length xs → slice_index os i + slice_index xs i ≤ slice_index os j
+spaced-apart : {lo hi : ℕ} {os xs : List ℕ} → Spaced lo os xs hi → (i j : ℕ) → i < j → j < length xs
+    → slice_index os i + slice_index xs i ≤ slice_index os j
 spaced-apart (none l) i j u v = absurd (omega arith)
 spaced-apart (more l s) i zero u v = absurd (omega arith)
 spaced-apart (more l s) zero (suc j) u v = spaced-from s j (omega arith)
@@ -27,36 +28,30 @@ spaced-apart (more l s) (suc i) (suc j) u v = spaced-apart s i j (omega arith) (
 
 module _ (xs : List ℕ) (o b w : ℕ) (p : ManagedPlan) (e : planned_for xs o b w ≡ Ok p) where
   -- a heap offset is a byte of one object at most
-  pub no-shared-byte : (i j x : ℕ) → InObject (plan_offsets fixed w xs) xs i x → InObject (plan_offsets fixed w xs) xs j x → i ≡ j
+  pub no-shared-byte : (i j x : ℕ) → InObject (plan_offsets fixed w xs) xs i x → InObject (plan_offsets fixed w xs) xs j x
+      → i ≡ j
   no-shared-byte i j x A B =
-      let G = (accepted xs o b w p e).1 in
-      let s = spaced (ran-ok w) (ran-laid w xs G.state G.ran) in
-      let a1 = A.from in
-      let a2 = A.to in
-      let b1 = B.from in
-      let b2 = B.to in
-      let n1 : ¬ (i < j) = λ u. (let z = spaced-apart s i j u B.object in omega arith) in
-      let n2 : ¬ (j < i) = λ u. (let z = spaced-apart s j i u A.object in omega arith) in
-      omega arith
+      let went = (accepted xs o b w p e).1 in
+      let s = spaced (ran-ok w) (ran-laid w xs went.state went.ran) in
+      grind (arith, spaced-apart s i j, spaced-apart s j i)
 
   -- each object lies in the body of one placed block
   pub in-one-body : (i : ℕ) → i < length xs → InPlacedBlock w xs i
   in-one-body i l =
-      let G = (accepted xs o b w p e).1 in
-      let H = subst (λ (bs : List ℕ). Held fixed w bs (slice_index (plan_offsets fixed w xs) i) (slice_index xs i)) (sym (starts-some w xs (omega arith))) (held (ran-laid w xs G.state G.ran) i l) in
+      let went = (accepted xs o b w p e).1 in
+      let H = rw (sym (starts-some w xs (omega arith))) at (held (ran-laid w xs went.state went.ran) i l) in
       record { n = H.n; placed = H.placed; size = H.size; slot = slot-fixed H.slot; from = H.from; to = H.to }
 
   -- no object has a byte in a block header, be the block placed or not
-  pub no-header-touched : (i x : ℕ) → InObject (plan_offsets fixed w xs) xs i x → (s z : ℕ) → Direct fixed 29 s z → s ≤ x → x < s + direct_header fixed w → ⊥
+  pub no-header-touched : (i x : ℕ) → InObject (plan_offsets fixed w xs) xs i x
+      → (s z : ℕ) → Direct fixed 29 s z → s ≤ x → x < s + direct_header fixed w → ⊥
   no-header-touched i x A s z D lo hi =
-      let S = fixed-slot D in
       let B = in-one-body i A.object in
-      let h = header_is w in
-      let w8 = legal-small w (accepted xs o b w p e).0.width in
-      let m = slot-least fixed (omega arith) S in
-      let a1 = A.from in
-      let a2 = A.to in
-      let b1 = B.from in
-      let b2 = B.to in
-      let c = slots-meet fixed (omega arith) x (omega arith) S (fixed-slot B.slot) lo (omega arith) (omega arith) (omega arith) in
-      omega arith
+      let S = fixed-slot D in
+      grind (
+        arith,
+        header_is w,
+        legal-small w (accepted xs o b w p e).0.width,
+        slot-least fixed (omega arith) S,
+        slots-meet fixed (omega arith) x (omega arith) S (fixed-slot B.slot),
+      )
