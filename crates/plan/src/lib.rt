@@ -80,7 +80,7 @@ fn totals(s: State, offset_size: u8) -> ManagedPlan
 }
 
 /// The plan for lists of `offsets` and `blocks` places, or 13, 11 or 12, in this order; nothing is written.
-#[tactic(auto, unfolding(crate::specs::Answer::planned_for))]
+#[tactic(auto, unfolding(crate::specs::Answer::planned_for, planner::specs::Steps::run))]
 pub fn planned_for(
     sizes: &[u64],
     offsets: usize,
