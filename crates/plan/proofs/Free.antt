@@ -134,9 +134,9 @@ module _ (t : Table) (g : t.start_bits ≤ t.direct_bits) (k : t.start_bits ≤ 
   free-count : (q : ℕ → Bool) → ((x : ℕ) → (q x ≡ true) ↔ FreeByte t (direct_header t w) n os xs x) → count q m + s.used ≡ c
   free-count q f =
       let same : (x : ℕ) → x < m → q x ≡ is_free x = λ x u.
-        let there = λ (e : q x ≡ true). (free_in x ((f x).0 e)).1 in
-        let back = λ (e : is_free x ≡ true). (f x).1 (free-out x u e) in
-        grind arith in
+      let there = λ (e : q x ≡ true). (free_in x ((f x).0 e)).1 in
+      let back = λ (e : is_free x ≡ true). (f x).1 (free-out x u e) in
+      grind arith in
       let a = count-ext q is_free m same in
       let b = count_less (in_body t (direct_header t w)) (in_objects os xs) m (λ x u. objects-in-bodies x) in
       let d = objects-count (spaced I L) m l in
@@ -170,7 +170,7 @@ free-is-count xs o b w p e = ⊎_elim bare rowed (shape w xs p w8 went)
         → p.free_space ≡ c - went.state.used → filled_to went.state ≤ p.managed_space → FreeCounted w xs p
     counted c S f l =
         let every : (q : ℕ → Bool) → ((x : ℕ) → (q x ≡ true) ↔ Free w xs p x) → count q p.managed_space ≡ p.free_space =
-          λ q r. omega (arith, free-count fixed (omega arith) (omega arith) w (ran-ok w) L S l q r) in
+        λ q r. omega (arith, free-count fixed (omega arith) (omega arith) w (ran-ok w) L S l q r) in
         let test = free_test fixed (omega arith) (omega arith) w (ran-ok w) L S l in
         let passes = free-test fixed (omega arith) (omega arith) w (ran-ok w) L S l in
         record {

@@ -67,9 +67,9 @@ pub front-part : (xs : List ℕ) (o b w : ℕ) (p : ManagedPlan) → planned_for
 front-part xs o b w p e k o' b' lo lb =
     let A = accepted xs o b w p e in
     let F : Fronted fixed w (initial fixed w) xs k 0 =
-      front fixed w xs k (initial fixed w) 0 A.1.state (unfold run in A.1.ran) in
+    front fixed w xs k (initial fixed w) 0 A.1.state (unfold run in A.1.ran) in
     let passed = passed (take k xs) o' b' w
-      (record { width = A.0.width; offsets = lo; blocks = lb; sizes = sizes-front _ 0 xs k A.0.sizes }) in
+    (record { width = A.0.width; offsets = lo; blocks = lb; sizes = sizes-front _ 0 xs k A.0.sizes }) in
     record {
       plan = totals fixed w (end_state fixed w F.state);
       accepted = answers (take k xs) o' b' w (Ok F.state) passed (unfold run in F.is);

@@ -37,13 +37,16 @@ module _ (t : Table) (w : ℕ) where
           → ((s₁ : State) → run_from t w s₁ xs (suc i) ≡ Err j → (n : ℕ) × (j ≡ suc i + n) × Stopped t w s₁ xs (suc i) n)
           → (n : ℕ) × (j ≡ i + n) × Stopped t w s (x ∷ xs) i n
       go (Some (s₁, o)) q ih =
-          let (n, j-is, S) = ih s₁ (sym (run-goes t w s x xs s₁ o q i) ∙ e) in
-          (suc n, omega arith, record {
-            object = omega (arith, S.object);
-            state = S.state;
-            before = run-goes t w s x (take n xs) s₁ o q i ∙ S.before;
-            ends = S.ends;
-          })
+          let (n, j-is, S) = ih s₁ (sym (run-goes t w s x xs s₁ o q i) ∙ e) in (
+            suc n,
+            omega arith,
+            record {
+              object = omega (arith, S.object);
+              state = S.state;
+              before = run-goes t w s x (take n xs) s₁ o q i ∙ S.before;
+              ends = S.ends;
+            },
+          )
       go None q ih =
           (0, grind (arith, run-stops t w s x xs i q), record { object = omega arith; state = s; before = refl; ends = q })
 
@@ -53,8 +56,11 @@ module _ (t : Table) (w : ℕ) where
   stops [] s i n S = absurd (omega (arith, S.object))
   stops (x ∷ xs) s i zero S = grind (arith, S)
   stops (x ∷ xs) s i (suc n) S =
-      grind (arith, λ (p : State × ℕ) (q : step_of t w s x ≡ Some p). λ (b : run_from t w p.0 (take n xs) (suc i) ≡ Ok S.state).
-        stops xs p.0 (suc i) n (record { object = omega (arith, S.object); state = S.state; before = b; ends = S.ends }))
+      grind (
+        arith,
+        λ (p : State × ℕ) (q : step_of t w s x ≡ Some p). λ (b : run_from t w p.0 (take n xs) (suc i) ≡ Ok S.state).
+            stops xs p.0 (suc i) n (record { object = omega (arith, S.object); state = S.state; before = b; ends = S.ends }),
+      )
 
 -- ---- one step
 
@@ -73,7 +79,7 @@ module _ (t : Table) (g : t.start_bits ≤ t.direct_bits) (k : t.start_bits ≤ 
       record {
         not-here = grind (arith, nat_tests);
         nowhere = λ c z S l.
-          grind (arith, full-none t g k (direct_header t w + x) (block_end s) I.next-slot none c S.starts l S.inside);
+            grind (arith, full-none t g k (direct_header t w + x) (block_end s) I.next-slot none c S.starts l S.inside);
       }
 
   ends-step : Nowhere → step_of t w s x ≡ None
@@ -82,8 +88,12 @@ module _ (t : Table) (g : t.start_bits ≤ t.direct_bits) (k : t.start_bits ≤ 
       go : (v : Option Slot) → open_at t (direct_header t w + x) (block_end s) ≡ v → v ≡ None
       go (Some b) q =
           let F = open-found t g k (direct_header t w + x) (block_end s) I.next-slot b q in
-          absurd (grind (arith, N.nowhere b.start b.size
-            (record { starts = F.starts; inside = F.inside; size_is = ap (λ (y : Slot). y.size) F.is }) F.after, F.enough))
+          absurd (grind (
+            arith,
+            N.nowhere b.start b.size
+                (record { starts = F.starts; inside = F.inside; size_is = ap (λ (y : Slot). y.size) F.is }) F.after,
+            F.enough,
+          ))
       go None q = refl
 
 -- ---- the fixed table
@@ -107,14 +117,16 @@ ends-iff-none-fits xs o b w i = (only, always)
         let S = subst (Stopped fixed w (initial fixed w) xs 0) (sym (R.1 ∙ zero-add R.0)) R.2 in
         let before : run fixed w (take i xs) ≡ Ok S.state = run_is w (take i xs) ∙ S.before in
         let sane = ok-after w (take i xs) S.state before in
-        let N = step-ends fixed (omega arith) (omega arith) w S.state (slice_index xs i) sane S.ends in
-        (E.0, record {
-          object = S.object;
-          state = S.state;
-          before = before;
-          not-here = N.not-here;
-          nowhere = λ c z D l. N.nowhere c z (fixed-slot D) l;
-        })
+        let N = step-ends fixed (omega arith) (omega arith) w S.state (slice_index xs i) sane S.ends in (
+          E.0,
+          record {
+            object = S.object;
+            state = S.state;
+            before = before;
+            not-here = N.not-here;
+            nowhere = λ c z D l. N.nowhere c z (fixed-slot D) l;
+          },
+        )
 
     always : (input_checked xs o b w ≡ Ok tt) × NoSlotFits w xs i → planned_for xs o b w ≡ Err (HeapSpaceExhausted i)
     always (c, N) =
@@ -124,6 +136,6 @@ ends-iff-none-fits xs o b w i = (only, always)
           state = N.state;
           before = sym (run_is w (take i xs)) ∙ N.before;
           ends = ends-step fixed (omega arith) (omega arith) w N.state (slice_index xs i) sane
-            (record { not-here = N.not-here; nowhere = λ c z S l. N.nowhere c z (slot-fixed S) l });
+              (record { not-here = N.not-here; nowhere = λ c z S l. N.nowhere c z (slot-fixed S) l });
         } in
         answers xs o b w (Err i) c (run_is w xs ∙ stops fixed w xs (initial fixed w) 0 i S ∙ ap Err (zero-add i))

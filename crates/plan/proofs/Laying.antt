@@ -27,7 +27,7 @@ module _ (t : Table) (g : t.start_bits ≤ t.direct_bits) (k : t.start_bits ≤ 
     where
       go : (v : Option (State × ℕ)) → step_of t w s x ≡ v
           → ((s₁ : State) → Sane t w s₁ → run_from t w s₁ xs (suc i) ≡ Ok s'
-            → Laid t w s₁ xs (offsets_from t w s₁ xs) (starts_from t w s₁ xs) s')
+          → Laid t w s₁ xs (offsets_from t w s₁ xs) (starts_from t w s₁ xs) s')
           → Laid t w s (x ∷ xs) (offsets_from t w s (x ∷ xs)) (starts_from t w s (x ∷ xs)) s'
       go (Some (s₁, o)) q ih =
           let P = step-placed t g k w s x I s₁ o q in

@@ -34,16 +34,16 @@ below-mono w m n l =
 -- a slot's body lies past its header
 below-slot : (w b : ℕ) → Start fixed b → b < 2 ^ 40 → direct_header fixed w ≤ (slot_at fixed b).size
     → bodies_below w b + ((slot_at fixed b).size - direct_header fixed w)
-      ≤ bodies_below w (b + (slot_at fixed b).size)
+    ≤ bodies_below w (b + (slot_at fixed b).size)
 below-slot w b s l f =
     let h = direct_header fixed w in
     let p : ℕ → Bool = in_body fixed h in
     let z = (slot_at fixed b).size in
     let e : b + z ≡ b + h + (z - h) = omega arith in
     let all : count (λ x. p (b + h + x)) (z - h) ≡ z - h =
-      count-all (λ x. p (b + h + x)) (z - h)
-        (λ y u. slot-body fixed (omega arith) h (b + h + y) (omega arith)
-          (record { starts = s; inside = l; size_is = refl }) (omega arith) (omega arith)) in
+    count-all (λ x. p (b + h + x)) (z - h)
+    (λ y u. slot-body fixed (omega arith) h (b + h + y) (omega arith)
+    (record { starts = s; inside = l; size_is = refl }) (omega arith) (omega arith)) in
     let a = ap (count p) e ∙ count_add p (b + h) (z - h) in
     omega (arith, below-mono w b (b + h))
 
@@ -74,8 +74,11 @@ module _ (w : ℕ) (l : w ≤ 255) where
   unfolding run_from
   roomy-from [] s i s' R e = subst (Roomy w) (let z : s ≡ s' = cc in z) R
   roomy-from (x ∷ xs) s i s' R e =
-      grind (arith, λ (p : State × ℕ) (q : step_of fixed w s x ≡ Some p).
-        roomy-from xs p.0 (suc i) s' (roomy-step s x p.0 p.1 R q))
+      grind (
+        arith,
+        λ (p : State × ℕ) (q : step_of fixed w s x ≡ Some p).
+            roomy-from xs p.0 (suc i) s' (roomy-step s x p.0 p.1 R q),
+      )
 
   roomy : (xs : List ℕ) (s : State) → run fixed w xs ≡ Ok s → Roomy w s
   unfolding run
@@ -127,7 +130,7 @@ module _ (w : ℕ) (l : w ≤ 255) (s : State) where
         more = λ e.
             let T = reach (block_end s) p I.heap e in
             let f : row_offset fixed (rows_of_root fixed (block_end s)) ≤ 2 ^ 40 =
-              unfold row_offset in row-mono fixed (rows_of_root fixed (block_end s)) 29 T.most in
+            unfold row_offset in row-mono fixed (rows_of_root fixed (block_end s)) 29 T.most in
             omega (
               arith,
               R.room,

@@ -51,8 +51,8 @@ counted w (x ∷ xs) s e =
 -- the totals of a root of some rows, and of none
 totals-count : (w : ℕ) (s : State)
     → (((totals fixed w s).root_rows ≡ 0) × ((totals fixed w s).block_count ≡ 1)
-        × ((totals fixed w s).allocated_space ≡ 1024))
-      ⊎ (((totals fixed w s).block_count ≡ s.count) × ((totals fixed w s).allocated_space ≡ s.allocated))
+    × ((totals fixed w s).allocated_space ≡ 1024))
+    ⊎ (((totals fixed w s).block_count ≡ s.count) × ((totals fixed w s).allocated_space ≡ s.allocated))
 unfolding totals
 totals-count w s = grind (arith, nat_tests)
 
