@@ -1,5 +1,5 @@
 -- The planner's answer, case by case: the tests before planning, and the run after them.
-use Rattle.std.proofs.Common.{◌≡◌, ℕ, List, Ok, Err, Result, sym, refl, ◌∙◌}
+use Rattle.std.proofs.Common.{arith, ◌≡◌, ℕ, List, Ok, Err, Result, sym, refl, ◌∙◌}
 use Rattle.refusals.specs.Steps.{◌>>=◌}
 use Rattle.refusals.specs.declared.FormatError.{FormatError}
 use Rattle.refusals.specs.declared.FormatError.TheVariants.{HeapSpaceExhausted}
