@@ -1,11 +1,9 @@
 -- The planner's answer, case by case: the tests before planning, and the run after them.
-use Rattle.std.proofs.Common.{arith, ◌≡◌, ℕ, List, Ok, Err, Result, sym, refl, ◌∙◌}
-use Rattle.refusals.specs.Steps.{◌>>=◌}
-use Rattle.refusals.specs.declared.FormatError.{FormatError}
+use Rattle.std.proofs.Common.{arith, ◌≡◌, ℕ, List, Ok, Err, Result, refl}
 use Rattle.refusals.specs.declared.FormatError.TheVariants.{HeapSpaceExhausted}
 use Rattle.table.specs.Table.{fixed}
 use Rattle.planner.specs.declared.State.{State}
-use Rattle.planner.specs.Steps.{initial, run_from, run}
+use Rattle.planner.specs.Steps.{run}
 use Rattle.plan.specs.Checks.{input_checked}
 use Rattle.plan.proofs.Checking.{Passing, passing, tests-other}
 use Rattle.plan.specs.declared.ManagedPlan.{ManagedPlan}

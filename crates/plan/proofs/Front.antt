@@ -1,6 +1,5 @@
 -- A front part of an accepted list is accepted, with the same offsets and, as far as they go, the same blocks.
-use Rattle.std.proofs.Common.{◌≡◌, ℕ, zero, suc, ◌<◌, ◌≤◌, max, List, [], ◌∷◌, ◌++◌, length, take, Some, None, Ok, Option, sym, refl, ap, ◌∙◌, arith, length-take}
-use Rattle.std.proofs.Math.Decide.{dec_le}
+use Rattle.std.proofs.Common.{◌≡◌, ℕ, zero, suc, ◌<◌, ◌≤◌, max, List, [], ◌∷◌, ◌++◌, length, take, Some, None, Ok, Option, sym, refl, ◌∙◌, arith, length-take}
 use Rattle.std.proofs.lemmas.Bool.Decides.{nat_tests}
 use Rattle.table.specs.Table.{Table, fixed}
 use Rattle.planner.specs.declared.State.{State}
@@ -9,7 +8,7 @@ use Rattle.planner.specs.Steps.{initial, step_of, run_from, offsets_from, starts
 use Rattle.plan.specs.End.{end_state}
 use Rattle.plan.specs.Answer.{totals, planned_for}
 use Rattle.plan.specs.Checks.{sizes_checked}
-use Rattle.planner.proofs.Running.{run-stops, run-goes, offsets-go, starts-go-same, starts-go-new}
+use Rattle.planner.proofs.Running.{run-stops, run-goes, offsets-go}
 use Rattle.plan.specs.Plans.{FrontPart}
 use Rattle.plan.proofs.Checking.{passed}
 use Rattle.plan.proofs.Answering.{accepted, answers}

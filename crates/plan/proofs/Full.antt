@@ -1,12 +1,12 @@
 -- The heap space ends at an object exactly where no slot that is left fits it.
-use Rattle.std.proofs.Common.{◌≡◌, ℕ, zero, suc, ◌+◌, ◌<◌, ◌≤◌, Bool, true, false, ◌↔◌, List, [], ◌∷◌, length, take, nat_le, slice_index, Some, None, Ok, Err, Option, sym, refl, ap, ◌∙◌, subst, zero-add, arith, leb-false}
+use Rattle.std.proofs.Common.{◌≡◌, ℕ, zero, suc, ◌+◌, ◌<◌, ◌≤◌, ◌↔◌, List, [], ◌∷◌, length, take, slice_index, Some, None, Ok, Err, Option, sym, refl, ap, ◌∙◌, subst, zero-add, arith}
 use Rattle.std.proofs.lemmas.Bool.Decides.{nat_tests}
 use Rattle.refusals.specs.declared.FormatError.TheVariants.{HeapSpaceExhausted}
 use Rattle.table.specs.Table.{Table, fixed}
 use Rattle.table.specs.Sizes.{direct_header}
 use Rattle.table.specs.declared.Slot.{Slot}
 use Rattle.planner.specs.declared.State.{State}
-use Rattle.planner.specs.Steps.{open_at, initial, block_end, filled, opened, step_of, run_from, run}
+use Rattle.planner.specs.Steps.{open_at, initial, block_end, opened, step_of, run_from, run}
 use Rattle.plan.specs.Checks.{input_checked}
 use Rattle.plan.specs.Answer.{planned_for}
 use Rattle.planner.proofs.Opening.{open-found, full-none}

@@ -1,5 +1,5 @@
 -- Planning that goes through, object by object: where each goes, and what follows for all of them.
-use Rattle.std.proofs.Common.{◌≡◌, ℕ, zero, suc, ◌+◌, ◌<◌, ◌≤◌, ◌⊎◌, List, [], ◌∷◌, length, slice_index, Some, None, Ok, Option, sym, refl, ap, ◌∙◌, subst, ap₂, subst₂, inl, inr, ⊎_elim, le_refl, arith}
+use Rattle.std.proofs.Common.{◌≡◌, ℕ, zero, suc, ◌+◌, ◌<◌, ◌≤◌, ◌⊎◌, List, [], ◌∷◌, length, slice_index, Some, None, Ok, Option, sym, refl, ◌∙◌, subst, inl, ⊎_elim, arith}
 use Rattle.table.specs.Table.{Table, fixed}
 use Rattle.table.specs.Sizes.{direct_header}
 use Rattle.numbers.specs.Sums.{sum}

@@ -1,5 +1,5 @@
 -- No two objects share a byte, each lies in the body of a placed block, and none touches a block header.
-use Rattle.std.proofs.Common.{◌≡◌, ℕ, zero, suc, ◌+◌, ◌<◌, ◌≤◌, List, length, slice_index, Ok, sym, subst, arith}
+use Rattle.std.proofs.Common.{◌≡◌, ℕ, zero, suc, ◌+◌, ◌<◌, ◌≤◌, List, length, slice_index, Ok, sym, arith}
 use Rattle.fields.proofs.Widths.{legal-small}
 use Rattle.table.specs.Table.{fixed}
 use Rattle.table.specs.Slots.{Direct}
@@ -11,7 +11,7 @@ use Rattle.planner.specs.Steps.{plan_offsets}
 use Rattle.plan.specs.Answer.{planned_for}
 use Rattle.plan.specs.Plans.{InObject, InPlacedBlock}
 use Rattle.plan.proofs.Answering.{accepted}
-use Rattle.plan.proofs.Laying.{Spaced, none, more, spaced, Held, held, starts-some, ran-ok, ran-laid}
+use Rattle.plan.proofs.Laying.{Spaced, none, more, spaced, held, starts-some, ran-ok, ran-laid}
 
 -- objects in order: each ends before the later ones begin
 spaced-from : {lo hi : ℕ} {os xs : List ℕ} → Spaced lo os xs hi → (j : ℕ) → j < length xs → lo ≤ slice_index os j

@@ -1,13 +1,13 @@
 -- How many offsets and blocks a plan has, and how large its blocks are together.
-use Rattle.std.proofs.Common.{◌≡◌, ℕ, suc, ◌+◌, Bool, true, false, ◌⊎◌, List, [], ◌∷◌, length, if◌then◌else◌, ◌==◌, Ok, sym, refl, ap, ◌∙◌, subst, inl, inr, ⊎_elim, zero-add, arith, ne_eqb}
+use Rattle.std.proofs.Common.{◌≡◌, ℕ, suc, ◌+◌, ◌⊎◌, List, [], ◌∷◌, length, Ok, refl, ap, arith}
 use Rattle.std.proofs.lemmas.Bool.Decides.{nat_tests}
 use Rattle.table.specs.Table.{fixed, row_bits, row_offset, row_in, row_of}
 use Rattle.table.specs.Slots.{slot_bits_in, slot_bits, slot_at}
 use Rattle.planner.specs.declared.State.{State}
 use Rattle.plan.specs.declared.ManagedPlan.{ManagedPlan}
-use Rattle.planner.specs.Steps.{initial, block_end, run, run_from, plan_starts}
-use Rattle.plan.specs.End.{end_state, rows_of_root}
-use Rattle.plan.specs.Answer.{bare_totals, row_totals, totals, planned_for}
+use Rattle.planner.specs.Steps.{run, run_from, plan_starts}
+use Rattle.plan.specs.End.{end_state}
+use Rattle.plan.specs.Answer.{totals, planned_for}
 use Rattle.plan.proofs.Answering.{accepted}
 use Rattle.plan.specs.Plans.{sizes_at, Tallied}
 use Rattle.plan.proofs.Laying.{Laid, end, same, new, count-starts, blocks, starts-some, ran-laid}
