@@ -40,14 +40,14 @@ in_some (o ∷ os) (y ∷ xs) x e = go (nat_le o x && nat_lt x (o + y)) refl (in
     go true p ih = (0, grind (arith, nat_tests))
     go false p ih =
         let (i, A) = ih (grind (arith, nat_tests)) in
-        (suc i, record { object = omega (arith, A.object); from = A.from; to = A.to })
+        (suc i, record { is_object = omega (arith, A.is_object); not_before = A.not_before; not_behind = A.not_behind })
 
 in-at : {lo hi : ℕ} {os xs : List ℕ} → Spaced lo os xs hi → (x i : ℕ) → InObject os xs i x → in_objects os xs x ≡ true
 unfolding in_objects
-in-at (none l) x i A = absurd (omega (arith, A.object))
-in-at (more l s) x zero A = grind (arith, nat_tests, A.from, A.to)
+in-at (none l) x i A = absurd (omega (arith, A.is_object))
+in-at (more l s) x zero A = grind (arith, nat_tests, A.not_before, A.not_behind)
 in-at (more l s) x (suc i) A =
-    grind (arith, nat_tests, in-at s x i (record { object = omega (arith, A.object); from = A.from; to = A.to }))
+    grind (arith, nat_tests, in-at s x i (record { is_object = omega (arith, A.is_object); not_before = A.not_before; not_behind = A.not_behind }))
 
 -- none before the first
 below_none : {lo hi : ℕ} {os xs : List ℕ} → Spaced lo os xs hi → (x : ℕ) → x < lo → in_objects os xs x ≡ false
@@ -107,8 +107,8 @@ module _ (t : Table) (g : t.start_bits ≤ t.direct_bits) (k : t.start_bits ≤ 
   objects-in-bodies : (x : ℕ) → in_objects os xs x ≡ true → in_body t (direct_header t w) x ≡ true
   objects-in-bodies x e =
       let (i, A) = in_some os xs x e in
-      let H = held L i A.object in
-      slot-body t g (direct_header t w) x k H.slot (grind (arith, A.from, H.from)) (grind (arith, A.to, H.to))
+      let H = held L i A.is_object in
+      slot-body t g (direct_header t w) x k H.slot (grind (arith, A.not_before, H.from)) (grind (arith, A.not_behind, H.to))
 
   -- in a body, and in no object
   abbrev is_free : ℕ → Bool
@@ -116,15 +116,15 @@ module _ (t : Table) (g : t.start_bits ≤ t.direct_bits) (k : t.start_bits ≤ 
 
   free_in : (x : ℕ) → FreeByte t (direct_header t w) n os xs x → (x < m) × (is_free x ≡ true)
   free_in x F =
-      let b = S.inside x F.body in
-      let not_there : in_objects os xs x ≡ true → ⊥ = λ e. let r = in_some os xs x e in F.free r.0 r.1 in
+      let b = S.inside x F.in_body in
+      let not_there : in_objects os xs x ≡ true → ⊥ = λ e. let r = in_some os xs x e in F.in_no_object r.0 r.1 in
       (b.0, grind (arith, b.1))
 
   free-out : (x : ℕ) → x < m → is_free x ≡ true → FreeByte t (direct_header t w) n os xs x
   free-out x u e =
       record {
-        body = S.back x u (grind (arith, nat_tests));
-        free = λ i A. grind (arith, nat_tests, in-at (spaced I L) x i A);
+        in_body = S.back x u (grind (arith, nat_tests));
+        in_no_object = λ i A. grind (arith, nat_tests, in-at (spaced I L) x i A);
       }
 
   -- a test that passes just the free bytes passes all that the bodies hold, less the objects' bytes
@@ -171,11 +171,11 @@ free-is-count xs o b w p e = ⊎_elim bare rowed (shape w xs p w8 went)
         let test = free_test fixed (omega arith) (omega arith) w (ran-ok w) L S l in
         let passes = free-test fixed (omega arith) (omega arith) w (ran-ok w) L S l in
         record {
-          below = λ x F. (free_in fixed (omega arith) (omega arith) w (ran-ok w) L S l x F).0;
+          in_managed_space = λ x F. (free_in fixed (omega arith) (omega arith) w (ran-ok w) L S l x F).0;
           test = test;
-          passes = passes;
-          counted = every test passes;
-          every = every;
+          passes_free = passes;
+          passes_as_many = every test passes;
+          any_as_many = every;
         }
 
     bare : Bare w xs p went.state → FreeCounted w xs p

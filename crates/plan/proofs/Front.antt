@@ -72,7 +72,7 @@ front-part xs o b w p e k o' b' lo lb =
     record {
       plan = totals fixed w (end_state fixed w F.state);
       accepted = answers (take k xs) o' b' w (Ok F.state) passed (unfold run in F.is);
-      same-offsets = unfold plan_offsets in F.same-offsets;
+      same_offsets = unfold plan_offsets in F.same-offsets;
       later = F.later;
       same_blocks = blocks-front w xs k F;
     }

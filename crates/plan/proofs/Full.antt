@@ -120,22 +120,22 @@ ends-iff-none-fits xs o b w i = (only, always)
         let N = step-ends fixed (omega arith) (omega arith) w S.state (slice_index xs i) sane S.ends in (
           E.0,
           record {
-            object = S.object;
+            is_object = S.object;
             state = S.state;
-            before = before;
-            not-here = N.not-here;
-            nowhere = λ c z D l. N.nowhere c z (fixed-slot D) l;
+            state_before = before;
+            not_in_block = N.not-here;
+            not_in_later = λ c z D l. N.nowhere c z (fixed-slot D) l;
           },
         )
 
     always : (input_checked xs o b w ≡ Ok tt) × NoSlotFits w xs i → planned_for xs o b w ≡ Err (HeapSpaceExhausted i)
     always (c, N) =
-        let sane = ok-after w (take i xs) N.state N.before in
+        let sane = ok-after w (take i xs) N.state N.state_before in
         let S : Stopped fixed w (initial fixed w) xs 0 i = record {
-          object = N.object;
+          object = N.is_object;
           state = N.state;
-          before = sym (run_is w (take i xs)) ∙ N.before;
+          before = sym (run_is w (take i xs)) ∙ N.state_before;
           ends = ends-step fixed (omega arith) (omega arith) w N.state (slice_index xs i) sane
-              (record { not-here = N.not-here; nowhere = λ c z S l. N.nowhere c z (slot-fixed S) l });
+              (record { not-here = N.not_in_block; nowhere = λ c z S l. N.not_in_later c z (slot-fixed S) l });
         } in
         answers xs o b w (Err i) c (run_is w xs ∙ stops fixed w xs (initial fixed w) 0 i S ∙ ap Err (zero-add i))

@@ -40,13 +40,13 @@ module _ (xs : List ℕ) (o b w : ℕ) (p : ManagedPlan) (e : planned_for xs o b
   in-one-body i l =
       let went = (accepted xs o b w p e).1 in
       let H = rw (sym (starts-some w xs (omega arith))) at (held (ran-laid w xs went.state went.ran) i l) in
-      record { n = H.n; placed = H.placed; size = H.size; slot = slot-fixed H.slot; from = H.from; to = H.to }
+      record { n = H.n; placed = H.placed; size = H.size; slot = slot-fixed H.slot; past_header = H.from; ends_inside = H.to }
 
   -- no object has a byte in a block header, be the block placed or not
   pub no-header-touched : (i x : ℕ) → InObject (plan_offsets fixed w xs) xs i x
       → (s z : ℕ) → Direct fixed 29 s z → s ≤ x → x < s + direct_header fixed w → ⊥
   no-header-touched i x A s z D lo hi =
-      let B = in-one-body i A.object in
+      let B = in-one-body i A.is_object in
       let S = fixed-slot D in
       grind (
         arith,

@@ -118,12 +118,12 @@ module _ (w x : ℕ) (xs : List ℕ) (p : ManagedPlan) (s : State) (ran : run fi
         free = ap (λ (y : ManagedPlan). y.free_space) e;
         fewest = record {
           n = placed.n;
-          last = omega (arith, placed.many);
+          is_last = omega (arith, placed.many);
           size = s.size;
           slot = rw placed.last (slot-fixed placed.block.slot);
-          end = omega (arith, placed.last);
-          reach = grind arith;
-          fewest = λ j k. omega (arith, row-mono fixed j n (omega arith));
+          iterator_at_end = omega (arith, placed.last);
+          rows_reach = grind arith;
+          fewer_do_not = λ j k. omega (arith, row-mono fixed j n (omega arith));
         };
         other = λ z. h (sym iterator ∙ z);
         heap = unfold row_offset in row-mono fixed (suc n) 29 n29;
@@ -169,7 +169,7 @@ module _ (xs : List ℕ) (o b w : ℕ) (p : ManagedPlan) (e : planned_for xs o b
     where
       ends : FewestRows w xs p → p.allocation_iterator ≡ 1024
       ends F =
-          let n : F.n ≡ 0 = grind (arith, F.last) in
+          let n : F.n ≡ 0 = grind (arith, F.is_last) in
           let at : slice_index (plan_starts fixed w xs) F.n ≡ 0 = rw (q, n) refl in
           let size = (fixed-slot (rw at at F.slot)).size_is in
-          grind (arith, F.end, slot-zero)
+          grind (arith, F.iterator_at_end, slot-zero)
