@@ -6,8 +6,8 @@ use Rattle.planner.proofs.Opening.{open-here, open_full}
 use Rattle.planner.proofs.Jumping.{jumped}
 use Rattle.planner.proofs.search.find_slot.Goals as goal
 
-pub returns-then-need-slot-clause-value : goal.returns-then-need-slot-clause-value
-returns-then-need-slot-clause-value c = grind (arith, open-here fixed c.args.need c.loop-from.from)
+pub returns-then-need-slot-clause-first_large_enough : goal.returns-then-need-slot-clause-first_large_enough
+returns-then-need-slot-clause-first_large_enough c = grind (arith, open-here fixed c.args.need c.loop-from.from)
 
 pub returns-then-need-slot-clause-in_heap : goal.returns-then-need-slot-clause-in_heap
 returns-then-need-slot-clause-in_heap c =
@@ -37,5 +37,5 @@ loop-from-preserved c =
     c.locate-slot.ensures c.loop-from-test.true c.if-need-slot.false in
     record { in_heap = j.within; same = c.loop-from.invariant.same ∙ j.same }
 
-pub returns-clause-value : goal.returns-clause-value
-returns-clause-value c = sym (c.loop-from.invariant.same ∙ open_full fixed _ _ c.loop-from-test.false)
+pub returns-clause-first_large_enough : goal.returns-clause-first_large_enough
+returns-clause-first_large_enough c = sym (c.loop-from.invariant.same ∙ open_full fixed _ _ c.loop-from-test.false)
