@@ -98,7 +98,7 @@ empty-answered c p W file H h T i l e =
     let x = offset_of c.site.offset_size c.sizes i in
     let B = block_of c p W i l in
     let z = (fixed-slot B.slot).size_is in
-    let t = B.to in
+    let t = B.ends_inside in
     let d = (direct-local fixed (omega arith) (omega arith) B.slot).inside in
     record {
       within = omega arith;

@@ -91,8 +91,8 @@ module _ (c : Call) (p : ManagedPlan) (W : Written c p)
 
     read : root_at h F offset size w ≡ Ok (record { position = place + (offset - its); length = size })
     read =
-        let f = B.from in
-        let t = B.to in
+        let f = B.past_header in
+        let t = B.ends_inside in
         let z = slot-size in
         let r = place-fits c p W B.n B.placed in
         let k = block_inside c p W B.n B.placed F H in
@@ -105,8 +105,8 @@ module _ (c : Call) (p : ManagedPlan) (W : Written c p)
       where
         from_block : take size (drop (place + (offset - its)) F) ≡ take size (drop (offset - its) (bytes_of c p W B.n B.placed))
         from_block =
-            let f = B.from in
-            let t = B.to in
+            let f = B.past_header in
+            let t = B.ends_inside in
             let z = slot-size in
             let m = bytes-least c p W B.n B.placed in
             has_part F place (bytes_of c p W B.n B.placed) (offset - its) size (block-has c p W B.n B.placed F H) (omega arith)
@@ -116,7 +116,7 @@ module _ (c : Call) (p : ManagedPlan) (W : Written c p)
         go (no e) =
             let G = (went c p W).1 in
             let S = fixed-slot B.slot in
-            let f = B.from in
+            let f = B.past_header in
             let z = slot-size in
             from_block
             ∙ objects-at fixed (omega arith) (omega arith) w xs js (sym (tests c p W).bytes) G.state G.ran c.site.heap_header_address its (slot_at fixed its).size i l (omega arith)
@@ -133,7 +133,7 @@ module _ (c : Call) (p : ManagedPlan) (W : Written c p)
 
   -- every nonempty object comes back
   pub nonempty-back : 0 < size → ComesBack F h w offset size (part_of xs js i)
-  nonempty-back s = back (let t = B.to in omega arith)
+  nonempty-back s = back (let t = B.ends_inside in omega arith)
 
 -- ---- the theorem
 
@@ -183,4 +183,4 @@ early-id-holds c p W file H h T k i l m s =
     same-offset : offset_of w (take k xs) i ≡ offset_of w xs i
     same-offset =
         let F = front-part xs c.offset_places c.block_places w p (planned c p W) k (length (take k xs)) (max 1 (length (take k xs))) (omega arith) (omega arith) in
-        ap (λ (v : List ℕ). get_or v i 0) F.same-offsets ∙ get_or-take k (plan_offsets fixed w xs) i 0 l
+        ap (λ (v : List ℕ). get_or v i 0) F.same_offsets ∙ get_or-take k (plan_offsets fixed w xs) i 0 l

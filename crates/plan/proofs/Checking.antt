@@ -1,6 +1,5 @@
 -- The tests before planning: the sizes one by one, and what holds where all tests pass.
-use Rattle.std.proofs.Common.{◌≡◌, ℕ, zero, suc, ◌+◌, ◌≤◌, ◌<◌, true, List, [], ◌∷◌, length, drop, arith}
-use Rattle.std.specs.Prelude.{max, get_or, Ok, Err}
+use Rattle.std.proofs.Common.{◌≡◌, ℕ, zero, suc, ◌+◌, ◌<◌, ◌≤◌, max, true, List, [], ◌∷◌, length, drop, slice_index, Ok, Err, arith}
 use Rattle.std.proofs.lemmas.Bool.Decides.{nat_tests}
 use Rattle.std.proofs.lemmas.List.{drop_more, drop_all}
 use Rattle.fields.specs.Widths.{legal}
@@ -12,12 +11,12 @@ use Rattle.plan.specs.Checks.{sizes_checked, places_checked, width_checked, inpu
 -- ---- one size
 
 -- the i-th is the first above the limit
-pub size_large : (limit : ℕ) (xs : List ℕ) (i : ℕ) → i < length xs → limit < get_or xs i 0 → sizes_checked limit i (drop i xs) ≡ Err (ObjectTooLarge i (get_or xs i 0))
+pub size_large : (limit : ℕ) (xs : List ℕ) (i : ℕ) → i < length xs → limit < slice_index xs i → sizes_checked limit i (drop i xs) ≡ Err (ObjectTooLarge i (slice_index xs i))
 unfolding sizes_checked
 size_large limit xs i h l = grind (arith, nat_tests, drop_more)
 
 -- the i-th is not
-pub size_small : (limit : ℕ) (xs : List ℕ) (i : ℕ) → i < length xs → get_or xs i 0 ≤ limit → sizes_checked limit i (drop i xs) ≡ sizes_checked limit (i + 1) (drop (i + 1) xs)
+pub size_small : (limit : ℕ) (xs : List ℕ) (i : ℕ) → i < length xs → slice_index xs i ≤ limit → sizes_checked limit i (drop i xs) ≡ sizes_checked limit (i + 1) (drop (i + 1) xs)
 unfolding sizes_checked
 size_small limit xs i h l = grind (arith, nat_tests, drop_more)
 
@@ -27,7 +26,7 @@ unfolding sizes_checked
 sizes_passed limit xs i h = grind (arith, drop_all)
 
 -- no size is above the limit
-pub all_small : (limit i : ℕ) (xs : List ℕ) → sizes_checked limit i xs ≡ Ok tt → (k : ℕ) → k < length xs → get_or xs k 0 ≤ limit
+pub all_small : (limit i : ℕ) (xs : List ℕ) → sizes_checked limit i xs ≡ Ok tt → (k : ℕ) → k < length xs → slice_index xs k ≤ limit
 unfolding sizes_checked
 all_small limit i [] e k l = absurd (omega arith)
 all_small limit i (x ∷ xs) e zero l = grind (arith, nat_tests)

@@ -1,11 +1,5 @@
 -- A front part of an accepted list is accepted, with the same offsets and, as far as they go, the same blocks.
-use Rattle.std.specs.Prelude.{None, Ok, Option, Some}
-use Prim.Native.Nat.{ℕ, zero, suc, ◌≤◌, ◌<◌, max}
-use mathlib.Core.Path.{◌≡◌, refl, sym, ap, ◌∙◌}
-use mathlib.Core.List.{List, [], ◌∷◌, ◌++◌}
-use native.Mathlib.Omega.{arith}
-use native.Mathlib.Decide.{dec_le}
-use lib.ListN.{length, take, length-take}
+use Rattle.std.proofs.Common.{◌≡◌, ℕ, zero, suc, ◌<◌, ◌≤◌, max, List, [], ◌∷◌, ◌++◌, length, take, Some, None, Ok, Option, sym, refl, ◌∙◌, arith, length-take}
 use Rattle.std.proofs.lemmas.Bool.Decides.{nat_tests}
 use Rattle.table.specs.Table.{Table, fixed}
 use Rattle.planner.specs.declared.State.{State}
@@ -14,7 +8,7 @@ use Rattle.planner.specs.Steps.{initial, step_of, run_from, offsets_from, starts
 use Rattle.plan.specs.End.{end_state}
 use Rattle.plan.specs.Answer.{totals, planned_for}
 use Rattle.plan.specs.Checks.{sizes_checked}
-use Rattle.planner.proofs.Running.{run-stops, run-goes, offsets-go, starts-go-same, starts-go-new}
+use Rattle.planner.proofs.Running.{run-stops, run-goes, offsets-go}
 use Rattle.plan.specs.Plans.{FrontPart}
 use Rattle.plan.proofs.Checking.{passed}
 use Rattle.plan.proofs.Answering.{accepted, answers}
@@ -27,49 +21,43 @@ pub record Fronted (t : Table) (w : ℕ) (s : State) (xs : List ℕ) (k i : ℕ)
   pub later : List ℕ
   pub same-starts : starts_from t w s xs ≡ starts_from t w s (take k xs) ++ later
 
-module _ (t : Table) (w : ℕ) where
-  -- one object more before both
-  starts-front : (s s₁ : State) (x o : ℕ) → step_of t w s x ≡ Some (s₁, o) → (xs ys later : List ℕ)
-      → starts_from t w s₁ xs ≡ starts_from t w s₁ ys ++ later → starts_from t w s (x ∷ xs) ≡ starts_from t w s (x ∷ ys) ++ later
-  starts-front s s₁ x o q xs ys later e = go (dec_le s₁.count s.count)
-    where
-      go : Dec (s₁.count ≤ s.count) → starts_from t w s (x ∷ xs) ≡ starts_from t w s (x ∷ ys) ++ later
-      go (yes u) = starts-go-same t w s x xs s₁ o q u ∙ e ∙ ap (λ (l : List ℕ). l ++ later) (sym (starts-go-same t w s x ys s₁ o q u))
-      go (no u) =
-          starts-go-new t w s x xs s₁ o q (omega arith) ∙ ap (λ (l : List ℕ). s₁.start ∷ l) e
-          ∙ ap (λ (l : List ℕ). l ++ later) (sym (starts-go-new t w s x ys s₁ o q (omega arith)))
-
-  -- a run that ends well has run its front part well
-  pub front : (xs : List ℕ) (k : ℕ) (s : State) (i : ℕ) (s' : State) → run_from t w s xs i ≡ Ok s' → Fronted t w s xs k i
-  unfolding run_from offsets_from starts_from
-  front xs zero s i s' e = record { state = s; is = refl; same-offsets = refl; later = starts_from t w s xs; same-starts = refl }
-  front [] (suc k) s i s' e = record { state = s; is = refl; same-offsets = refl; later = []; same-starts = refl }
-  front (x ∷ xs) (suc k) s i s' e = go (step_of t w s x) refl (λ s₁. front xs k s₁ (suc i) s')
-    where
-      go : (v : Option (State × ℕ)) → step_of t w s x ≡ v → ((s₁ : State) → run_from t w s₁ xs (suc i) ≡ Ok s' → Fronted t w s₁ xs k (suc i)) → Fronted t w s (x ∷ xs) (suc k) i
-      go (Some (s₁, o)) q ih =
-          let F = ih s₁ (sym (run-goes t w s x xs s₁ o q i) ∙ e) in
-          record {
-            state = F.state;
-            is = run-goes t w s x (take k xs) s₁ o q i ∙ F.is;
-            same-offsets = offsets-go t w s x (take k xs) s₁ o q ∙ ap (λ (l : List ℕ). o ∷ l) F.same-offsets ∙ ap (take (suc k)) (sym (offsets-go t w s x xs s₁ o q));
-            later = F.later;
-            same-starts = starts-front s s₁ x o q xs (take k xs) F.later F.same-starts;
-          }
-      go None q ih = absurd (let f = run-stops t w s x xs i q in cc)
+-- a run that ends well has run its front part well
+pub front : (t : Table) (w : ℕ) (xs : List ℕ) (k : ℕ) (s : State) (i : ℕ) (s' : State) → run_from t w s xs i ≡ Ok s'
+    → Fronted t w s xs k i
+unfolding run_from offsets_from starts_from
+front t w xs zero s i s' e =
+    record { state = s; is = refl; same-offsets = refl; later = starts_from t w s xs; same-starts = refl }
+front t w [] (suc k) s i s' e = record { state = s; is = refl; same-offsets = refl; later = []; same-starts = refl }
+front t w (x ∷ xs) (suc k) s i s' e = go (step_of t w s x) refl (λ s₁. front t w xs k s₁ (suc i) s')
+  where
+    go : (v : Option (State × ℕ)) → step_of t w s x ≡ v
+        → ((s₁ : State) → run_from t w s₁ xs (suc i) ≡ Ok s' → Fronted t w s₁ xs k (suc i))
+        → Fronted t w s (x ∷ xs) (suc k) i
+    go (Some (s₁, o)) q ih =
+        let F = ih s₁ (sym (run-goes t w s x xs s₁ o q i) ∙ e) in
+        record {
+          state = F.state;
+          is = run-goes t w s x (take k xs) s₁ o q i ∙ F.is;
+          same-offsets = grind (arith, offsets-go t w s x (take k xs) s₁ o q, offsets-go t w s x xs s₁ o q, F.same-offsets);
+          later = F.later;
+          same-starts = grind (arith, nat_tests, F.same-starts);
+        }
+    go None q ih = absurd (let f = run-stops t w s x xs i q in cc)
 
 -- the sizes of a front part pass
-sizes-front : (limit j : ℕ) (xs : List ℕ) (k : ℕ) → sizes_checked limit j xs ≡ (Ok tt) → sizes_checked limit j (take k xs) ≡ (Ok tt)
+sizes-front : (limit j : ℕ) (xs : List ℕ) (k : ℕ) → sizes_checked limit j xs ≡ Ok tt
+    → sizes_checked limit j (take k xs) ≡ Ok tt
 unfolding sizes_checked
 sizes-front limit j xs zero e = refl
 sizes-front limit j [] (suc k) e = refl
 sizes-front limit j (x ∷ xs) (suc k) e = grind (arith, nat_tests, sizes-front limit (suc j) xs k)
 
 -- the blocks of the whole list, where the front part has some size
-blocks-front : (w : ℕ) (xs : List ℕ) (k : ℕ) (F : Fronted fixed w (initial fixed w) xs k 0) → 0 < k → plan_starts fixed w xs ≡ plan_starts fixed w (take k xs) ++ F.later
+blocks-front : (w : ℕ) (xs : List ℕ) (k : ℕ) (F : Fronted fixed w (initial fixed w) xs k 0) → 0 < k
+    → plan_starts fixed w xs ≡ plan_starts fixed w (take k xs) ++ F.later
 unfolding plan_starts starts_from
 blocks-front w xs zero F l = absurd (omega arith)
-blocks-front w [] (suc k) F l = ap (λ (y : List ℕ). 0 ∷ y) F.same-starts
+blocks-front w [] (suc k) F l = grind (arith, F.same-starts)
 blocks-front w (x ∷ xs) (suc k) F l = F.same-starts
 
 -- if planning accepts a list, it accepts the first k sizes, in any lists that 13 lets pass
@@ -77,13 +65,14 @@ pub front-part : (xs : List ℕ) (o b w : ℕ) (p : ManagedPlan) → planned_for
     → (k o' b' : ℕ) → length (take k xs) ≤ o' → max 1 (length (take k xs)) ≤ b' → FrontPart xs w k o' b'
 front-part xs o b w p e k o' b' lo lb =
     let A = accepted xs o b w p e in
-    let F : Fronted fixed w (initial fixed w) xs k 0 = front fixed w xs k (initial fixed w) 0 A.1.state (unfold run in A.1.ran) in
+    let F : Fronted fixed w (initial fixed w) xs k 0 =
+    front fixed w xs k (initial fixed w) 0 A.1.state (unfold run in A.1.ran) in
+    let passed = passed (take k xs) o' b' w
+    (record { width = A.0.width; offsets = lo; blocks = lb; sizes = sizes-front _ 0 xs k A.0.sizes }) in
     record {
       plan = totals fixed w (end_state fixed w F.state);
-      accepted = answers (take k xs) o' b' w (Ok F.state)
-          (passed (take k xs) o' b' w (record { width = A.0.width; offsets = lo; blocks = lb; sizes = sizes-front _ 0 xs k A.0.sizes }))
-          (unfold run in F.is);
-      same-offsets = unfold plan_offsets in F.same-offsets;
+      accepted = answers (take k xs) o' b' w (Ok F.state) passed (unfold run in F.is);
+      same_offsets = unfold plan_offsets in F.same-offsets;
       later = F.later;
       same_blocks = blocks-front w xs k F;
     }
@@ -92,7 +81,7 @@ front-part xs o b w p e k o' b' lo lb =
 pub front-part-there : (xs : List ℕ) (o b w : ℕ) (p : ManagedPlan) → planned_for xs o b w ≡ Ok p → (k : ℕ) → FrontPart xs w k o b
 front-part-there xs o b w p e k =
     let A = (accepted xs o b w p e).0 in
-    let l = length-take k xs in
     let a = A.offsets in
     let c = A.blocks in
+    let l = length-take k xs in
     front-part xs o b w p e k o b (omega arith) (omega arith)

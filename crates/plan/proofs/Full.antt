@@ -1,21 +1,12 @@
 -- The heap space ends at an object exactly where no slot that is left fits it.
-use Rattle.std.specs.Prelude.{Err, None, Ok, Option, Some}
-use Prim.Native.Nat.{ℕ, zero, suc, ◌+◌, ◌≤◌, ◌<◌}
-use mathlib.Core.Path.{◌≡◌, refl, sym, ap, ◌∙◌, subst}
-use mathlib.Core.Logic.{◌↔◌}
-use mathlib.Core.Bool.{Bool, true, false}
-use mathlib.Core.List.{List, [], ◌∷◌}
-use native.Mathlib.Omega.{arith}
-use native.Mathlib.Nat.{zero-add}
-use lib.Dec.{leb}
-use lib.ListN.{length, take, get_or}
-use borrow.Author.Tests.{leb-false}
+use Rattle.std.proofs.Common.{◌≡◌, ℕ, zero, suc, ◌+◌, ◌<◌, ◌≤◌, ◌↔◌, List, [], ◌∷◌, length, take, slice_index, Some, None, Ok, Err, Option, sym, refl, ap, ◌∙◌, subst, zero-add, arith}
+use Rattle.std.proofs.lemmas.Bool.Decides.{nat_tests}
 use Rattle.refusals.specs.declared.FormatError.TheVariants.{HeapSpaceExhausted}
 use Rattle.table.specs.Table.{Table, fixed}
 use Rattle.table.specs.Sizes.{direct_header}
 use Rattle.table.specs.declared.Slot.{Slot}
 use Rattle.planner.specs.declared.State.{State}
-use Rattle.planner.specs.Steps.{open_at, initial, block_end, filled, opened, step_of, run_from, run}
+use Rattle.planner.specs.Steps.{open_at, initial, block_end, opened, step_of, run_from, run}
 use Rattle.plan.specs.Checks.{input_checked}
 use Rattle.plan.specs.Answer.{planned_for}
 use Rattle.planner.proofs.Opening.{open-found, full-none}
@@ -33,7 +24,7 @@ record Stopped (t : Table) (w : ℕ) (s : State) (xs : List ℕ) (i n : ℕ) : T
   object : n < length xs
   state : State
   before : run_from t w s (take n xs) i ≡ Ok state
-  ends : step_of t w state (get_or xs n 0) ≡ None
+  ends : step_of t w state (slice_index xs n) ≡ None
 
 module _ (t : Table) (w : ℕ) where
   -- a run that stops has such a size
@@ -42,38 +33,39 @@ module _ (t : Table) (w : ℕ) where
   stopped [] s i j e = absurd cc
   stopped (x ∷ xs) s i j e = go (step_of t w s x) refl (λ s₁. stopped xs s₁ (suc i) j)
     where
-      go : (v : Option (State × ℕ)) → step_of t w s x ≡ v → ((s₁ : State) → run_from t w s₁ xs (suc i) ≡ Err j → (n : ℕ) × (j ≡ suc i + n) × Stopped t w s₁ xs (suc i) n)
+      go : (v : Option (State × ℕ)) → step_of t w s x ≡ v
+          → ((s₁ : State) → run_from t w s₁ xs (suc i) ≡ Err j → (n : ℕ) × (j ≡ suc i + n) × Stopped t w s₁ xs (suc i) n)
           → (n : ℕ) × (j ≡ i + n) × Stopped t w s (x ∷ xs) i n
       go (Some (s₁, o)) q ih =
-          let r = ih s₁ (sym (run-goes t w s x xs s₁ o q i) ∙ e) in
-          let S = r.2 in
-          let a = r.1 in
-          let l = S.object in
-          (suc r.0, omega arith, record { object = omega arith; state = S.state; before = run-goes t w s x (take r.0 xs) s₁ o q i ∙ S.before; ends = S.ends })
+          let (n, j-is, S) = ih s₁ (sym (run-goes t w s x xs s₁ o q i) ∙ e) in (
+            suc n,
+            omega arith,
+            record {
+              object = omega (arith, S.object);
+              state = S.state;
+              before = run-goes t w s x (take n xs) s₁ o q i ∙ S.before;
+              ends = S.ends;
+            },
+          )
       go None q ih =
-          let f = run-stops t w s x xs i q in
-          (0, (let z : i ≡ j = cc in omega arith), record { object = omega arith; state = s; before = refl; ends = q })
+          (0, grind (arith, run-stops t w s x xs i q), record { object = omega arith; state = s; before = refl; ends = q })
 
   -- and back
   stops : (xs : List ℕ) (s : State) (i n : ℕ) → Stopped t w s xs i n → run_from t w s xs i ≡ Err (i + n)
   unfolding run_from
   stops [] s i n S = absurd (omega (arith, S.object))
-  stops (x ∷ xs) s i zero S =
-      let e : s ≡ S.state = (let b = S.before in cc) in
-      run-stops t w s x xs i (ap (λ (y : State). step_of t w y x) e ∙ S.ends) ∙ ap Err (let z : i ≡ i + 0 = omega arith in z)
-  stops (x ∷ xs) s i (suc n) S = go (step_of t w s x) refl (λ s₁. stops xs s₁ (suc i) n)
-    where
-      go : (v : Option (State × ℕ)) → step_of t w s x ≡ v → ((s₁ : State) → Stopped t w s₁ xs (suc i) n → run_from t w s₁ xs (suc i) ≡ Err (suc i + n)) → run_from t w s (x ∷ xs) i ≡ Err (i + suc n)
-      go (Some (s₁, o)) q ih =
-          let l = S.object in
-          run-goes t w s x xs s₁ o q i
-          ∙ ih s₁ (record { object = omega arith; state = S.state; before = sym (run-goes t w s x (take n xs) s₁ o q i) ∙ S.before; ends = S.ends })
-          ∙ ap Err (let z : suc i + n ≡ i + suc n = omega arith in z)
-      go None q ih = absurd (let f = run-stops t w s x (take n xs) i q in let b = S.before in cc)
+  stops (x ∷ xs) s i zero S = grind (arith, S)
+  stops (x ∷ xs) s i (suc n) S =
+      grind (
+        arith,
+        λ (p : State × ℕ) (q : step_of t w s x ≡ Some p). λ (b : run_from t w p.0 (take n xs) (suc i) ≡ Ok S.state).
+            stops xs p.0 (suc i) n (record { object = omega (arith, S.object); state = S.state; before = b; ends = S.ends }),
+      )
 
 -- ---- one step
 
-module _ (t : Table) (g : t.start_bits ≤ t.direct_bits) (k : t.start_bits ≤ t.heap_bits) (w : ℕ) (s : State) (x : ℕ) (I : Sane t w s) where
+module _ (t : Table) (g : t.start_bits ≤ t.direct_bits) (k : t.start_bits ≤ t.heap_bits) (w : ℕ) (s : State) (x : ℕ)
+    (I : Sane t w s) where
   -- x bytes fit neither the current block nor a slot after it
   record Nowhere : Type 0 where
     not-here : s.size < s.fill + x
@@ -82,15 +74,12 @@ module _ (t : Table) (g : t.start_bits ≤ t.direct_bits) (k : t.start_bits ≤ 
   -- a step ends exactly there
   step-ends : step_of t w s x ≡ None → Nowhere
   unfolding step_of
-  step-ends e = go (leb (s.fill + x) s.size) refl (open_at t (direct_header t w + x) (block_end s)) refl e
-    where
-      go : (u : Bool) → leb (s.fill + x) s.size ≡ u → (v : Option Slot) → open_at t (direct_header t w + x) (block_end s) ≡ v
-          → ◌≡◌ {A = Option (State × ℕ)} (elim u [ true ↦ Some ((filled s x), s.start + s.fill) | false ↦ opened t w s x v ]) None → Nowhere
-      go true p v q e = absurd cc
-      go false p (Some b) q e = absurd cc
-      go false p None q e = record {
-        not-here = leb-false (s.fill + x) s.size p;
-        nowhere = λ c z S l. (let y = full-none t g k (direct_header t w + x) (block_end s) I.next-slot q c S.starts l S.inside in let f = S.size_is in omega arith);
+  step-ends e =
+      let none : open_at t (direct_header t w + x) (block_end s) ≡ None = grind (arith, nat_tests) in
+      record {
+        not-here = grind (arith, nat_tests);
+        nowhere = λ c z S l.
+            grind (arith, full-none t g k (direct_header t w + x) (block_end s) I.next-slot none c S.starts l S.inside);
       }
 
   ends-step : Nowhere → step_of t w s x ≡ None
@@ -99,9 +88,12 @@ module _ (t : Table) (g : t.start_bits ≤ t.direct_bits) (k : t.start_bits ≤ 
       go : (v : Option Slot) → open_at t (direct_header t w + x) (block_end s) ≡ v → v ≡ None
       go (Some b) q =
           let F = open-found t g k (direct_header t w + x) (block_end s) I.next-slot b q in
-          let a = N.nowhere b.start b.size (record { starts = F.starts; inside = F.inside; size_is = ap (λ (y : Slot). y.size) F.is }) F.after in
-          let f = F.enough in
-          absurd (omega arith)
+          absurd (grind (
+            arith,
+            N.nowhere b.start b.size
+                (record { starts = F.starts; inside = F.inside; size_is = ap (λ (y : Slot). y.size) F.is }) F.after,
+            F.enough,
+          ))
       go None q = refl
 
 -- ---- the fixed table
@@ -114,25 +106,36 @@ ok-after : (w : ℕ) (xs : List ℕ) (s : State) → run fixed w xs ≡ Ok s →
 ok-after w xs s e = still-ok (ran-ok w) (ran-laid w xs s e)
 
 -- the answer is 12 at the i-th object exactly if the tests before pass and no slot that is left fits it
-pub ends-iff-none-fits : (xs : List ℕ) (o b w i : ℕ) → (planned_for xs o b w ≡ Err (HeapSpaceExhausted i)) ↔ ((input_checked xs o b w ≡ (Ok tt)) × NoSlotFits w xs i)
+pub ends-iff-none-fits : (xs : List ℕ) (o b w i : ℕ) → (planned_for xs o b w ≡ Err (HeapSpaceExhausted i))
+    ↔ ((input_checked xs o b w ≡ Ok tt) × NoSlotFits w xs i)
 ends-iff-none-fits xs o b w i = (only, always)
   where
-    only : planned_for xs o b w ≡ Err (HeapSpaceExhausted i) → (input_checked xs o b w ≡ (Ok tt)) × NoSlotFits w xs i
+    only : planned_for xs o b w ≡ Err (HeapSpaceExhausted i) → (input_checked xs o b w ≡ Ok tt) × NoSlotFits w xs i
     only e =
         let E = ended xs o b w i e in
         let R = stopped fixed w xs (initial fixed w) 0 i (sym (run_is w xs) ∙ E.1) in
         let S = subst (Stopped fixed w (initial fixed w) xs 0) (sym (R.1 ∙ zero-add R.0)) R.2 in
         let before : run fixed w (take i xs) ≡ Ok S.state = run_is w (take i xs) ∙ S.before in
-        let N = step-ends fixed (omega arith) (omega arith) w S.state (get_or xs i 0) (ok-after w (take i xs) S.state before) S.ends in
-        (E.0, record { object = S.object; state = S.state; before = before; not-here = N.not-here; nowhere = λ c z D l. N.nowhere c z (fixed-slot D) l })
+        let sane = ok-after w (take i xs) S.state before in
+        let N = step-ends fixed (omega arith) (omega arith) w S.state (slice_index xs i) sane S.ends in (
+          E.0,
+          record {
+            is_object = S.object;
+            state = S.state;
+            state_before = before;
+            not_in_block = N.not-here;
+            not_in_later = λ c z D l. N.nowhere c z (fixed-slot D) l;
+          },
+        )
 
-    always : (input_checked xs o b w ≡ (Ok tt)) × NoSlotFits w xs i → planned_for xs o b w ≡ Err (HeapSpaceExhausted i)
+    always : (input_checked xs o b w ≡ Ok tt) × NoSlotFits w xs i → planned_for xs o b w ≡ Err (HeapSpaceExhausted i)
     always (c, N) =
-        let I = ok-after w (take i xs) N.state N.before in
+        let sane = ok-after w (take i xs) N.state N.state_before in
         let S : Stopped fixed w (initial fixed w) xs 0 i = record {
-          object = N.object;
+          object = N.is_object;
           state = N.state;
-          before = sym (run_is w (take i xs)) ∙ N.before;
-          ends = ends-step fixed (omega arith) (omega arith) w N.state (get_or xs i 0) I (record { not-here = N.not-here; nowhere = λ c z S l. N.nowhere c z (slot-fixed S) l });
+          before = sym (run_is w (take i xs)) ∙ N.state_before;
+          ends = ends-step fixed (omega arith) (omega arith) w N.state (slice_index xs i) sane
+              (record { not-here = N.not_in_block; nowhere = λ c z S l. N.not_in_later c z (slot-fixed S) l });
         } in
         answers xs o b w (Err i) c (run_is w xs ∙ stops fixed w xs (initial fixed w) 0 i S ∙ ap Err (zero-add i))

@@ -1,14 +1,9 @@
 -- The objects of a plan fit into the bodies of the root's slots: so no total falls below zero.
-use Rattle.std.specs.Prelude.{Err, None, Ok, Option, Result, Some, unwrap_or}
-use Prim.Native.Nat.{ℕ, suc, ◌+◌, ◌-◌, ◌^◌, ◌≤◌, ◌<◌, zero-le}
-use mathlib.Core.Path.{◌≡◌, refl, sym, ap, ◌∙◌, subst}
-use mathlib.Core.Logic.{◌⊎◌, inl, inr, ∥∥₁_elim}
-use mathlib.Core.Bool.{Bool}
-use mathlib.Core.List.{List, [], ◌∷◌}
-use native.Mathlib.Omega.{arith}
-use native.Mathlib.Decide.{ℕ_discrete}
-use native.Mathlib.Numerals.{add-one}
-use borrow.Author.Tests.{eq-eqb, ne_eqb}
+use Rattle.std.proofs.Common.{◌≡◌, ℕ, suc, ◌+◌, ◌-◌, ◌^◌, ◌<◌, ◌≤◌, Bool, ◌⊎◌, List, [], ◌∷◌, Some, Ok, refl, ap, ◌∙◌, subst, inl, inr, arith, eq-eqb, ne_eqb}
+use Rattle.std.proofs.lemmas.Bool.{cases_eq}
+use Rattle.std.proofs.Math.Logic.{∥∥₁_elim}
+use Rattle.std.proofs.Props.{props}
+use Rattle.std.proofs.lemmas.Bool.Decides.{nat_tests}
 use Rattle.table.specs.Table.{fixed, row_offset, row_of}
 use Rattle.table.specs.Slots.{slot_at}
 use Rattle.table.specs.Sizes.{offset_bytes, direct_header}
@@ -22,7 +17,6 @@ use Rattle.table_laws.proofs.Format.{in_body, slot-body}
 use Rattle.table_laws.proofs.Bodies.{first-bodies, bodies}
 use Rattle.planner.specs.Steps.{block_end, initial, step_of, run_from, run}
 use Rattle.plan.specs.End.{one_block, end_state, rows_of_root}
-use Rattle.std.proofs.Props.{props}
 use Rattle.planner.specs.Requires.{IsReached}
 use Rattle.plan.specs.Requires.{Totalled}
 use Rattle.planner.specs.declared.State.{State}
@@ -34,24 +28,24 @@ bodies_below w n = count (in_body fixed (direct_header fixed w)) n
 
 below-mono : (w m n : ℕ) → m ≤ n → bodies_below w m ≤ bodies_below w n
 below-mono w m n l =
-    let p : ℕ → Bool = in_body fixed (direct_header fixed w) in
     let e : m + (n - m) ≡ n = omega arith in
-    let z = ap (count p) (sym e) ∙ count_add p m (n - m) in
-    omega arith
+    grind (arith, count_add (in_body fixed (direct_header fixed w)) m (n - m))
 
 -- a slot's body lies past its header
 below-slot : (w b : ℕ) → Start fixed b → b < 2 ^ 40 → direct_header fixed w ≤ (slot_at fixed b).size
-    → bodies_below w b + ((slot_at fixed b).size - direct_header fixed w) ≤ bodies_below w (b + (slot_at fixed b).size)
+    → bodies_below w b + ((slot_at fixed b).size - direct_header fixed w)
+    ≤ bodies_below w (b + (slot_at fixed b).size)
 below-slot w b s l f =
     let h = direct_header fixed w in
     let p : ℕ → Bool = in_body fixed h in
     let z = (slot_at fixed b).size in
     let e : b + z ≡ b + h + (z - h) = omega arith in
     let all : count (λ x. p (b + h + x)) (z - h) ≡ z - h =
-    count-all (λ x. p (b + h + x)) (z - h) (λ y u. slot-body fixed (omega arith) h (b + h + y) (omega arith) (record { starts = s; inside = l; size_is = refl }) (omega arith) (omega arith)) in
+    count-all (λ x. p (b + h + x)) (z - h)
+    (λ y u. slot-body fixed (omega arith) h (b + h + y) (omega arith)
+    (record { starts = s; inside = l; size_is = refl }) (omega arith) (omega arith)) in
     let a = ap (count p) e ∙ count_add p (b + h) (z - h) in
-    let m = below-mono w b (b + h) (omega arith) in
-    omega arith
+    omega (arith, below-mono w b (b + h))
 
 -- the objects and what is left of the current block fit into the bodies up to its end
 pub record Roomy (w : ℕ) (s : State) : Type 0 where
@@ -66,26 +60,25 @@ module _ (w : ℕ) (l : w ≤ 255) where
       P = placing w s x s' o l R.sound e
 
       go : Same s s' o ⊎ New fixed w s s' o → s'.used + (s'.size - s'.fill) ≤ bodies_below w (block_end s')
-      go (inl n) =
-          let a = P.is-used in let b = P.to in let c = n.place in let d = n.start_is in let f = n.size_is in let i = P.within in let r = R.room in
-          let z : bodies_below w (block_end s') ≡ bodies_below w (block_end s) = ap (bodies_below w) (omega arith) in
-          omega arith
+      go (inl n) = grind (arith, P, R.room)
       go (inr n) =
-          let a = P.is-used in let b = P.to in let c = n.place in let f = n.size_is in let i = P.within in let r = R.room in
-          let m = below-mono w (block_end s) s'.start n.after in
-          let k = below-slot w s'.start n.starts n.inside (omega arith) in
-          let z : bodies_below w (block_end s') ≡ bodies_below w (s'.start + (slot_at fixed s'.start).size) = ap (λ (y : ℕ). bodies_below w (s'.start + y)) f in
-          omega arith
+          grind (
+            arith,
+            P,
+            R.room,
+            below-mono w (block_end s) s'.start n.after,
+            below-slot w s'.start n.starts n.inside,
+          )
 
   roomy-from : (xs : List ℕ) (s : State) (i : ℕ) (s' : State) → Roomy w s → run_from fixed w s xs i ≡ Ok s' → Roomy w s'
   unfolding run_from
   roomy-from [] s i s' R e = subst (Roomy w) (let z : s ≡ s' = cc in z) R
-  roomy-from (x ∷ xs) s i s' R e = go (step_of fixed w s x) refl e (λ s₁ R₁. roomy-from xs s₁ (suc i) s' R₁)
-    where
-      go : (v : Option (State × ℕ)) → step_of fixed w s x ≡ v → ◌≡◌ {A = Result State ℕ} (elim v [ Some (s₁, o) ↦ run_from fixed w s₁ xs (suc i) | None ↦ Err i ]) (Ok s')
-          → ((s₁ : State) → Roomy w s₁ → run_from fixed w s₁ xs (suc i) ≡ Ok s' → Roomy w s') → Roomy w s'
-      go (Some (s₁, o)) q e ih = ih s₁ (roomy-step s x s₁ o R q) e
-      go None q e ih = absurd cc
+  roomy-from (x ∷ xs) s i s' R e =
+      grind (
+        arith,
+        λ (p : State × ℕ) (q : step_of fixed w s x ≡ Some p).
+            roomy-from xs p.0 (suc i) s' (roomy-step s x p.0 p.1 R q),
+      )
 
   roomy : (xs : List ℕ) (s : State) → run fixed w xs ≡ Ok s → Roomy w s
   unfolding run
@@ -102,59 +95,57 @@ pub record Reach (e : ℕ) : Type 0 where
 -- the one block of the starting size at 0
 pub no_rows : (e : ℕ) → e ≡ 1024 → rows_of_root fixed e ≡ 0
 unfolding rows_of_root
-no_rows e q = rw (eq-eqb e 1024 q)
+no_rows e q = grind (arith, nat_tests)
 
 -- any other end: the row of its last byte is the last
 pub rows_of_end : (e : ℕ) → (e ≡ 1024 → ⊥) → 0 < e → e ≤ 2 ^ 40 → rows_of_root fixed e ≡ suc (row_of fixed (e - 1))
 unfolding rows_of_root
-rows_of_end e n p l = rw (ne_eqb e 1024 n) (ap (λ (r : Option ℕ). unwrap_or r 0) (covers e p l) ∙ add-one (row_of fixed (e - 1)))
+rows_of_end e n p l = grind (arith, nat_tests, covers e p l)
 
 pub reach : (e : ℕ) → 0 < e → e ≤ 2 ^ 40 → (e ≡ 1024 → ⊥) → Reach e
 reach e p l n =
-    let r = rows_of_end e n p l in
-    let up = row_up fixed (e - 1) (heap-rows fixed (e - 1) (omega arith)) in
-    let z = ap (row_offset fixed) r in
-    let b = row-29 (e - 1) (omega arith) in
-    record { some = omega arith; most = omega arith; far = omega arith }
+    grind (
+      arith,
+      rows_of_end e n p l,
+      row_up fixed (e - 1) (heap-rows fixed (e - 1) (omega arith)),
+      row-29 (e - 1) (omega arith),
+    )
 
 -- ---- what the totals ask
 
 module _ (w : ℕ) (l : w ≤ 255) (s : State) where
   one-totalled : Totalled w (one_block fixed w)
   unfolding direct_header offset_bytes
-  one-totalled = record {
-    some = omega arith;
-    bounded = record { heap = omega arith; filling = omega arith; blocks = omega arith; spent = omega arith; objects = omega arith; between = zero-le };
-    one = λ e. omega arith;
-    more = λ n. absurd (n refl);
-  }
+  one-totalled = grind arith
 
   some-totalled : (s.count ≡ 0 → ⊥) → Roomy w s → Totalled w s
   some-totalled n R =
       let I = R.sound.ok in
-      let a = I.heap in let b = I.taken in let c = I.blocks in let r = R.room in
-      let p : 0 < block_end s = omega arith in
+      let p : 0 < block_end s = omega (arith, I.taken, I.blocks) in
       let hs = header-small w l in
       record {
         some = p;
         bounded = sound-bounded w s l R.sound;
-        one = λ e. (let z = ap (bodies_below w) e ∙ first-bodies fixed (direct_header fixed w) (omega arith) (omega arith) in omega arith);
+        one = λ e. grind (arith, R.room, first-bodies fixed (direct_header fixed w));
         more = λ e.
-            let T = reach (block_end s) p a e in
-            let k = T.most in
-            let m = below-mono w (block_end s) (row_offset fixed (rows_of_root fixed (block_end s))) T.far in
-            let f : row_offset fixed (rows_of_root fixed (block_end s)) ≤ 2 ^ 40 = (let z = row-mono fixed (rows_of_root fixed (block_end s)) 29 k in unfold row_offset in z) in
-            let z = bodies fixed (direct_header fixed w) (omega arith) (omega arith) (rows_of_root fixed (block_end s)) f in
-            omega arith;
+            let T = reach (block_end s) p I.heap e in
+            let f : row_offset fixed (rows_of_root fixed (block_end s)) ≤ 2 ^ 40 =
+            unfold row_offset in row-mono fixed (rows_of_root fixed (block_end s)) 29 T.most in
+            omega (
+              arith,
+              R.room,
+              below-mono w (block_end s) (row_offset fixed (rows_of_root fixed (block_end s))) T.far,
+              bodies fixed (direct_header fixed w) (omega arith) (omega arith) (rows_of_root fixed (block_end s)) f,
+            );
       }
 
   pub totalled : (xs : List ℕ) → run fixed w xs ≡ Ok s → Totalled w (end_state fixed w s)
   unfolding end_state
-  totalled xs e = go (ℕ_discrete s.count 0)
-    where
-      go : Dec (s.count ≡ 0) → Totalled w (end_state fixed w s)
-      go (yes q) = rw (eq-eqb s.count 0 q, end_state) one-totalled
-      go (no q) = rw (ne_eqb s.count 0 q, end_state) (some-totalled q (roomy w l xs s e))
+  totalled xs e =
+      elim (cases_eq s.count 0) [
+        | inl q ↦ rw (eq-eqb s.count 0 q, end_state) one-totalled
+        | inr q ↦ rw (ne_eqb s.count 0 q, end_state) (some-totalled q (roomy w l xs s e))
+      ]
 
 -- a plan under way has totals
 pub reached-totalled : (w : ℕ) (s : State) → w ≤ 255 → IsReached w s → Totalled w (end_state fixed w s)

@@ -1,14 +1,7 @@
 -- The root: the one block of the starting size at 0, or the fewest rows that reach the last block's end.
-use Rattle.std.specs.Prelude.{Ok}
-use Prim.Native.Nat.{ℕ, suc, ◌+◌, ◌-◌, ◌^◌, ◌≤◌, ◌<◌}
-use mathlib.Core.Path.{◌≡◌, refl, sym, ap, ap₂, ◌∙◌, subst}
-use mathlib.Core.Logic.{◌⊎◌, inl, inr, ⊎_elim}
-use mathlib.Core.List.{List, [], ◌∷◌}
-use native.Mathlib.Omega.{arith}
-use native.Mathlib.Decide.{ℕ_discrete}
-use native.Mathlib.Numerals.{add-one}
-use lib.ListN.{length, get_or}
-use borrow.Author.Tests.{eq-eqb, ne_eqb}
+use Rattle.std.proofs.Common.{◌≡◌, ℕ, suc, ◌-◌, ◌^◌, ◌<◌, ◌≤◌, ◌⊎◌, List, [], ◌∷◌, slice_index, Ok, sym, refl, ap, ◌∙◌, inl, inr, ⊎_elim, arith}
+use Rattle.std.proofs.lemmas.Bool.{cases_eq}
+use Rattle.std.proofs.lemmas.Bool.Decides.{nat_tests}
 use Rattle.fields.proofs.Widths.{legal-small}
 use Rattle.table.specs.Table.{fixed, row_bits, row_offset, row_in, row_of}
 use Rattle.table.specs.Slots.{Direct, slot_bits_in, slot_bits, slot_at}
@@ -33,11 +26,11 @@ use Rattle.plan.proofs.Laying.{filled_to, Blocks, blocks, still-ok, starts-some,
 module _ (w : ℕ) (s : State) where
   totals-bare : block_end s ≡ 1024 → totals fixed w s ≡ bare_totals fixed w s
   unfolding totals
-  totals-bare h = rw (eq-eqb (rows_of_root fixed (block_end s)) 0 (no_rows (block_end s) h))
+  totals-bare h = grind (arith, nat_tests, no_rows (block_end s) h)
 
   totals-rows : (n : ℕ) → rows_of_root fixed (block_end s) ≡ suc n → totals fixed w s ≡ row_totals fixed w s (suc n)
   unfolding totals
-  totals-rows n e = rw (ne_eqb (rows_of_root fixed (block_end s)) 0 (λ z. omega arith)) (ap (row_totals fixed w s) e)
+  totals-rows n e = grind (arith, nat_tests)
 
 -- ---- the two shapes of a root
 
@@ -76,89 +69,69 @@ pub starts_none : (w : ℕ) → plan_starts fixed w [] ≡ 0 ∷ []
 unfolding plan_starts
 starts_none w = refl
 
-shape-none : (w : ℕ) (p : ManagedPlan) → w ≤ 8 → (G : Went w [] p) → Bare w [] p G.state
-shape-none w p l G =
-    let i = empty-state w G.state G.ran in
-    let e : p ≡ bare_totals fixed w (one_block fixed w) =
-    G.totals-is ∙ ap (λ (y : State). totals fixed w (end_state fixed w y)) (sym i) ∙ ap (totals fixed w) (closed_none w) ∙ totals-bare w (one_block fixed w) refl in
-    let h = header_is w in
-    let u = ap (λ (y : State). y.used) i in
-    record {
-      rows = ap (λ (y : ManagedPlan). y.root_rows) e;
-      managed = ap (λ (y : ManagedPlan). y.managed_space) e;
-      free = ap (λ (y : ManagedPlan). y.free_space) e ∙ ap (λ (y : ℕ). 1024 - direct_header fixed w - y) u;
-      iterator = ap (λ (y : ManagedPlan). y.allocation_iterator) e;
-      blocks = starts_none w;
-      inside = subst (λ (y : State). filled_to y ≤ 1024) i (omega arith);
-    }
+shape-none : (w : ℕ) (p : ManagedPlan) → w ≤ 8 → (went : Went w [] p) → Bare w [] p went.state
+shape-none w p l went =
+    grind (
+      arith,
+      empty-state w went.state went.ran,
+      closed_none w,
+      starts_none w,
+      totals-bare w (one_block fixed w),
+      header_is w,
+    )
 
 -- ---- some objects
 
-module _ (w x : ℕ) (xs : List ℕ) (p : ManagedPlan) (s : State) (ran : run fixed w (x ∷ xs) ≡ Ok s) (is : p ≡ totals fixed w (end_state fixed w s)) where
+module _ (w x : ℕ) (xs : List ℕ) (p : ManagedPlan) (s : State) (ran : run fixed w (x ∷ xs) ≡ Ok s)
+    (is : p ≡ totals fixed w (end_state fixed w s)) where
   placed : Blocks fixed w (plan_starts fixed w (x ∷ xs)) s
-  placed = subst (λ (bs : List ℕ). Blocks fixed w bs s) (sym (starts-some w (x ∷ xs) (omega arith))) (blocks (ran-laid w (x ∷ xs) s ran))
+  placed = rw (starts-some w (x ∷ xs) (omega arith)) (blocks (ran-laid w (x ∷ xs) s ran))
 
   -- some block is placed, so the totals are those of the last state
   totals-some : p ≡ totals fixed w s
   unfolding end_state
-  totals-some = is ∙ ap (totals fixed w) (let c = placed.counted in rw (ne_eqb s.count 0 (λ z. omega arith)))
+  totals-some = grind (arith, nat_tests, placed.counted)
 
   least : 1024 ≤ s.size
   least = slot-least fixed (omega arith) placed.block.slot
 
   some-bare : block_end s ≡ 1024 → Bare w (x ∷ xs) p s
-  some-bare h =
-      let e = totals-some ∙ totals-bare w s h in
-      let l = least in
-      let f = placed.block.full in
-      record {
-        rows = ap (λ (y : ManagedPlan). y.root_rows) e;
-        managed = ap (λ (y : ManagedPlan). y.managed_space) e;
-        free = ap (λ (y : ManagedPlan). y.free_space) e;
-        iterator = ap (λ (y : ManagedPlan). y.allocation_iterator) e;
-        blocks = placed.only (omega arith);
-        inside = omega arith;
-      }
+  some-bare h = grind (arith, totals-some, totals-bare w s h, least, placed.block.full, placed.only)
 
   some-rows : (block_end s ≡ 1024 → ⊥) → Rowed w (x ∷ xs) p s
   some-rows h =
       let l = least in
-      let f = placed.block.full in
-      let u = (still-ok (ran-ok w) (ran-laid w (x ∷ xs) s ran)).heap in
+      let full = placed.block.full in
+      let heap = (still-ok (ran-ok w) (ran-laid w (x ∷ xs) s ran)).heap in
       let m = block_end s - 1 in
       let n = row_of fixed m in
       let n29 = row-29 m (omega arith) in
       let lo = row-lo fixed m in
       let up = row_up fixed m (heap-rows fixed m (omega arith)) in
-      let e = totals-some ∙ totals-rows w s n (rows_of_end (block_end s) h (omega arith) u) in
-      let r : p.root_rows ≡ suc n = ap (λ (y : ManagedPlan). y.root_rows) e in
-      let it : p.allocation_iterator ≡ block_end s = ap (λ (y : ManagedPlan). y.allocation_iterator) e in
-      let la = placed.last in
+      let e = totals-some ∙ totals-rows w s n (rows_of_end (block_end s) h (omega arith) heap) in
+      let rows : p.root_rows ≡ suc n = ap (λ (y : ManagedPlan). y.root_rows) e in
+      let iterator : p.allocation_iterator ≡ block_end s = ap (λ (y : ManagedPlan). y.allocation_iterator) e in
       record {
         n = n;
-        rows = r;
+        rows = rows;
         managed = ap (λ (y : ManagedPlan). y.managed_space) e;
         free = ap (λ (y : ManagedPlan). y.free_space) e;
         fewest = record {
           n = placed.n;
-          last = placed.many ∙ sym (add-one placed.n);
+          is_last = omega (arith, placed.many);
           size = s.size;
-          slot = subst (λ (y : ℕ). Direct fixed 29 y s.size) (sym la) (slot-fixed placed.block.slot);
-          end = omega arith;
-          reach = (let q = ap (row_offset fixed) r in omega arith);
-          fewest = λ j k. (let q = row-mono fixed j n (omega arith) in omega arith);
+          slot = rw placed.last (slot-fixed placed.block.slot);
+          iterator_at_end = omega (arith, placed.last);
+          rows_reach = grind arith;
+          fewer_do_not = λ j k. omega (arith, row-mono fixed j n (omega arith));
         };
-        other = λ z. h (sym it ∙ z);
+        other = λ z. h (sym iterator ∙ z);
         heap = unfold row_offset in row-mono fixed (suc n) 29 n29;
         inside = omega arith;
       }
 
   shape-some : Bare w (x ∷ xs) p s ⊎ Rowed w (x ∷ xs) p s
-  shape-some = go (ℕ_discrete (block_end s) 1024)
-    where
-      go : Dec (block_end s ≡ 1024) → Bare w (x ∷ xs) p s ⊎ Rowed w (x ∷ xs) p s
-      go (yes h) = inl (some-bare h)
-      go (no h) = inr (some-rows h)
+  shape-some = ⊎_elim (λ h. inl (some-bare h)) (λ h. inr (some-rows h)) (cases_eq (block_end s) 1024)
 
 -- every accepted plan has one of the two
 pub shape : (w : ℕ) (xs : List ℕ) (p : ManagedPlan) → w ≤ 8 → (G : Went w xs p) → Bare w xs p G.state ⊎ Rowed w xs p G.state
@@ -184,7 +157,11 @@ module _ (xs : List ℕ) (o b w : ℕ) (p : ManagedPlan) (e : planned_for xs o b
 
   -- a root without rows is the one placed block, of 1,024 bytes at 0
   pub no-root-rows : p.root_rows ≡ 0 → OneBlock w xs p
-  no-root-rows z = ⊎_elim (λ B. record { blocks = B.blocks; slot = first_slot; managed = B.managed; iterator = B.iterator }) (λ R. absurd (omega (arith, R.rows))) shaped
+  no-root-rows z =
+      ⊎_elim
+      (λ B. record { blocks = B.blocks; slot = first_slot; managed = B.managed; iterator = B.iterator })
+      (λ R. absurd (omega (arith, R.rows)))
+      shaped
 
   -- and where that is the one placed block, the root has no rows
   pub one-block : plan_starts fixed w xs ≡ 0 ∷ [] → p.root_rows ≡ 0
@@ -192,9 +169,7 @@ module _ (xs : List ℕ) (o b w : ℕ) (p : ManagedPlan) (e : planned_for xs o b
     where
       ends : FewestRows w xs p → p.allocation_iterator ≡ 1024
       ends F =
-          let l = F.last in
-          let a = ap length q in
-          let n : F.n ≡ 0 = omega arith in
-          let z : get_or (plan_starts fixed w xs) F.n 0 ≡ 0 = ap₂ (λ (bs : List ℕ) (i : ℕ). get_or bs i 0) q n in
-          let S = fixed-slot (subst (λ (y : ℕ). Direct fixed 29 y F.size) z F.slot) in
-          F.end ∙ ap₂ (λ (a b : ℕ). a + b) z (S.size_is ∙ slot-zero)
+          let n : F.n ≡ 0 = grind (arith, F.is_last) in
+          let at : slice_index (plan_starts fixed w xs) F.n ≡ 0 = rw (q, n) refl in
+          let size = (fixed-slot (rw at at F.slot)).size_is in
+          grind (arith, F.iterator_at_end, slot-zero)

@@ -75,7 +75,7 @@ abbrev pub planned_values : Result ManagedPlan FormatError → List ℕ
 planned_values (Ok p) = numbers p
 planned_values (Err e) = (refusal e).first ∷ (refusal e).second ∷ []
 
--- a lent list at the end: new numbers in front where the plan is accepted, else as it was
-abbrev pub written : Result ManagedPlan FormatError → List ℕ → List ℕ → List ℕ
-written (Ok p) new old = put old 0 new
-written (Err e) new old = old
+-- what a lent list holds after the call: new numbers in front where the plan is accepted, else what it held
+abbrev pub list_after : Result ManagedPlan FormatError → List ℕ → List ℕ → List ℕ
+list_after (Ok p) new old = put old 0 new
+list_after (Err e) new old = old

@@ -1,4 +1,4 @@
--- What the theorems say of a plan.
+-- What the theorems say of a plan. The objects have these sizes, in bytes, and addresses offset_size bytes.
 use Rattle.std.specs.Prelude.{ℕ, ◌+◌, ◌≤◌, ◌<◌, ◌≡◌, ◌↔◌, max, Bool, true, List, [], ◌∷◌, ◌++◌, length, take, slice_index, Ok, Err}
 use Rattle.refusals.specs.declared.FormatError.TheVariants.{HeapSpaceExhausted}
 use Rattle.table.specs.Table.{Table, fixed, row_offset}
@@ -11,121 +11,142 @@ use Rattle.plan.specs.Checks.{input_checked}
 use Rattle.plan.specs.Answer.{planned_for}
 use Rattle.table_laws.specs.Count.{count, InBody}
 
--- x is a byte of the i-th of the objects of sizes xs at these heap offsets: one of the offsets from its own
--- on, as many as its size
-pub record InObject (offsets xs : List ℕ) (i x : ℕ) : Type 0 where
-  pub object : i < length xs
-  pub from : slice_index offsets i ≤ x
-  pub to : x < slice_index offsets i + slice_index xs i
+-- the heap offset at which planning puts the i-th object
+abbrev pub object_start : ℕ → List ℕ → ℕ → ℕ
+object_start offset_size sizes i = slice_index (plan_offsets fixed offset_size sizes) i
 
--- the first k of the sizes xs, in lists of o and b places, are accepted, with the same offsets; where there
--- are some, the blocks too are the first of the whole's
-pub record FrontPart (xs : List ℕ) (w k o b : ℕ) : Type 0 where
+-- the heap offset at which the n-th placed block begins
+abbrev pub block_start : ℕ → List ℕ → ℕ → ℕ
+block_start offset_size sizes n = slice_index (plan_starts fixed offset_size sizes) n
+
+-- the heap offset x is a byte of the i-th of the objects at these heap offsets: one of as many as its size, from its
+-- own on
+pub record InObject (offsets sizes : List ℕ) (i x : ℕ) : Type 0 where
+  pub is_object : i < length sizes
+  pub not_before : slice_index offsets i ≤ x
+  pub not_behind : x < slice_index offsets i + slice_index sizes i
+
+-- and at those where planning puts them
+abbrev pub InPlannedObject : ℕ → List ℕ → ℕ → ℕ → Type 0
+InPlannedObject offset_size sizes i x = InObject (plan_offsets fixed offset_size sizes) sizes i x
+
+-- the first k of the sizes are accepted in lists of so many places, with the same offsets; where there are some, the
+-- blocks too are the first of the whole's
+pub record FrontPart (sizes : List ℕ) (offset_size k offset_places block_places : ℕ) : Type 0 where
   pub plan : ManagedPlan
-  pub accepted : planned_for (take k xs) o b w ≡ Ok plan
-  pub same-offsets : plan_offsets fixed w (take k xs) ≡ take k (plan_offsets fixed w xs)
+  pub accepted : planned_for (take k sizes) offset_places block_places offset_size ≡ Ok plan
+  pub same_offsets : plan_offsets fixed offset_size (take k sizes)
+      ≡ take k (plan_offsets fixed offset_size sizes)
   pub later : List ℕ
-  pub same_blocks : 0 < k → plan_starts fixed w xs ≡ plan_starts fixed w (take k xs) ++ later
+  pub same_blocks : 0 < k
+      → plan_starts fixed offset_size sizes ≡ plan_starts fixed offset_size (take k sizes) ++ later
 
 -- the i-th object lies in the body of a placed block, the n-th, which is a direct slot of the heap
-pub record InPlacedBlock (w : ℕ) (xs : List ℕ) (i : ℕ) : Type 0 where
+pub record InPlacedBlock (offset_size : ℕ) (sizes : List ℕ) (i : ℕ) : Type 0 where
   pub n : ℕ
-  pub placed : n < length (plan_starts fixed w xs)
+  pub placed : n < length (plan_starts fixed offset_size sizes)
   pub size : ℕ
-  pub slot : Direct fixed 29 (slice_index (plan_starts fixed w xs) n) size
-  pub from : slice_index (plan_starts fixed w xs) n + direct_header fixed w ≤ slice_index (plan_offsets fixed w xs) i
-  pub to : slice_index (plan_offsets fixed w xs) i + slice_index xs i ≤ slice_index (plan_starts fixed w xs) n + size
+  pub slot : Direct fixed 29 (block_start offset_size sizes n) size
+  pub past_header : block_start offset_size sizes n + direct_header fixed offset_size
+      ≤ object_start offset_size sizes i
+  pub ends_inside : object_start offset_size sizes i + slice_index sizes i
+      ≤ block_start offset_size sizes n + size
 
--- x lies in the body of a direct slot of the managed space of a heap with n root rows, and in no object
-pub record FreeByte (t : Table) (h n : ℕ) (offsets xs : List ℕ) (x : ℕ) : Type 0 where
-  pub body : InBody t h n x
-  pub free : (i : ℕ) → InObject offsets xs i x → ⊥
+-- the heap offset x lies in the body of a direct slot of the managed space of a heap with so many root rows, past its
+-- header, and in no object
+pub record FreeByte (t : Table) (header rows : ℕ) (offsets sizes : List ℕ) (x : ℕ) : Type 0 where
+  pub in_body : InBody t header rows x
+  pub in_no_object : (i : ℕ) → InObject offsets sizes i x → ⊥
 
--- x is a free byte of the plan p of the sizes xs
+-- x is a free byte of the plan of these sizes
 abbrev pub Free : ℕ → List ℕ → ManagedPlan → ℕ → Type 0
-Free w xs p x = FreeByte fixed (direct_header fixed w) p.root_rows (plan_offsets fixed w xs) xs x
+Free offset_size sizes plan x =
+    FreeByte fixed (direct_header fixed offset_size) plan.root_rows
+    (plan_offsets fixed offset_size sizes) sizes x
 
--- p says how many free bytes there are
-pub record FreeCounted (w : ℕ) (xs : List ℕ) (p : ManagedPlan) : Type 0 where
-  pub below : (x : ℕ) → Free w xs p x → x < p.managed_space
+-- the plan says how many free bytes there are: all lie in the managed space, and a test that passes just them, such as
+-- the one here, passes as many there
+pub record FreeCounted (offset_size : ℕ) (sizes : List ℕ) (plan : ManagedPlan) : Type 0 where
+  pub in_managed_space : (x : ℕ) → Free offset_size sizes plan x → x < plan.managed_space
   pub test : ℕ → Bool
-  pub passes : (x : ℕ) → (test x ≡ true) ↔ Free w xs p x
-  pub counted : count test p.managed_space ≡ p.free_space
-  pub every : (q : ℕ → Bool) → ((x : ℕ) → (q x ≡ true) ↔ Free w xs p x) → count q p.managed_space ≡ p.free_space
+  pub passes_free : (x : ℕ) → (test x ≡ true) ↔ Free offset_size sizes plan x
+  pub passes_as_many : count test plan.managed_space ≡ plan.free_space
+  pub any_as_many : (other : ℕ → Bool)
+      → ((x : ℕ) → (other x ≡ true) ↔ Free offset_size sizes plan x)
+      → count other plan.managed_space ≡ plan.free_space
 
 -- of a plan that is accepted
-pub record PlanKept (xs : List ℕ) (w : ℕ) (p : ManagedPlan) : Type 0 where
+pub record PlanKept (sizes : List ℕ) (offset_size : ℕ) (plan : ManagedPlan) : Type 0 where
   -- each front part plans, with the same offsets, in any lists that 13 lets pass
-  pub front-parts : (k o b : ℕ) → length (take k xs) ≤ o → max 1 (length (take k xs)) ≤ b → FrontPart xs w k o b
+  pub front-parts : (k offset_places block_places : ℕ) → length (take k sizes) ≤ offset_places
+      → max 1 (length (take k sizes)) ≤ block_places
+      → FrontPart sizes offset_size k offset_places block_places
   -- no heap offset is a byte of two objects
-  pub no-shared-byte : (i j x : ℕ) → InObject (plan_offsets fixed w xs) xs i x → InObject (plan_offsets fixed w xs) xs j x → i ≡ j
+  pub no-shared-byte : (i j x : ℕ) → InPlannedObject offset_size sizes i x
+      → InPlannedObject offset_size sizes j x → i ≡ j
   -- each object lies in the body of a placed block
-  pub in-a-body : (i : ℕ) → i < length xs → InPlacedBlock w xs i
+  pub in-a-body : (i : ℕ) → i < length sizes → InPlacedBlock offset_size sizes i
   -- none has a byte in a block header
-  pub no-header-touched : (i x : ℕ) → InObject (plan_offsets fixed w xs) xs i x
-      → (s z : ℕ) → Direct fixed 29 s z → s ≤ x → x < s + direct_header fixed w → ⊥
+  pub no-header-touched : (i x : ℕ) → InPlannedObject offset_size sizes i x → (start size : ℕ)
+      → Direct fixed 29 start size → start ≤ x → x < start + direct_header fixed offset_size → ⊥
   -- the free space is the number of heap offsets in bodies and in no object
-  pub free-space : FreeCounted w xs p
-
--- whatever planning accepts keeps its objects apart
-abbrev pub PlansKept : Type 0
-PlansKept = (xs : List ℕ) (o b w : ℕ) (p : ManagedPlan) → planned_for xs o b w ≡ Ok p → PlanKept xs w p
+  pub free-space : FreeCounted offset_size sizes plan
 
 -- the lists of the whole let each front part pass
 abbrev pub FrontPartsFit : Type 0
 FrontPartsFit =
-    (xs : List ℕ) (o b w : ℕ) (p : ManagedPlan) → planned_for xs o b w ≡ Ok p → (k : ℕ) → FrontPart xs w k o b
+    (sizes : List ℕ) (offset_places block_places offset_size : ℕ) (plan : ManagedPlan)
+    → planned_for sizes offset_places block_places offset_size ≡ Ok plan
+    → (k : ℕ) → FrontPart sizes offset_size k offset_places block_places
 
--- after the sizes before it, the i-th fits neither the rest of the current block nor any direct slot that
--- begins at or after that block's end
-pub record NoSlotFits (w : ℕ) (xs : List ℕ) (i : ℕ) : Type 0 where
-  pub object : i < length xs
+-- after the sizes before it, the i-th fits neither the rest of the current block nor any direct slot that begins at or
+-- after that block's end
+pub record NoSlotFits (offset_size : ℕ) (sizes : List ℕ) (i : ℕ) : Type 0 where
+  pub is_object : i < length sizes
   pub state : State
-  pub before : run fixed w (take i xs) ≡ Ok state
-  pub not-here : state.size < state.fill + slice_index xs i
-  pub nowhere : (c z : ℕ) → Direct fixed 29 c z → block_end state ≤ c → z < direct_header fixed w + slice_index xs i
+  pub state_before : run fixed offset_size (take i sizes) ≡ Ok state
+  pub not_in_block : state.size < state.fill + slice_index sizes i
+  pub not_in_later : (start size : ℕ) → Direct fixed 29 start size → block_end state ≤ start
+      → size < direct_header fixed offset_size + slice_index sizes i
 
 -- the answer is 12 at the i-th object exactly if the tests before pass and no slot that is left fits it
 abbrev pub EndsIffNoneFits : Type 0
 EndsIffNoneFits =
-    (xs : List ℕ) (o b w i : ℕ) → (planned_for xs o b w ≡ Err (HeapSpaceExhausted i)) ↔ ((input_checked xs o b w ≡ Ok tt) × NoSlotFits w xs i)
+    (sizes : List ℕ) (offset_places block_places offset_size i : ℕ)
+    → (planned_for sizes offset_places block_places offset_size ≡ Err (HeapSpaceExhausted i))
+    ↔ ((input_checked sizes offset_places block_places offset_size ≡ Ok tt)
+    × NoSlotFits offset_size sizes i)
 
 -- the root's rows reach the end of the last placed block, the n-th, which is the iterator, and fewer do not
-pub record FewestRows (w : ℕ) (xs : List ℕ) (p : ManagedPlan) : Type 0 where
+pub record FewestRows (offset_size : ℕ) (sizes : List ℕ) (plan : ManagedPlan) : Type 0 where
   pub n : ℕ
-  pub last : length (plan_starts fixed w xs) ≡ n + 1
+  pub is_last : length (plan_starts fixed offset_size sizes) ≡ n + 1
   pub size : ℕ
-  pub slot : Direct fixed 29 (slice_index (plan_starts fixed w xs) n) size
-  pub end : p.allocation_iterator ≡ slice_index (plan_starts fixed w xs) n + size
-  pub reach : p.allocation_iterator ≤ row_offset fixed p.root_rows
-  pub fewest : (m : ℕ) → m < p.root_rows → row_offset fixed m < p.allocation_iterator
+  pub slot : Direct fixed 29 (block_start offset_size sizes n) size
+  pub iterator_at_end : plan.allocation_iterator ≡ block_start offset_size sizes n + size
+  pub rows_reach : plan.allocation_iterator ≤ row_offset fixed plan.root_rows
+  pub fewer_do_not : (m : ℕ) → m < plan.root_rows → row_offset fixed m < plan.allocation_iterator
 
 -- the root is the one placed block, of the starting size at 0
-pub record OneBlock (w : ℕ) (xs : List ℕ) (p : ManagedPlan) : Type 0 where
-  pub blocks : plan_starts fixed w xs ≡ 0 ∷ []
+pub record OneBlock (offset_size : ℕ) (sizes : List ℕ) (plan : ManagedPlan) : Type 0 where
+  pub blocks : plan_starts fixed offset_size sizes ≡ 0 ∷ []
   pub slot : Direct fixed 29 0 1024
-  pub managed : p.managed_space ≡ 1024
-  pub iterator : p.allocation_iterator ≡ 0
+  pub managed : plan.managed_space ≡ 1024
+  pub iterator : plan.allocation_iterator ≡ 0
 
 -- a root of some rows has the fewest, one of none is the one placed block, and that block is such a root
-pub record RootFits (w : ℕ) (xs : List ℕ) (p : ManagedPlan) : Type 0 where
-  pub rows : 0 < p.root_rows → FewestRows w xs p
-  pub bare : p.root_rows ≡ 0 → OneBlock w xs p
-  pub only : plan_starts fixed w xs ≡ 0 ∷ [] → p.root_rows ≡ 0
-
-abbrev pub RootsFit : Type 0
-RootsFit = (xs : List ℕ) (o b w : ℕ) (p : ManagedPlan) → planned_for xs o b w ≡ Ok p → RootFits w xs p
+pub record RootFits (offset_size : ℕ) (sizes : List ℕ) (plan : ManagedPlan) : Type 0 where
+  pub rows_are_fewest : 0 < plan.root_rows → FewestRows offset_size sizes plan
+  pub no_rows_one_block : plan.root_rows ≡ 0 → OneBlock offset_size sizes plan
+  pub one_block_no_rows : plan_starts fixed offset_size sizes ≡ 0 ∷ [] → plan.root_rows ≡ 0
 
 -- the sizes of the direct slots at these starts together
 unfoldable pub sizes_at : Table → List ℕ → ℕ
 sizes_at t [] = 0
 sizes_at t (b ∷ bs) = (slot_at t b).size + sizes_at t bs
 
--- every object has an offset, and p says how many blocks are placed and how large they are together
-pub record Tallied (w : ℕ) (xs : List ℕ) (p : ManagedPlan) : Type 0 where
-  pub offsets : length (plan_offsets fixed w xs) ≡ length xs
-  pub blocks : p.block_count ≡ length (plan_starts fixed w xs)
-  pub allocated : p.allocated_space ≡ sizes_at fixed (plan_starts fixed w xs)
-
-abbrev pub PlansTallied : Type 0
-PlansTallied = (xs : List ℕ) (o b w : ℕ) (p : ManagedPlan) → planned_for xs o b w ≡ Ok p → Tallied w xs p
+-- every object has an offset, and the plan says how many blocks are placed and how large they are together
+pub record Tallied (offset_size : ℕ) (sizes : List ℕ) (plan : ManagedPlan) : Type 0 where
+  pub offsets : length (plan_offsets fixed offset_size sizes) ≡ length sizes
+  pub blocks : plan.block_count ≡ length (plan_starts fixed offset_size sizes)
+  pub allocated : plan.allocated_space ≡ sizes_at fixed (plan_starts fixed offset_size sizes)

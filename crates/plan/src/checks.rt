@@ -26,8 +26,8 @@ fn check_sizes(sizes: &[u64], limit: u64) -> Result<(), FormatError>
 /// Tests that a list of `lent` places holds `needed` numbers: else 13 with both.
 #[tactic(auto, unfolding(crate::specs::Checks::places_checked))]
 pub fn check_places(needed: usize, lent: usize) -> Result<(), FormatError>
-    ensures value { result ≡ places_checked needed lent }
-    ensures room { OnOk result (needed ≤ lent) }
+    ensures answer { result ≡ places_checked needed lent }
+    ensures long_enough { OnOk result (needed ≤ lent) }
 {
     if needed > lent {
         return Err(FormatError::SliceTooShort {

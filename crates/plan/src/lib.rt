@@ -16,7 +16,7 @@ ghost use Rattle.table.specs.Sizes.{max_managed};
 ghost use Rattle.planner.specs.Requires.{Small};
 ghost use Rattle.plan.specs.End.{end_state};
 ghost use Rattle.plan.specs.Requires.{Totalled};
-ghost use Rattle.plan.specs.Answer.{totals, planned_for, written};
+ghost use Rattle.plan.specs.Answer.{totals, planned_for, list_after};
 
 use crate::checks::check_input;
 use crate::ending::{close, root_rows};
@@ -26,7 +26,7 @@ use planner::{Counted, Planner, State, Written};
 use refusals::FormatError;
 use table::block_sizes::{direct_block_header, indirect_block_size};
 use table::capacities::{capacity_sum, rows_capacity};
-use table::row_offset;
+use table::{STARTING_BLOCK_SIZE, row_offset};
 
 /// What planning says of a heap, in bytes but for two counts. The last four are fields of the heap header (HDF5 File
 /// Format Specification 3.0, III.G, 'Fractal Heap Header').
@@ -46,41 +46,42 @@ pub struct ManagedPlan {
     pub allocation_iterator: u64,
 }
 
-// What the heap header says of a plan that ends in the state `s`.
-fn totals(s: State, offset_size: u8) -> ManagedPlan
-    requires { Totalled offset_size s }
-    ensures { result ≡ totals fixed offset_size s }
+// What the heap header says of a plan that ends in this state.
+fn totals(state: State, offset_size: u8) -> ManagedPlan
+    requires { Totalled offset_size state }
+    ensures { result ≡ totals fixed offset_size state }
 {
-    let end = s.start + s.size;
+    let end = state.start + state.size;
     let rows = root_rows(end);
     if rows == 0 {
         return ManagedPlan {
             block_count: 1,
-            region_size: 1024,
+            region_size: STARTING_BLOCK_SIZE,
             root_rows: 0,
             root_place: 0,
-            managed_space: 1024,
-            allocated_space: 1024,
-            free_space: 1024 - direct_block_header(offset_size) - s.used,
+            managed_space: STARTING_BLOCK_SIZE,
+            allocated_space: STARTING_BLOCK_SIZE,
+            free_space: STARTING_BLOCK_SIZE - direct_block_header(offset_size) - state.used,
             allocation_iterator: 0,
         };
     }
     let capacity = capacity_sum(rows_capacity(offset_size), rows as usize);
     let managed = row_offset(rows);
     ManagedPlan {
-        block_count: s.count,
-        region_size: s.indirect + indirect_block_size(rows, offset_size) + s.allocated,
+        block_count: state.count,
+        region_size: state.indirect + indirect_block_size(rows, offset_size) + state.allocated,
         root_rows: rows,
-        root_place: s.indirect,
+        root_place: state.indirect,
         managed_space: managed,
-        allocated_space: s.allocated,
-        free_space: capacity - s.used,
+        allocated_space: state.allocated,
+        free_space: capacity - state.used,
         allocation_iterator: end,
     }
 }
 
-/// The plan for lists of `offsets` and `blocks` places, or 13, 11 or 12, in this order; nothing is written.
-#[tactic(auto, unfolding(crate::specs::Answer::planned_for))]
+/// The plan for lists of `offsets` and `blocks` places, or 13, 11 or 12, in this order; nothing is written, so that a
+/// refusal leaves the lists as they were. The writer calls it too.
+#[tactic(auto, unfolding(crate::specs::Answer::planned_for, planner::specs::Steps::run))]
 pub fn planned_for(
     sizes: &[u64],
     offsets: usize,
@@ -111,6 +112,7 @@ pub fn write_lists(sizes: &[u64], offsets: &mut [u64], blocks: &mut [u64], offse
     if sizes.is_empty() {
         blocks[0] = 0;
     }
+    // Where the heap space ended, the lists would hold what was placed before; an accepted plan has no end.
     let _ = Planner::new(offset_size).extend::<Written>(sizes, offsets, blocks);
 }
 
@@ -132,6 +134,8 @@ impl ManagedPlan {
     /// Lays out objects of these sizes, in bytes, for addresses of `offset_size` bytes. Each object's heap offset and
     /// each placed block's start go into the lent lists. A refusal, 2, 13 for `offsets`, 13 for `blocks`, 11 or 12,
     /// the first that applies, leaves both as they were.
+    //
+    // The sizes are planned twice: once without touching a list, which gives 12 or the totals, and then to write them.
     #[tactic(auto, unfolding(crate::specs::Answer::planned_for, crate::specs::Checks::input_checked, crate::specs::Checks::width_checked))]
     pub fn new(
         sizes: &[u64],
@@ -139,12 +143,12 @@ impl ManagedPlan {
         blocks: &mut [u64],
         offset_size: u8,
     ) -> Result<ManagedPlan, FormatError>
-        ensures value { result
+        ensures answer { result
             ≡ planned_for sizes.now (length offsets.old) (length blocks.old) offset_size }
         ensures offsets_after { offsets.new
-            ≡ written result (plan_offsets fixed offset_size sizes.now) offsets.old }
+            ≡ list_after result (plan_offsets fixed offset_size sizes.now) offsets.old }
         ensures blocks_after { blocks.new
-            ≡ written result (plan_starts fixed offset_size sizes.now) blocks.old }
+            ≡ list_after result (plan_starts fixed offset_size sizes.now) blocks.old }
         ensures kept { IfOk result (λ plan. PlanKept sizes.now offset_size plan) }
         ensures root { IfOk result (λ plan. RootFits offset_size sizes.now plan) }
         ensures tallied { IfOk result (λ plan. Tallied offset_size sizes.now plan) }

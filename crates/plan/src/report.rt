@@ -11,7 +11,7 @@ use refusals::{FormatError, Reported};
 #[tactic(auto, unfolding(fields::specs::LittleEndian::put))]
 pub fn put_planned(totals: &mut [u64], answer: Result<ManagedPlan, FormatError>) -> u32
     requires { 8 ≤ length totals.old }
-    ensures value { result ≡ planned_number answer }
+    ensures number { result ≡ planned_number answer }
     ensures totals_after { totals.new ≡ planned_totals totals.old answer }
 {
     match answer {

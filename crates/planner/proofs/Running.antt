@@ -1,21 +1,14 @@
 -- The loops over the sizes, a turn at a time: what is left gives the answer.
-use Rattle.std.specs.Prelude.{Err, None, Ok, Some}
-use Prim.Native.Nat.{ℕ, suc, ◌+◌, ◌*◌, ◌^◌, ◌≤◌, ◌<◌, zero-le}
-use mathlib.Core.Path.{◌≡◌, refl, sym, ap, ◌∙◌}
-use mathlib.Core.Logic.{◌⊎◌, inl, inr}
-use mathlib.Core.List.{List, [], ◌∷◌}
-use native.Mathlib.Omega.{arith}
-use native.Mathlib.Numerals.{add-one}
-use lib.ListN.{length, drop, get_or, drop_of_length-le}
-use lib.Seq.{drop-cons}
-use borrow.Author.Tests.{le-ltb, lt-ltb}
+use Rattle.std.proofs.Common.{◌≡◌, ℕ, suc, ◌+◌, ◌*◌, ◌^◌, ◌<◌, ◌≤◌, List, [], ◌∷◌, length, drop, slice_index, Some, None, Ok, Err, refl, arith}
+use Rattle.std.proofs.lemmas.Bool.Decides.{nat_tests}
+use Rattle.std.proofs.lemmas.List.{drop_more, drop_all}
 use Rattle.table.specs.Table.{Table, fixed}
 use Rattle.table.specs.Sizes.{offset_bytes, direct_header}
 use Rattle.table.proofs.Locating.{entered-small}
-use Rattle.planner.specs.Steps.{block_end, initial, start_if_new, step_of, run_from, offsets_from, starts_from, run}
+use Rattle.planner.specs.Steps.{block_end, initial, step_of, run_from, offsets_from, starts_from, run}
 use Rattle.planner.specs.Requires.{Bounded}
 use Rattle.planner.specs.declared.State.{State}
-use Rattle.planner.proofs.Stepping.{Sane, Same, New, Placing, step-placed, ok-initial}
+use Rattle.planner.proofs.Stepping.{Sane, Placing, step-placed, ok-initial}
 
 -- ---- one object
 
@@ -23,14 +16,6 @@ module _ (t : Table) (w : ℕ) (s : State) (x : ℕ) (xs : List ℕ) where
   pub run-stops : (i : ℕ) → step_of t w s x ≡ None → run_from t w s (x ∷ xs) i ≡ Err i
   unfolding run_from
   run-stops i e = rw (e, run_from)
-
-  pub offsets-stop-here : step_of t w s x ≡ None → offsets_from t w s (x ∷ xs) ≡ []
-  unfolding offsets_from
-  offsets-stop-here e = rw (e, offsets_from)
-
-  pub starts-stop-here : step_of t w s x ≡ None → starts_from t w s (x ∷ xs) ≡ []
-  unfolding starts_from
-  starts-stop-here e = rw (e, starts_from)
 
   module _ (s' : State) (o : ℕ) (e : step_of t w s x ≡ Some (s', o)) where
     pub run-goes : (i : ℕ) → run_from t w s (x ∷ xs) i ≡ run_from t w s' xs (suc i)
@@ -41,56 +26,55 @@ module _ (t : Table) (w : ℕ) (s : State) (x : ℕ) (xs : List ℕ) where
     unfolding offsets_from
     offsets-go = rw (e, offsets_from)
 
-    starts-go : starts_from t w s (x ∷ xs) ≡ start_if_new s s' (starts_from t w s' xs)
-    unfolding starts_from
-    starts-go = rw (e, starts_from)
-
     pub starts-go-same : s'.count ≤ s.count → starts_from t w s (x ∷ xs) ≡ starts_from t w s' xs
-    starts-go-same u = starts-go ∙ rw (le-ltb s.count s'.count u)
+    unfolding starts_from
+    starts-go-same u = grind (arith, nat_tests)
 
     pub starts-go-new : s.count < s'.count → starts_from t w s (x ∷ xs) ≡ s'.start ∷ starts_from t w s' xs
-    starts-go-new u = starts-go ∙ rw (lt-ltb s.count s'.count u)
+    unfolding starts_from
+    starts-go-new u = grind (arith, nat_tests)
 
 -- ---- one turn of a loop
 
 module _ (t : Table) (w : ℕ) (xs : List ℕ) (s : State) (i : ℕ) (l : i < length xs) where
-  pub run_ends : step_of t w s (get_or xs i 0) ≡ None → run_from t w s (drop i xs) i ≡ Err i
-  run_ends e = ap (λ (ys : List ℕ). run_from t w s ys i) (drop-cons xs i 0 l) ∙ run-stops t w s (get_or xs i 0) (drop (suc i) xs) i e
+  module _ (e : step_of t w s (slice_index xs i) ≡ None) where
+    pub run_ends : run_from t w s (drop i xs) i ≡ Err i
+    unfolding run_from
+    run_ends = grind (arith, drop_more)
 
-  pub offsets-ended : step_of t w s (get_or xs i 0) ≡ None → offsets_from t w s (drop i xs) ≡ []
-  offsets-ended e = ap (offsets_from t w s) (drop-cons xs i 0 l) ∙ offsets-stop-here t w s (get_or xs i 0) (drop (suc i) xs) e
+    pub offsets-ended : offsets_from t w s (drop i xs) ≡ []
+    unfolding offsets_from
+    offsets-ended = grind (arith, drop_more)
 
-  pub starts-ended : step_of t w s (get_or xs i 0) ≡ None → starts_from t w s (drop i xs) ≡ []
-  starts-ended e = ap (starts_from t w s) (drop-cons xs i 0 l) ∙ starts-stop-here t w s (get_or xs i 0) (drop (suc i) xs) e
+    pub starts-ended : starts_from t w s (drop i xs) ≡ []
+    unfolding starts_from
+    starts-ended = grind (arith, drop_more)
 
-  module _ (s' : State) (o : ℕ) (e : step_of t w s (get_or xs i 0) ≡ Some (s', o)) where
+  module _ (s' : State) (o : ℕ) (e : step_of t w s (slice_index xs i) ≡ Some (s', o)) where
     pub run-placed : run_from t w s (drop i xs) i ≡ run_from t w s' (drop (i + 1) xs) (i + 1)
-    run-placed =
-        ap (λ (ys : List ℕ). run_from t w s ys i) (drop-cons xs i 0 l) ∙ run-goes t w s (get_or xs i 0) (drop (suc i) xs) s' o e i
-        ∙ ap (λ (j : ℕ). run_from t w s' (drop j xs) j) (sym (add-one i))
+    unfolding run_from
+    run-placed = grind (arith, drop_more)
 
     pub offsets-placed : offsets_from t w s (drop i xs) ≡ o ∷ offsets_from t w s' (drop (i + 1) xs)
-    offsets-placed =
-        ap (offsets_from t w s) (drop-cons xs i 0 l) ∙ offsets-go t w s (get_or xs i 0) (drop (suc i) xs) s' o e
-        ∙ ap (λ (j : ℕ). o ∷ offsets_from t w s' (drop j xs)) (sym (add-one i))
+    unfolding offsets_from
+    offsets-placed = grind (arith, drop_more)
 
     pub starts-new : s.count < s'.count → starts_from t w s (drop i xs) ≡ s'.start ∷ starts_from t w s' (drop (i + 1) xs)
-    starts-new u =
-        ap (starts_from t w s) (drop-cons xs i 0 l) ∙ starts-go-new t w s (get_or xs i 0) (drop (suc i) xs) s' o e u
-        ∙ ap (λ (j : ℕ). s'.start ∷ starts_from t w s' (drop j xs)) (sym (add-one i))
+    unfolding starts_from
+    starts-new u = grind (arith, nat_tests, drop_more)
 
 module _ (t : Table) (w : ℕ) (xs : List ℕ) (s : State) (i : ℕ) (l : length xs ≤ i) where
   pub run-done : run_from t w s (drop i xs) i ≡ Ok s
   unfolding run_from
-  run-done = ap (λ (ys : List ℕ). run_from t w s ys i) (drop_of_length-le xs l)
+  run-done = grind (arith, drop_all)
 
   pub offsets-done : offsets_from t w s (drop i xs) ≡ []
   unfolding offsets_from
-  offsets-done = ap (offsets_from t w s) (drop_of_length-le xs l)
+  offsets-done = grind (arith, drop_all)
 
   pub starts-done : starts_from t w s (drop i xs) ≡ []
   unfolding starts_from
-  starts-done = ap (starts_from t w s) (drop_of_length-le xs l)
+  starts-done = grind (arith, drop_all)
 
 -- ---- the states on the way, at the fixed table
 
@@ -99,28 +83,18 @@ pub record Sound (w : ℕ) (s : State) : Type 0 where
   pub deep : s.indirect ≤ s.count * 2 ^ 24
 
 pub sound-initial : (w : ℕ) → Sound w (initial fixed w)
-sound-initial w = record { ok = ok-initial fixed w (omega arith); deep = zero-le }
+sound-initial w = record { ok = ok-initial fixed w (omega arith); deep = omega arith }
 
 pub sound-bounded : (w : ℕ) (s : State) → w ≤ 255 → Sound w s → Bounded s
 unfolding direct_header offset_bytes
-sound-bounded w s l S =
-    let I = S.ok in
-    let i1 = I.heap in let i3 = I.fits in let i4 = I.spent in let i5 = I.taken in let i6 = I.blocks in let d = S.deep in
-    record { heap = i1; filling = omega arith; blocks = omega arith; spent = omega arith; objects = omega arith; between = omega arith }
+sound-bounded w s l S = grind arith
 
 module _ (w : ℕ) (s : State) (x : ℕ) (s' : State) (o : ℕ) (l : w ≤ 255) (S : Sound w s) (e : step_of fixed w s x ≡ Some (s', o)) where
   pub placing : Placing fixed w s x s' o
   placing = step-placed fixed (omega arith) (omega arith) w s x S.ok s' o e
 
   pub sound-step : Sound w s'
-  sound-step = record { ok = placing.ok; deep = go placing.way }
-    where
-      d : s.indirect ≤ s.count * 2 ^ 24
-      d = S.deep
-
-      go : Same s s' o ⊎ New fixed w s s' o → s'.indirect ≤ s'.count * 2 ^ 24
-      go (inl n) = let a = n.count-is in let b = n.indirect-is in let z = d in omega arith
-      go (inr n) = let a = n.count-is in let b = n.indirect-is in let z = d in let k = entered-small w (block_end s) s'.start l in omega arith
+  sound-step = grind (arith, placing, entered-small w (block_end s) s'.start l)
 
 -- ---- planning without lists
 
@@ -131,15 +105,13 @@ pub record Going (w : ℕ) (xs : List ℕ) (s : State) (i : ℕ) : Type 0 where
 
 pub going_start : (w : ℕ) (xs : List ℕ) → Going w xs (initial fixed w) 0
 unfolding run
-going_start w xs = record { inside = zero-le; sound = sound-initial w; rest = refl }
+going_start w xs = record { inside = omega arith; sound = sound-initial w; rest = refl }
 
 module _ (w : ℕ) (xs : List ℕ) (s : State) (i : ℕ) (I : Going w xs s i) where
-  pub going_on : w ≤ 255 → i < length xs → (s' : State) (o : ℕ) → step_of fixed w s (get_or xs i 0) ≡ Some (s', o) → Going w xs s' (i + 1)
-  going_on b l s' o e = record {
-    inside = omega arith;
-    sound = sound-step w s (get_or xs i 0) s' o b I.sound e;
-    rest = I.rest ∙ run-placed fixed w xs s i l s' o e;
-  }
+  pub going_on : w ≤ 255 → i < length xs → (s' : State) (o : ℕ) → step_of fixed w s (slice_index xs i) ≡ Some (s', o)
+      → Going w xs s' (i + 1)
+  going_on b l s' o e =
+      grind (arith, sound-step w s (slice_index xs i) s' o b I.sound e, run-placed fixed w xs s i l s' o e)
 
-  pub going-ends : i < length xs → step_of fixed w s (get_or xs i 0) ≡ None → run fixed w xs ≡ Err i
-  going-ends l e = I.rest ∙ run_ends fixed w xs s i l e
+  pub going-ends : i < length xs → step_of fixed w s (slice_index xs i) ≡ None → run fixed w xs ≡ Err i
+  going-ends l e = grind (arith, run_ends fixed w xs s i l e)

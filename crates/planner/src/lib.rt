@@ -22,6 +22,9 @@ use table::slot_places::entered_blocks;
 /// Where planning stands, in bytes but for `count`: the current block's heap offset and size, and how far it is filled,
 /// its header counted; how many blocks are placed, and their sizes together; the objects' sizes together; the sizes of
 /// the indirect blocks below the root together.
+//
+// There is no cursor: the next slot to be tried begins where the current block ends, since an object that finds no slot
+// changes nothing.
 #[derive(Clone, Copy)]
 #[repr(C)]
 pub struct State {
@@ -35,7 +38,7 @@ pub struct State {
 }
 
 /// A plan that objects are added to, one by one or many at once, for addresses of `offset_size` bytes. It is always the
-/// plan of some list of sizes.
+/// plan of some list of sizes, so that nothing that is built on it asks for a bound.
 #[derive(Drop)]
 #[repr(C)]
 pub struct Planner {
@@ -48,6 +51,9 @@ pub struct Planner {
 
 impl Planner {
     /// The plan of no objects: no block is placed.
+    //
+    // The current block is one of no bytes, filled past its end by a header: so nothing fits, and the first object opens
+    // a block, be it empty.
     pub fn new(offset_size: u8) -> Planner
         ensures width { result.offset_size ≡ offset_size }
         ensures state { result.state ≡ initial fixed offset_size }
@@ -88,7 +94,11 @@ impl Planner {
         Some(offset)
     }
 
-    /// Adds an object that the current block has no room for: it opens the next slot that is large enough.
+    /// Adds an object that the current block has no room for: it opens the next slot that is large enough. Its heap
+    /// offset, or `None` where the heap space ends, and then nothing changes.
+    //
+    // Indirect blocks are counted as direct ones open: the new one brings those that hold it and begin at or after the
+    // end of the block before.
     #[tactic(auto, using(crate::proofs::Stepping::size_fits))]
     pub fn open(&mut self, size: u64) -> Option<u64>
         requires fits_some_block { size ≤ max_managed fixed self.old.offset_size }
@@ -146,7 +156,10 @@ impl Planner {
 
     /// Adds objects, a block at a time: one that has no room opens a block, and those after it that fit go there too.
     /// Their heap offsets and the starts of the blocks that they open are noted. `Err` is the index of the object at
-    /// which the heap space ends; the plan is then that of the objects before it.
+    /// which the heap space ends, which the original does not report; the plan is then that of the objects before it.
+    //
+    // A step for each object made lists of small ones take over four times the original's time. That planning goes on
+    // after the objects that fit as if they had been placed one by one is `fill` in proofs/FillingBlocks.antt.
     pub fn extend<N: Noting>(
         &mut self,
         sizes: &[u64],

@@ -5,21 +5,25 @@ ghost use Rattle.table.specs.Table.{fixed};
 ghost use Rattle.planner.specs.Steps.{open_at};
 ghost use Rattle.planner.specs.Requires.{InHeap};
 
-use table::Slot;
+use table::{MAX_HEAP_SPACE, Slot};
 use table::slot_places::locate;
 
 /// The first slot from the heap offset `cursor` on, where a slot begins, that has `need` bytes; `None` where the heap
-/// space has none. A slot begins at a multiple of its size, so from one that is too small the search goes on at the
-/// next multiple of the least power of two that is large enough.
+/// space has none.
+//
+// A slot begins at a multiple of its size, so no slot that is large enough begins between two multiples of `span`, the
+// least power of two that holds `need`: from a slot that is too small the search goes on at the next one. The definition
+// tries slot after slot; `jump` in proofs/Jumping.antt proves that both find the same. The mask is the next multiple
+// without a division.
 pub fn find_slot(cursor: u64, need: u64) -> Option<Slot>
     requires cursor_in_heap { cursor ≤ 2 ^ 40 }
     requires need_in_block { need ≤ 65536 }
-    ensures value { result ≡ open_at fixed need cursor }
+    ensures first_large_enough { result ≡ open_at fixed need cursor }
     ensures in_heap { IfSome result InHeap }
 {
     let span = need.next_power_of_two();
     let mut from = cursor;
-    while from < 0x100_0000_0000 {
+    while from < MAX_HEAP_SPACE {
         let slot = locate(from);
         if need <= slot.size {
             return Some(slot);

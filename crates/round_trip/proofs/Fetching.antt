@@ -10,7 +10,7 @@ use Rattle.fields.specs.LittleEndian.{put}
 use Rattle.fields.proofs.LittleEndian.{put_front}
 use Rattle.planner.specs.Steps.{plan_offsets, plan_starts}
 use Rattle.plan.specs.declared.ManagedPlan.{ManagedPlan}
-use Rattle.plan.specs.Answer.{planned_for, written}
+use Rattle.plan.specs.Answer.{planned_for, list_after}
 use Rattle.plan.proofs.Kept.{front-parts-fit}
 use Rattle.region_blocks.specs.declared.Site.{Site}
 use Rattle.fractal_heap.specs.declared.header.FractalHeapHeader.{FractalHeapHeader}
@@ -79,18 +79,18 @@ module _ {xs js os bs F : List ℕ} {site : Site} {p : ManagedPlan} (A : Accepte
 
     -- lists that hold the plan of the whole hold it still
     pub offsets-stay : {o b : ℕ} {now : List ℕ} → o ≡ length os → b ≡ length bs → now ≡ put os 0 (plan_offsets fixed w xs)
-        → written (planned_for (take k xs) o b w) (plan_offsets fixed w (take k xs)) now ≡ put os 0 (plan_offsets fixed w xs)
+        → list_after (planned_for (take k xs) o b w) (plan_offsets fixed w (take k xs)) now ≡ put os 0 (plan_offsets fixed w xs)
     offsets-stay u v n =
         let P = front-parts-fit xs (length os) (length bs) w p plans k in
-        (λ j. written (planned_for (take k xs) (u j) (v j) w) (plan_offsets fixed w (take k xs)) (n j))
-        ∙ rw (P.accepted, P.same-offsets)
+        (λ j. list_after (planned_for (take k xs) (u j) (v j) w) (plan_offsets fixed w (take k xs)) (n j))
+        ∙ rw (P.accepted, P.same_offsets)
         (front-again (plan_offsets fixed w xs) (take k (plan_offsets fixed w xs)) (drop k (plan_offsets fixed w xs)) os (sym (take-append-drop k (plan_offsets fixed w xs))))
 
     pub starts-stay : {o b : ℕ} {now : List ℕ} → o ≡ length os → b ≡ length bs → now ≡ put bs 0 (plan_starts fixed w xs)
-        → written (planned_for (take k xs) o b w) (plan_starts fixed w (take k xs)) now ≡ put bs 0 (plan_starts fixed w xs)
+        → list_after (planned_for (take k xs) o b w) (plan_starts fixed w (take k xs)) now ≡ put bs 0 (plan_starts fixed w xs)
     starts-stay u v n =
         let P = front-parts-fit xs (length os) (length bs) w p plans k in
-        (λ j. written (planned_for (take k xs) (u j) (v j) w) (plan_starts fixed w (take k xs)) (n j))
+        (λ j. list_after (planned_for (take k xs) (u j) (v j) w) (plan_starts fixed w (take k xs)) (n j))
         ∙ rw (P.accepted) (front-again (plan_starts fixed w xs) (plan_starts fixed w (take k xs)) P.later bs (P.same_blocks (omega arith)))
 
 -- a value that is answered, whatever it is

@@ -2,7 +2,7 @@
 ghost use Rattle.std.specs.Prelude.{◌≡◌, ◌+◌, ◌^◌, ◌<◌, ◌≤◌, length, IfOk};
 ghost use Rattle.table.specs.Table.{fixed};
 ghost use Rattle.planner.specs.Steps.{plan_offsets, plan_starts};
-ghost use Rattle.plan.specs.Answer.{planned_for, written};
+ghost use Rattle.plan.specs.Answer.{planned_for, list_after};
 ghost use Rattle.round_trip.specs.Objects.{fixed_header, header_of, object_at};
 ghost use Rattle.round_trip.specs.Early.{early_id};
 
@@ -59,10 +59,10 @@ pub fn early_id(
     ensures answer { result
         ≡ early_id sizes.now i (length offsets.old) (length blocks.old) offset_size }
     ensures offsets_after { offsets.new
-        ≡ written (planned_for sizes.now (length offsets.old) (length blocks.old) offset_size)
+        ≡ list_after (planned_for sizes.now (length offsets.old) (length blocks.old) offset_size)
         (plan_offsets fixed offset_size sizes.now) offsets.old }
     ensures blocks_after { blocks.new
-        ≡ written (planned_for sizes.now (length offsets.old) (length blocks.old) offset_size)
+        ≡ list_after (planned_for sizes.now (length offsets.old) (length blocks.old) offset_size)
         (plan_starts fixed offset_size sizes.now) blocks.old }
 {
     ManagedPlan::new(sizes, offsets, blocks, offset_size)?;

@@ -7,7 +7,7 @@ use Rattle.planner.proofs.Planner.open.Goals as goal
 
 pub returns-in_err-slot-clause-ends : goal.returns-in_err-slot-clause-ends
 returns-in_err-slot-clause-ends c =
-    if_none _ _ (opens-none _ _ _ c.requires.no_room_here _ c.direct_block_header-header.ensures c.in_err-slot.ensures.value)
+    if_none _ _ (opens-none _ _ _ c.requires.no_room_here c.direct_block_header-header.ensures c.in_err-slot.ensures.first_large_enough)
 
 pub overflow_add-self-5 : goal.overflow_add-self-5
 overflow_add-self-5 c =
@@ -16,8 +16,8 @@ overflow_add-self-5 c =
 pub invariant_of-self : goal.invariant_of-self
 invariant_of-self c =
     let r = reached-step _ _ c.args.self.now.reached _ _ _
-    (opens-at _ _ _ c.requires.no_room_here _ c.direct_block_header-header.ensures _ _ c.entered_blocks.ensures c.in_ok-slot.ensures.value) in
+    (opens-at _ _ _ c.requires.no_room_here c.direct_block_header-header.ensures c.entered_blocks.ensures c.in_ok-slot.ensures.first_large_enough) in
     record { reached = r; bounded = reached-bounded _ _ r (omega arith); narrow = c.args.self.now.narrow }
 
 pub returns-clause-placed : goal.returns-clause-placed
-returns-clause-placed c = opens-at _ _ _ c.requires.no_room_here _ c.direct_block_header-header.ensures _ _ c.entered_blocks.ensures c.in_ok-slot.ensures.value
+returns-clause-placed c = opens-at _ _ _ c.requires.no_room_here c.direct_block_header-header.ensures c.entered_blocks.ensures c.in_ok-slot.ensures.first_large_enough

@@ -1,51 +1,41 @@
 -- What is left of `find_slot`: from a slot that is too small, the next multiple of the span loses no slot that fits.
-use Rattle.std.proofs.Common.{◌≤◌, refl, sym, ap, ◌∙◌, subst, arith}
-use Rattle.std.specs.Prelude.{Some}
+use Rattle.std.proofs.Common.{◌∙◌, sym, arith}
 use Rattle.table.specs.Table.{fixed}
-use Rattle.table.specs.declared.Slot.{Slot}
+use Rattle.table.proofs.Slots.{slot-some, end-le}
 use Rattle.planner.proofs.Opening.{open-here, open_full}
-use Rattle.planner.proofs.Stepping.{in_heap}
 use Rattle.planner.proofs.Jumping.{jumped}
 use Rattle.planner.proofs.search.find_slot.Goals as goal
 
-pub returns-then-need-slot-clause-value : goal.returns-then-need-slot-clause-value
-returns-then-need-slot-clause-value c =
-    sym
-    (c.loop-from.invariant.same
-    ∙ open-here fixed _ _ (omega arith) (subst (λ (s : Slot). c.args.need ≤ s.size) c.locate-slot.ensures c.if-need-slot.true)
-    ∙ ap Some (sym c.locate-slot.ensures))
+pub returns-then-need-slot-clause-first_large_enough : goal.returns-then-need-slot-clause-first_large_enough
+returns-then-need-slot-clause-first_large_enough c = grind (arith, open-here fixed c.args.need c.loop-from.from)
 
 pub returns-then-need-slot-clause-in_heap : goal.returns-then-need-slot-clause-in_heap
 returns-then-need-slot-clause-in_heap c =
-    in_heap c.args.need c.loop-from.from _ _
-    (sym
-    (open-here fixed _ _ (omega arith) (subst (λ (s : Slot). c.args.need ≤ s.size) c.locate-slot.ensures c.if-need-slot.true)
-    ∙ ap Some (sym c.locate-slot.ensures)))
-    refl
+    grind (arith, slot-some fixed c.loop-from.from, end-le fixed c.loop-from.from (omega arith) (omega arith))
 
 pub overflow_add-end : goal.overflow_add-end
 overflow_add-end c =
-    let j = jumped c.args.need c.loop-from.from _ c.locate-slot.result c.next_power_of_two-span.ensures.power c.next_power_of_two-span.ensures.upper_bound
-    c.requires.need_in_block c.locate-slot.ensures (omega arith) c.if-need-slot.false in
+    let j = jumped c.next_power_of_two-span.ensures.power c.next_power_of_two-span.ensures.upper_bound c.requires.need_in_block
+    c.locate-slot.ensures c.loop-from-test.true c.if-need-slot.false in
     omega (arith, j.sum)
 
 pub overflow_add-end-in-loop-from : goal.overflow_add-end-in-loop-from
 overflow_add-end-in-loop-from c =
-    let j = jumped c.args.need c.loop-from.from _ c.locate-slot.result c.next_power_of_two-span.ensures.power c.next_power_of_two-span.ensures.upper_bound
-    c.requires.need_in_block c.locate-slot.ensures (omega arith) c.if-need-slot.false in
+    let j = jumped c.next_power_of_two-span.ensures.power c.next_power_of_two-span.ensures.upper_bound c.requires.need_in_block
+    c.locate-slot.ensures c.loop-from-test.true c.if-need-slot.false in
     omega (arith, j.sum)
 
 pub loop-from-smaller : goal.loop-from-smaller
 loop-from-smaller c =
-    let j = jumped c.args.need c.loop-from.from _ c.locate-slot.result c.next_power_of_two-span.ensures.power c.next_power_of_two-span.ensures.upper_bound
-    c.requires.need_in_block c.locate-slot.ensures (omega arith) c.if-need-slot.false in
+    let j = jumped c.next_power_of_two-span.ensures.power c.next_power_of_two-span.ensures.upper_bound c.requires.need_in_block
+    c.locate-slot.ensures c.loop-from-test.true c.if-need-slot.false in
     omega (arith, j.on, j.within)
 
 pub loop-from-preserved : goal.loop-from-preserved
 loop-from-preserved c =
-    let j = jumped c.args.need c.loop-from.from _ c.locate-slot.result c.next_power_of_two-span.ensures.power c.next_power_of_two-span.ensures.upper_bound
-    c.requires.need_in_block c.locate-slot.ensures (omega arith) c.if-need-slot.false in
+    let j = jumped c.next_power_of_two-span.ensures.power c.next_power_of_two-span.ensures.upper_bound c.requires.need_in_block
+    c.locate-slot.ensures c.loop-from-test.true c.if-need-slot.false in
     record { in_heap = j.within; same = c.loop-from.invariant.same ∙ j.same }
 
-pub returns-clause-value : goal.returns-clause-value
-returns-clause-value c = sym (c.loop-from.invariant.same ∙ open_full fixed _ _ c.loop-from-test.false)
+pub returns-clause-first_large_enough : goal.returns-clause-first_large_enough
+returns-clause-first_large_enough c = sym (c.loop-from.invariant.same ∙ open_full fixed _ _ c.loop-from-test.false)

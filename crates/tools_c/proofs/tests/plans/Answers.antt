@@ -8,4 +8,4 @@ pub returns : goal.returns
 returns c accepts k l =
     let zero : c.tools_plan.result ≡ 0 = eqb-true c.tools_plan.result 0 accepts in
     accepted _ _ _ _ (sym c.tools_plan.ensures.number ∙ zero) (c.tools_plan.ensures.kept zero)
-    (λ plan kept. (kept.front-parts k (length (take k c.args.sizes.now)) (max 1 (length (take k c.args.sizes.now))) (omega arith) (omega arith)).same-offsets)
+    (λ plan kept. (kept.front-parts k (length (take k c.args.sizes.now)) (max 1 (length (take k c.args.sizes.now))) (omega arith) (omega arith)).same_offsets)
