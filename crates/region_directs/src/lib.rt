@@ -1,5 +1,4 @@
-//! The direct blocks of a region, in heap order. The objects of a block are contiguous among the joined bytes, so each
-//! block is one copy.
+//! The direct blocks of a region, in heap order.
 #![tactic(auto)]
 
 ghost use Rattle.std.specs.Prelude.{◌≡◌, ◌+◌, ◌≤◌, length};
@@ -14,8 +13,10 @@ ghost use Rattle.region_directs.specs.Directs.{directs_of, opened_of};
 use planner::{Counted, Planner};
 use region_blocks::Site;
 use region_blocks::direct::write_direct_block;
+use table::STARTING_BLOCK_SIZE;
 
 // A direct block of `size` bytes at a place of the region.
+#[tactic(auto, using(region_blocks::proofs::Parts::direct_stored))]
 fn write_at(region: &mut [u8], at: usize, offset: u64, size: usize, objects: &[u8], site: Site)
     requires narrow { site.offset_size ≤ 8 }
     requires size_in_bounds { at + size ≤ length region.old }
@@ -26,8 +27,9 @@ fn write_at(region: &mut [u8], at: usize, offset: u64, size: usize, objects: &[u
     write_direct_block(&mut region[at..at + size], offset, objects, site);
 }
 
-// The blocks of a list with objects: each object that finds no room opens a block, and those after it that fit
-// go there too. What the state has allocated and used says where a block and its objects stand.
+// The blocks of a list with objects: each object that finds no room opens a block, and those after it that fit go there
+// too. They are taken at once, so that each block is one copy, one fill and one checksum. What the state has allocated
+// and used says where a block and its objects stand.
 fn write_placed(sizes: &[u64], objects: &[u8], region: &mut [u8], place: usize, site: Site)
     requires narrow { site.offset_size ≤ 8 }
     requires small { Small (max_managed fixed site.offset_size) sizes.now }
@@ -58,7 +60,9 @@ fn write_placed(sizes: &[u64], objects: &[u8], region: &mut [u8], place: usize, 
     }
 }
 
-/// Writes the direct blocks of a plan of these sizes from `place` on; without objects there is one, at the heap offset 0.
+/// Writes the direct blocks of a plan of these sizes from `place` on; without objects there is one, at the heap offset
+/// 0.
+#[tactic(auto, using(crate::proofs::Lengths::one_or_all))]
 pub fn write_directs(sizes: &[u64], objects: &[u8], region: &mut [u8], place: usize, site: Site)
     requires narrow { site.offset_size ≤ 8 }
     requires small { Small (max_managed fixed site.offset_size) sizes.now }
@@ -69,7 +73,14 @@ pub fn write_directs(sizes: &[u64], objects: &[u8], region: &mut [u8], place: us
     ensures { region.new ≡ stored region.old place (directs_of site sizes.now objects.now) }
 {
     if sizes.len() == 0 {
-        write_at(region, place, 0, 1024, objects, site);
+        write_at(
+            region,
+            place,
+            0,
+            STARTING_BLOCK_SIZE as usize,
+            objects,
+            site,
+        );
         return;
     }
     write_placed(sizes, objects, region, place, site);
