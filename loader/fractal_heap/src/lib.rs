@@ -47,6 +47,9 @@ mod refusal;
 pub use numbers::{count, grouped};
 pub use refusal::Refusal;
 
+use fractal_heap_sys::{
+    fractal_heap_checksum, fractal_heap_decode_managed_id, fractal_heap_read_managed_object,
+};
 use std::fmt;
 
 /// A C function that parses the header first and answers for an ID: see fractal_heap.h.
@@ -61,33 +64,6 @@ type Call = unsafe extern "C" fn(
     slot: *mut u8,
     slot_len: usize,
 ) -> u32;
-
-#[link(name = "fractal_heap_c", kind = "static")]
-unsafe extern "C" {
-    fn fractal_heap_checksum(bytes: *const u8, bytes_len: usize) -> u32;
-    fn fractal_heap_decode_managed_id(
-        file: *const u8,
-        file_len: usize,
-        at: u64,
-        offset_size: u8,
-        length_size: u8,
-        id: *const u8,
-        id_len: usize,
-        slot: *mut u8,
-        slot_len: usize,
-    ) -> u32;
-    fn fractal_heap_read_managed_object(
-        file: *const u8,
-        file_len: usize,
-        at: u64,
-        offset_size: u8,
-        length_size: u8,
-        id: *const u8,
-        id_len: usize,
-        slot: *mut u8,
-        slot_len: usize,
-    ) -> u32;
-}
 
 /// Jenkins' lookup3, the checksum of HDF5's metadata.
 ///
