@@ -13,7 +13,6 @@ mod progress;
 mod quoting;
 mod read;
 mod signals;
-mod superblock;
 mod table;
 mod talk;
 mod write;

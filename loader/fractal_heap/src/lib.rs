@@ -22,7 +22,7 @@
 //! # file.extend(b"gauge 7 was replaced at noon");
 //! # file.resize(146 + 1024, 0);
 //!
-//! // The file's bytes, the position of a heap's header, and the two sizes of the superblock.
+//! // The file's bytes from its superblock on, the address of a heap's header, and the two sizes of the superblock.
 //! let heap = Heap { file: &file, header_at: 0, offset_size: 8, length_size: 8 };
 //! let id = [0x00, 0x16, 0x00, 0x00, 0x00, 0x00, 0x1C, 0x00];
 //!
@@ -37,15 +37,21 @@
 //! # Ok::<(), Error>(())
 //! ```
 //!
+//! The file that a [`Heap`] has begins at its superblock, since HDF5's addresses count from there. In a file with a user
+//! block that is not the file's start, and a heap of the whole file would give other bytes. [`Superblock::find`] finds
+//! it, and [`Superblock::heap`] makes the heap of an address as HDF5 and its tools tell it.
+//!
 //! The library is linked statically. It is looked for where `loader/static_libraries` puts it, or in the folder that the
 //! variable `FRACTAL_HEAP_LIBRARIES` names when this crate is built.
 #![warn(missing_docs)]
 
 mod numbers;
 mod refusal;
+mod superblock;
 
 pub use numbers::{count, grouped};
 pub use refusal::Refusal;
+pub use superblock::Superblock;
 
 use fractal_heap_sys::{
     fractal_heap_checksum, fractal_heap_decode_managed_id, fractal_heap_read_managed_object,
@@ -122,13 +128,12 @@ impl From<Refusal> for Error {
 }
 
 /// A heap in a file: where its header is, and the two sizes that the file's superblock gives.
-///
-/// In a file with a user block, `file` is the file from its superblock on: HDF5's addresses count from there.
+/// [`Superblock::heap`] makes it of a whole file.
 #[derive(Clone, Copy)]
 pub struct Heap<'f> {
-    /// The file's bytes.
+    /// The file's bytes from its superblock on, which is behind the user block where there is one.
     pub file: &'f [u8],
-    /// Where the heap's header is.
+    /// Where the heap's header is in them: its address in HDF5.
     pub header_at: u64,
     /// Bytes of an address: 2, 4 or 8.
     pub offset_size: u8,
