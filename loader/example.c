@@ -249,6 +249,29 @@ static void user_block(const uint8_t *id)
           "lent from its superblock on, the file gives the object");
 }
 
+/* The length of the heap's IDs, which a caller holds an ID to. */
+static void id_lengths(const uint8_t *id)
+{
+    uint8_t slot[16];
+    check(fractal_heap_id_length(file, FILE_LEN, AT) == 8, "the heap's IDs have 8 bytes");
+    check(fractal_heap_read_managed_object(file, FILE_LEN, AT, WIDTH, WIDTH, id, 3, slot, sizeof slot) ==
+                  FRACTAL_HEAP_OK &&
+              get(slot + 8, 8) == 0,
+          "an ID of 3 bytes is no reason for a refusal: 0, and an object of no bytes");
+    check(fractal_heap_id_length(file, AT + 7, AT) == 8 && fractal_heap_id_length(file, AT + 6, AT) == 0,
+          "a file that ends behind the length, or in it: 8, 0");
+    check(fractal_heap_id_length(file, FILE_LEN, AT + 1) == 0 &&
+              fractal_heap_id_length(file, FILE_LEN, FILE_LEN) == 0 &&
+              fractal_heap_id_length(file, FILE_LEN, UINT64_MAX) == 0 && fractal_heap_id_length(NULL, 0, 0) == 0,
+          "no header there: 0");
+    file[AT + 4] = 1;
+    check(fractal_heap_id_length(file, FILE_LEN, AT) == 0, "another version: 0");
+    file[AT + 4] = 0;
+    file[AT + 6] = 1;
+    check(fractal_heap_id_length(file, FILE_LEN, AT) == 264, "a length has two bytes");
+    file[AT + 6] = 0;
+}
+
 /* No bytes at no address: one by one, and all together. */
 static void nulls(call *function, const uint8_t *id)
 {
@@ -276,6 +299,7 @@ int main(void)
     accepted(id);
     refused(id);
     slots(id);
+    id_lengths(id);
     superblocks();
     user_block(id);
     nulls(fractal_heap_decode_managed_id, id);

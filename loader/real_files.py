@@ -243,10 +243,13 @@ def check_command_behind(name, block, heap, heap_id, due):
 
 
 def check_example(program, name, heap, objects):
-    """An example, in C or in Rust, which is told the heap's address alone, prints each object's bytes."""
+    """An example, in C or in Rust, which is told the heap's address alone, prints each object's bytes, and nothing by an
+    ID that was cut short."""
     for heap_id, due in objects:
         run = subprocess.run([program, name, str(heap.address), heap_id.hex()], capture_output=True)
         expect((run.returncode, run.stdout) == (0, due), f"{program} {name} {heap_id.hex()}: {run}")
+    run = subprocess.run([program, name, str(heap.address), objects[0][0][:3].hex()], capture_output=True)
+    expect((run.returncode, run.stdout) == (1, b"") and b"the heap's IDs" in run.stderr, f"a short ID: {run}")
 
 
 def check_behind(programs, name, block, image, owner, kind, counts):

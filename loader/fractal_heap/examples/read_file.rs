@@ -4,6 +4,7 @@
 use fractal_heap::Superblock;
 use std::error::Error;
 use std::io::Write;
+use std::process::ExitCode;
 use std::{env, fs, io};
 
 fn id_of(digits: &str) -> Result<Vec<u8>, Box<dyn Error>> {
@@ -17,9 +18,8 @@ fn id_of(digits: &str) -> Result<Vec<u8>, Box<dyn Error>> {
         .collect::<Result<_, _>>()?)
 }
 
-fn main() -> Result<(), Box<dyn Error>> {
-    let words: Vec<String> = env::args().collect();
-    let [_, name, address, ids @ ..] = &words[..] else {
+fn print(words: &[String]) -> Result<(), Box<dyn Error>> {
+    let [_, name, address, ids @ ..] = words else {
         return Err("read_file FILE ADDRESS ID...".into());
     };
     let file = fs::read(name)?;
@@ -31,4 +31,13 @@ fn main() -> Result<(), Box<dyn Error>> {
         io::stdout().write_all(heap.read_managed_object(&id_of(digits)?)?)?;
     }
     Ok(())
+}
+
+fn main() -> ExitCode {
+    let words: Vec<String> = env::args().collect();
+    let Err(error) = print(&words) else {
+        return ExitCode::SUCCESS;
+    };
+    eprintln!("read_file: {error}");
+    ExitCode::FAILURE
 }

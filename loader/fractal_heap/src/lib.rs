@@ -29,6 +29,10 @@
 //! assert_eq!(heap.decode_managed_id(&id)?, (22, 28));
 //! assert_eq!(heap.read_managed_object(&id)?, b"gauge 7 was replaced at noon");
 //!
+//! // An ID that was cut short, which the C functions would take for another one.
+//! assert_eq!(heap.heap_id_length()?, 8);
+//! assert_eq!(heap.read_managed_object(&id[..3]), Err(Error::IdLength { length: 3, due: 8 }));
+//!
 //! // The same file, cut inside of the header.
 //! let cut = Heap { file: &file[..100], ..heap };
 //! let error = cut.read_managed_object(&id).unwrap_err();
@@ -88,6 +92,13 @@ pub fn checksum(bytes: &[u8]) -> u32 {
 pub enum Error {
     /// The library refused the call.
     Refused(Refusal),
+    /// The ID has not as many bytes as the heap's IDs: one that was cut short would be read as another ID.
+    IdLength {
+        /// Bytes of the ID.
+        length: usize,
+        /// Bytes of each ID of the heap.
+        due: u16,
+    },
     /// The library answered with a place outside of the file. It is proved that it does not; this is said where the
     /// proof and what was linked should not be of one piece.
     Outside {
@@ -104,6 +115,11 @@ impl fmt::Display for Error {
     fn fmt(&self, f: &mut fmt::Formatter<'_>) -> fmt::Result {
         match *self {
             Error::Refused(refusal) => refusal.fmt(f),
+            Error::IdLength { length, due } => write!(
+                f,
+                "the ID has {}, and the heap's IDs have {due}",
+                count(length as u64, "byte")
+            ),
             Error::Outside {
                 position,
                 length,
@@ -153,14 +169,39 @@ impl fmt::Debug for Heap<'_> {
     }
 }
 
+/// Where a header has the length of the heap's IDs, behind its signature and version.
+const ID_LENGTH_AT: u64 = 5;
+
 impl<'f> Heap<'f> {
-    /// Offset in the heap and length that a managed ID gives.
-    pub fn decode_managed_id(&self, id: &[u8]) -> Result<(u64, u64), Refusal> {
+    /// How many bytes each ID of the heap has, by a header that is sound.
+    pub fn heap_id_length(&self) -> Result<u16, Refusal> {
+        // An ID of one byte, 0, is a managed object's: what is refused is the header.
+        self.decode_managed_id_of_any_length(&[0])?;
+        let length = self.stored_id_length();
+        Ok(length.expect("a header that is sound is in the file"))
+    }
+
+    /// Offset in the heap and length that a managed ID gives, which must have the length of the heap's IDs.
+    pub fn decode_managed_id(&self, id: &[u8]) -> Result<(u64, u64), Error> {
+        self.check_length(id)?;
+        Ok(self.decode_managed_id_of_any_length(id)?)
+    }
+
+    /// The bytes of a managed object, as they lie in the file, by its ID, which must have the length of the heap's IDs.
+    pub fn read_managed_object(&self, id: &[u8]) -> Result<&'f [u8], Error> {
+        self.check_length(id)?;
+        self.read_managed_object_of_any_length(id)
+    }
+
+    /// As [`decode_managed_id`](Heap::decode_managed_id), by an ID of any length, as the library takes it: what it lacks
+    /// counts as zeros, and a longer one may have a ninth byte that belongs to the object's length.
+    pub fn decode_managed_id_of_any_length(&self, id: &[u8]) -> Result<(u64, u64), Refusal> {
         self.pair(fractal_heap_decode_managed_id, id)
     }
 
-    /// The bytes of a managed object, as they lie in the file.
-    pub fn read_managed_object(&self, id: &[u8]) -> Result<&'f [u8], Error> {
+    /// As [`read_managed_object`](Heap::read_managed_object), by an ID of any length: one of three bytes may give an
+    /// empty object.
+    pub fn read_managed_object_of_any_length(&self, id: &[u8]) -> Result<&'f [u8], Error> {
         let (position, length) = self.pair(fractal_heap_read_managed_object, id)?;
         part(self.file, position, length).ok_or(Error::Outside {
             position,
@@ -169,11 +210,31 @@ impl<'f> Heap<'f> {
         })
     }
 
-    /// As [`read_managed_object`](Heap::read_managed_object), with the number and the slot as the library leaves them:
-    /// 0 or a refusal's number, and in the first 16 bytes of the slot two little-endian numbers, the object's position
+    /// As [`read_managed_object_of_any_length`](Heap::read_managed_object_of_any_length), with the number and the slot as
+    /// the library leaves them: 0 or a refusal's number, and in the first 16 bytes of the slot two little-endian numbers, the object's position
     /// and length or the refusal's values. A shorter slot gives 13 and is left as it was.
     pub fn read_managed_object_into(&self, id: &[u8], slot: &mut [u8]) -> u32 {
         self.ask(fractal_heap_read_managed_object, id, slot)
+    }
+
+    /// What the header says of the IDs' length, if the file has these two bytes; it may not be sound.
+    fn stored_id_length(&self) -> Option<u16> {
+        let at = usize::try_from(self.header_at.checked_add(ID_LENGTH_AT)?).ok()?;
+        let bytes = self.file.get(at..)?.first_chunk()?;
+        Some(u16::from_le_bytes(*bytes))
+    }
+
+    /// Refuses an ID that has not the length of the heap's IDs. Where the header is not sound, it is refused and not the
+    /// ID; where the length is as due, the library will look at the header.
+    fn check_length(&self, id: &[u8]) -> Result<(), Error> {
+        let is_due = |due| usize::from(due) == id.len();
+        if self.stored_id_length().is_some_and(is_due) {
+            return Ok(());
+        }
+        Err(Error::IdLength {
+            length: id.len(),
+            due: self.heap_id_length()?,
+        })
     }
 
     /// The library's answer as it comes: the number, and the two values in the first 16 bytes of the slot.
