@@ -1,13 +1,13 @@
 //! Says where the proved libraries are: in the folder that FRACTAL_HEAP_LIBRARIES names, or where
 //! `loader/static_libraries` puts them.
 use std::env;
-use std::path::{Path, PathBuf};
+use std::path::{self, Path, PathBuf};
 
 /// From this crate's folder in the repository.
 const PUT: &str = "../../../target/staticlib";
 
-/// The folder of the libraries. Cargo runs this in the crate's own folder, so a relative one is joined to the folder in
-/// which cargo was called: the shell's PWD has it.
+/// The folder of the libraries. Cargo runs this in the crate's own folder, so a relative one is joined to the one in which
+/// cargo was called, which the shell's PWD has.
 fn folder() -> PathBuf {
     println!("cargo::rerun-if-env-changed=FRACTAL_HEAP_LIBRARIES");
     let Some(named) = env::var_os("FRACTAL_HEAP_LIBRARIES") else {
@@ -18,7 +18,8 @@ fn folder() -> PathBuf {
     }
     println!("cargo::rerun-if-env-changed=PWD");
     let called_in = env::var_os("PWD").map(PathBuf::from).unwrap_or_default();
-    called_in.join(named)
+    let folder = called_in.join(named);
+    path::absolute(&folder).unwrap_or(folder)
 }
 
 fn main() {
@@ -29,8 +30,8 @@ fn main() {
         println!("cargo::rerun-if-changed={}", library.display());
         if !library.exists() {
             println!(
-                "cargo::warning={} is not there: in the repository `./build` or `loader/static_libraries {name}` makes \
-                 it, and FRACTAL_HEAP_LIBRARIES names the folder where it is elsewhere",
+                "cargo::warning={} is not there: `./build` or `loader/static_libraries {name}` makes it in the \
+                 repository; FRACTAL_HEAP_LIBRARIES names its folder where that is another one",
                 library.display()
             );
         }

@@ -45,8 +45,9 @@
 //! block that is not the file's start, and a heap of the whole file would give other bytes. [`Superblock::find`] finds
 //! it, and [`Superblock::heap`] makes the heap of an address as HDF5 and its tools tell it.
 //!
-//! The library is linked statically. It is looked for where `loader/static_libraries` puts it, or in the folder that the
-//! variable `FRACTAL_HEAP_LIBRARIES` names when this crate is built.
+//! The library is linked statically. In the repository it is looked for where `loader/static_libraries` puts it. A copy of
+//! this crate's folder needs the variable `FRACTAL_HEAP_LIBRARIES` when it is built: the folder that has
+//! `libfractal_heap_c.a`; a relative one counts from where cargo is called.
 #![warn(missing_docs)]
 
 mod numbers;
