@@ -5,9 +5,8 @@ use crate::id::{HeapId, hex};
 use crate::inputs::{self, Bytes, Identity};
 use crate::library::{Header, Kind, kind, parse_header, tiny_object};
 use crate::output::{self, Output};
-use crate::superblock::Superblock;
 use crate::talk::tell;
-use fractal_heap::{Error, Heap, Refusal, count, grouped};
+use fractal_heap::{Error, Heap, Refusal, Superblock, count, grouped};
 use std::collections::HashSet;
 use std::io::{self, Write};
 use std::path::Path;
@@ -178,9 +177,9 @@ fn position(file: &[u8], part: &[u8]) -> u64 {
 impl<'f> Site<'f> {
     /// A managed object, as it lies in the file.
     fn managed(&self, id: &[u8], remarks: &Remarks) -> Result<&'f [u8], Failure> {
-        let (offset, length) = self.heap.decode_managed_id(id)?;
+        let (offset, length) = self.heap.decode_managed_id_of_any_length(id)?;
         let end = offset.saturating_add(length);
-        let read = self.heap.read_managed_object(id);
+        let read = self.heap.read_managed_object_of_any_length(id);
         let bytes = read.map_err(|error| self.not_found(error, end, remarks))?;
         let start = self.base + position(self.heap.file, bytes);
         remarks.tell(&format!(
