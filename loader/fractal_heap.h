@@ -96,9 +96,11 @@ static inline uint32_t fractal_heap_find_superblock(const uint8_t *bytes, size_t
 static inline size_t fractal_heap_id_length(const uint8_t *file, size_t file_len, uint64_t at)
 {
     static const uint8_t begin[5] = {'F', 'R', 'H', 'P', 0}; /* signature and version */
+    size_t length;
     if (at > file_len || file_len - at < 7 || memcmp(file + at, begin, sizeof begin) != 0)
         return 0;
-    return (size_t)file[at + 5] + 256 * (size_t)file[at + 6];
+    length = file[at + 6];
+    return 256 * length + file[at + 5];
 }
 
 /* Jenkins' lookup3 (hashlittle, initial value 0), the checksum of HDF5's metadata. */

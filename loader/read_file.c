@@ -32,13 +32,16 @@ static struct heap heap_in(const uint8_t *bytes, size_t bytes_len, uint64_t addr
 /* The bytes of an ID, which must be as many as the heap's IDs have. */
 static uint8_t *id_of(struct heap heap, const char *hex, size_t *len)
 {
-    *len = strlen(hex) / 2;
-    uint8_t *id = memory(*len);
-    for (size_t i = 0; i < *len; i++)
+    size_t due = fractal_heap_id_length(heap.file, heap.file_len, heap.address);
+    if (due == 0)
+        give_up("no heap is at the address");
+    if (strlen(hex) != 2 * due)
+        give_up("an ID has not the length of the heap's IDs");
+    uint8_t *id = memory(due);
+    for (size_t i = 0; i < due; i++)
         if (sscanf(hex + 2 * i, "%2" SCNx8, id + i) != 1)
             give_up("an ID is not hexadecimal");
-    if (strlen(hex) % 2 != 0 || *len != fractal_heap_id_length(heap.file, heap.file_len, heap.address))
-        give_up("an ID has not the length of the heap's IDs, or no heap is at the address");
+    *len = due;
     return id;
 }
 

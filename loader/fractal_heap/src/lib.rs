@@ -212,8 +212,8 @@ impl<'f> Heap<'f> {
     }
 
     /// As [`read_managed_object_of_any_length`](Heap::read_managed_object_of_any_length), with the number and the slot as
-    /// the library leaves them: 0 or a refusal's number, and in the first 16 bytes of the slot two little-endian numbers, the object's position
-    /// and length or the refusal's values. A shorter slot gives 13 and is left as it was.
+    /// the library leaves them: 0 or a refusal's number, and in the first 16 bytes of the slot two little-endian
+    /// numbers, the object's position and length or the refusal's values. A shorter slot gives 13 and is left as it was.
     pub fn read_managed_object_into(&self, id: &[u8], slot: &mut [u8]) -> u32 {
         self.ask(fractal_heap_read_managed_object, id, slot)
     }

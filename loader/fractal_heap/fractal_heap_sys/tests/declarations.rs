@@ -180,17 +180,20 @@ fn c_functions(text: &str) -> Functions {
         .collect()
 }
 
-/// The numbers that lines give to names of refusals: in Rust behind a type, in C among the words of an enum.
+/// A refusal's name and number, if the line has them: `pub const NAME: u32 = 1;` in Rust, `NAME = 1,` in C's enum.
+fn number(line: &str) -> Option<(String, u32)> {
+    let line = line.trim();
+    let (name, rest) = line
+        .strip_prefix("pub const ")
+        .unwrap_or(line)
+        .split_once(" = ")?;
+    let name = name.strip_suffix(": u32").unwrap_or(name);
+    let digits = rest.split([',', ';', ' ']).next()?;
+    let is_name = name.starts_with("FRACTAL_HEAP_") && !name.contains(' ');
+    is_name.then_some((name.to_owned(), digits.parse().ok()?))
+}
+
 fn numbers(text: &str) -> BTreeMap<String, u32> {
-    let number = |line: &str| {
-        let line = line.trim();
-        let line = line.strip_prefix("pub const ").unwrap_or(line);
-        let (name, number) = line.split_once(" = ")?;
-        let digits: String = number.chars().take_while(char::is_ascii_digit).collect();
-        let name = name.trim_end_matches(": u32");
-        let is_name = name.starts_with("FRACTAL_HEAP_") && !name.contains(' ');
-        is_name.then(|| Some((name.to_owned(), digits.parse().ok()?)))?
-    };
     text.lines().filter_map(number).collect()
 }
 
