@@ -3,7 +3,8 @@
 
 pub mod mixing;
 
-ghost use Rattle.std.specs.Prelude.{◌≡◌, ◌+◌, ◌-◌, ◌*◌, ◌/◌, ◌%◌, ◌^◌, ◌<◌, ◌≤◌, ◌&&◌, length, drop, if◌then◌else◌, nat_le};
+ghost use Rattle.std.specs.Prelude.{◌≡◌, ◌+◌, ◌-◌, ◌*◌, ◌/◌, ◌%◌, ◌^◌, ◌<◌, ◌≤◌, ◌&&◌, length, drop, if◌then◌else◌};
+ghost use Rattle.std.specs.Prelude.{nat_le};
 ghost use Rattle.fields.specs.LittleEndian.{le_at};
 ghost use Rattle.checksum.specs.Words.{add32};
 ghost use Rattle.checksum.specs.Mix.{final_mixed};
@@ -37,6 +38,7 @@ fn add_group(s: State, bytes: &[u8], at: usize) -> State
 }
 
 // A word without its `past` lowest bytes.
+#[tactic(auto, using(crate::proofs::Tails::low_gone))]
 fn drop_low_bytes(x: u32, past: usize) -> u32
     ensures { result ≡ x / 2 ^ (8 * past) }
 {

@@ -1,5 +1,5 @@
-//! Little-endian stores into a lent slice: addresses, tested, a writer that goes through a slice, and two laws, each the
-//! contract of a function.
+//! Little-endian stores into a lent slice: addresses, tested, a writer that goes through a slice, and two laws, each
+//! the contract of a function.
 pub mod writer;
 
 ghost use Rattle.std.specs.Prelude.{◌≡◌, ◌+◌, ◌*◌, ◌%◌, ◌^◌, ◌≤◌, true, length, replicate, Ok, OnOk, OnErr};

@@ -51,6 +51,7 @@ impl<'a> Writer<'a> {
     }
 
     /// Puts a number's four bytes, the lowest first.
+    #[tactic(auto, using(crate::proofs::Writing::le_four))]
     pub fn put_u32(&mut self, number: u32)
         requires room { self.old.at + 4 ≤ length self.old.bytes.now }
         ensures { Puts self.old self.new 4 (le 4 number) }
