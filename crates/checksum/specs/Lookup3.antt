@@ -28,7 +28,7 @@ unfoldable pub run : List ℕ → ℕ → ℕ → State → State
 run bytes p zero s = s
 run bytes p (suc n) s = run bytes (p + 12) n (mixed (grouped bytes p s))
 
--- how often more than 12 of n bytes remain
+-- how often more than 12 of n bytes remain: that this is the loop's count is the law `MixedWhileMore`
 unfoldable pub groups_of : ℕ → ℕ
 groups_of n = (n - 1) / 12
 

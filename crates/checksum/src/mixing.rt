@@ -1,5 +1,5 @@
-//! The mixing of Bob Jenkins' lookup3.c. One line of its macros mix and final is one function here; a state is
-//! its three words.
+//! The mixing of Bob Jenkins' lookup3.c. One line of its macros mix and final is one function here, from a state to a
+//! state; a state is its three words.
 ghost use Rattle.std.specs.Prelude.{◌≡◌};
 ghost use Rattle.checksum.specs.Words.{sub_xor, xor_sub};
 ghost use Rattle.checksum.specs.Mix.{mix_a, mix_b, mix_c, mixed, final_a, final_b, final_c, final_mixed};
