@@ -7,14 +7,18 @@ use Rattle.checksum.specs.Laws.{MixedWhileMore, TailsSwitched}
 use Rattle.checksum.proofs.Switch.{switch-words, tail-group}
 use Rattle.checksum.proofs.Walk.{groups-more, groups_none}
 
-turn-mixed : (bytes : List ℕ) (at : ℕ) (s : State) → 12 < length bytes - at → run bytes at (groups_of (length bytes - at)) s ≡ run bytes (at + 12) (groups_of (length bytes - (at + 12))) (mixed (grouped bytes at s))
+turn-mixed : (bytes : List ℕ) (at : ℕ) (s : State) → 12 < length bytes - at
+    → run bytes at (groups_of (length bytes - at)) s
+    ≡ run bytes (at + 12) (groups_of (length bytes - (at + 12))) (mixed (grouped bytes at s))
 unfolding run
 turn-mixed bytes at s h =
-    let more : groups_of (length bytes - at) ≡ suc (groups_of (length bytes - at - 12)) = groups-more (length bytes - at) h in
+    let more : groups_of (length bytes - at) ≡ suc (groups_of (length bytes - at - 12)) =
+    groups-more (length bytes - at) h in
     let left : length bytes - (at + 12) ≡ length bytes - at - 12 = omega arith in
     rw (more, left)
 
-turns_end : (bytes : List ℕ) (at : ℕ) (s : State) → length bytes - at ≤ 12 → run bytes at (groups_of (length bytes - at)) s ≡ s
+turns_end : (bytes : List ℕ) (at : ℕ) (s : State) → length bytes - at ≤ 12
+    → run bytes at (groups_of (length bytes - at)) s ≡ s
 unfolding run
 turns_end bytes at s h = rw (groups_none (length bytes - at) h)
 

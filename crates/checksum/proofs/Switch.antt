@@ -1,5 +1,6 @@
 -- The switch adds what its tail's bytes are as words, four to each: so a tail is added as a group is.
-use Rattle.std.proofs.Common.{◌≡◌, ℕ, ◌+◌, ◌*◌, ◌^◌, ◌<◌, ◌≤◌, List, [], ◌∷◌, length, take, drop, refl, ◌∙◌, add-zero, arith, length-drop, pow-add}
+use Rattle.std.proofs.Common.{◌≡◌, ℕ, ◌+◌, ◌*◌, ◌^◌, ◌<◌, ◌≤◌, List, [], ◌∷◌, length, take, drop, refl, ◌∙◌, add-zero}
+use Rattle.std.proofs.Common.{arith, length-drop, pow-add}
 use Rattle.fields.specs.LittleEndian.{le_at, value}
 use Rattle.fields.proofs.LittleEndian.{le_at-drop}
 use Rattle.checksum.specs.Words.{add32}
@@ -22,7 +23,13 @@ unfolding add32
 added-word {x} bs h = added_is 0 x bs h ∙ omega arith
 
 -- the switch adds the bytes to their words, for a tail of each length
-switch-adds : (tail : List ℕ) (s : State) → length tail ≤ 12 → switched 12 tail s ≡ record { a = added 0 s.a (take 4 tail); b = added 0 s.b (take 4 (drop 4 tail)); c = added 0 s.c (take 4 (drop 8 tail)) }
+switch-adds : (tail : List ℕ) (s : State) → length tail ≤ 12
+    → switched 12 tail s
+    ≡ record {
+      a = added 0 s.a (take 4 tail);
+      b = added 0 s.b (take 4 (drop 4 tail));
+      c = added 0 s.c (take 4 (drop 8 tail));
+    }
 unfolding switched case_met case_added added
 switch-adds [] s k = refl
 switch-adds (x0 ∷ []) s k = refl
@@ -42,10 +49,17 @@ switch-adds (x0 ∷ x1 ∷ x2 ∷ x3 ∷ x4 ∷ x5 ∷ x6 ∷ x7 ∷ x8 ∷ x9 �
 pub switch-words : (tail : List ℕ) (s : State) → Fit s → length tail ≤ 12 → switched 12 tail s ≡ grouped tail 0 s
 unfolding grouped le_at
 switch-words tail s f k =
-    switch-adds tail s k ∙ (λ i. record { a = added-word (take 4 tail) f.a i; b = added-word (take 4 (drop 4 tail)) f.b i; c = added-word (take 4 (drop 8 tail)) f.c i })
+    switch-adds tail s k
+    ∙ (λ i. record {
+      a = added-word (take 4 tail) f.a i;
+      b = added-word (take 4 (drop 4 tail)) f.b i;
+      c = added-word (take 4 (drop 8 tail)) f.c i;
+    })
 
 -- so a tail, read at its place in the bytes, is added as a group is
-pub tail-group : (bytes : List ℕ) (at : ℕ) {s : State} → length bytes ≤ at + 12 → Fit s → grouped bytes at s ≡ switched 12 (drop at bytes) s
+pub tail-group : (bytes : List ℕ) (at : ℕ) {s : State} → length bytes ≤ at + 12 → Fit s
+    → grouped bytes at s ≡ switched 12 (drop at bytes) s
 unfolding grouped
 tail-group bytes at {s} most f =
-    rw (switch-words (drop at bytes) s f (rw (length-drop at bytes) (omega (arith, most))), le_at-drop bytes at 0 4, le_at-drop bytes at 4 4, le_at-drop bytes at 8 4, add-zero at)
+    let words = switch-words (drop at bytes) s f (rw (length-drop at bytes) (omega (arith, most))) in
+    rw (words, le_at-drop bytes at 0 4, le_at-drop bytes at 4 4, le_at-drop bytes at 8 4, add-zero at) refl

@@ -1,5 +1,6 @@
 -- The loop of `jenkins_lookup3` over the groups: how it starts, goes on and ends.
-use Rattle.std.proofs.Common.{◌≡◌, ℕ, suc, ◌+◌, ◌-◌, ◌*◌, ◌%◌, ◌^◌, ◌<◌, ◌≤◌, List, [], ◌∷◌, length, drop, sym, ap, ◌∙◌, arith, length-drop, ne_eqb}
+use Rattle.std.proofs.Common.{◌≡◌, ℕ, suc, ◌+◌, ◌-◌, ◌*◌, ◌%◌, ◌^◌, ◌<◌, ◌≤◌, List, [], ◌∷◌, length, drop, sym, ap}
+use Rattle.std.proofs.Common.{◌∙◌, arith, length-drop, ne_eqb}
 use Rattle.checksum.specs.declared.mixing.State.{State}
 use Rattle.checksum.specs.Requires.{Few}
 use Rattle.checksum.specs.Words.{add32}
@@ -34,7 +35,11 @@ module _ {bytes : List ℕ} {s : State} {at : ℕ} (w : Walk bytes s at) where
   pub walk_more : 12 < length bytes - at → Walk bytes (mixed (grouped bytes at s)) (at + 12)
   unfolding run
   walk_more h =
-      record { some = omega arith; place = rw left (omega (arith, w.place, more)); words = rw left (rw more at w.words) }
+      record {
+        some = omega arith;
+        place = rw left (omega (arith, w.place, more));
+        words = rw left (rw more at w.words);
+      }
     where
       more : groups_of (length bytes - at) ≡ suc (groups_of (length bytes - at - 12))
       more = groups-more (length bytes - at) h
@@ -59,18 +64,23 @@ module _ {bytes : List ℕ} {s : State} {at : ℕ} (w : Walk bytes s at) where
     pub walk-tail : (final_mixed (switched 12 (drop at bytes) s)).c ≡ hashlittle bytes
     unfolding hashlittle ended
     walk-tail =
-        rw (ne_eqb (length (tail_of bytes)) 0 (λ z. absurd (omega (arith, tail-length, w.some, z))), tail-here, words-done)
+        let some = ne_eqb (length (tail_of bytes)) 0 (λ z. absurd (omega (arith, tail-length, w.some, z))) in
+        rw (some, tail-here, words-done)
 
 -- no group of few bytes is mixed, and all of them are the tail
-pub few-ended : (bytes : List ℕ) (x : ℕ) → x ≡ add32 0xdeadbeef (length bytes % 2 ^ 32) → Few bytes → (final_mixed (grouped bytes 0 (record { a = x; b = x; c = x }))).c ≡ hashlittle bytes
+pub few-ended : (bytes : List ℕ) (x : ℕ) → x ≡ add32 0xdeadbeef (length bytes % 2 ^ 32) → Few bytes
+    → (final_mixed (grouped bytes 0 (record { a = x; b = x; c = x }))).c ≡ hashlittle bytes
 unfolding begun add32
 few-ended bytes x e h =
     let fit : x < 2 ^ 32 = omega (arith, e) in
-    let w : Walk bytes (record { a = x; b = x; c = x }) 0 = walk_start bytes (record { a = x; b = x; c = x }) h.some (rw e) in
-    ap (λ (t : State). (final_mixed t).c) (tail-group bytes 0 (omega (arith, h.most)) (record { a = fit; b = fit; c = fit })) ∙ walk-tail w (omega (arith, h.most))
+    let s : State = record { a = x; b = x; c = x } in
+    let w : Walk bytes s 0 = walk_start bytes s h.some (rw e) in
+    let switch = tail-group bytes 0 (omega (arith, h.most)) (record { a = fit; b = fit; c = fit }) in
+    ap (λ (t : State). (final_mixed t).c) switch ∙ walk-tail w (omega (arith, h.most))
 
 -- without bytes there is nothing to mix
-pub none-ended : (bytes : List ℕ) (x : ℕ) → x ≡ add32 0xdeadbeef (length bytes % 2 ^ 32) → length bytes ≡ 0 → x ≡ hashlittle bytes
+pub none-ended : (bytes : List ℕ) (x : ℕ) → x ≡ add32 0xdeadbeef (length bytes % 2 ^ 32) → length bytes ≡ 0
+    → x ≡ hashlittle bytes
 unfolding hashlittle ended tail_of body run groups_of begun add32
 none-ended [] x e n = e
 none-ended (b ∷ bs) x e n = absurd (omega (arith, n))

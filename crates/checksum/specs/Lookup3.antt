@@ -1,7 +1,8 @@
 -- HDF5 File Format Specification 3.0, I.A: every checksum is Jenkins' lookup3. lookup3.c (Bob Jenkins, May 2006, public
 -- domain), hashlittle, by the last of its three ways, byte by byte. That it is hashlittle with initval 0 the text does
 -- not say: it is what HDF5's files have (docs/RULES.md). Each definition says which part it follows.
-use Rattle.std.specs.Prelude.{ℕ, zero, suc, ◌+◌, ◌-◌, ◌*◌, ◌/◌, ◌%◌, ◌^◌, if◌then◌else◌, List, length, drop, ◌==◌, nat_le, slice_index}
+use Rattle.std.specs.Prelude.{ℕ, zero, suc, ◌+◌, ◌-◌, ◌*◌, ◌/◌, ◌%◌, ◌^◌, if◌then◌else◌, List, length, drop, ◌==◌}
+use Rattle.std.specs.Prelude.{nat_le, slice_index}
 use Rattle.fields.specs.LittleEndian.{le_at}
 use Rattle.checksum.specs.Words.{add32}
 use Rattle.checksum.specs.Mix.{mixed, final_mixed}
@@ -15,14 +16,19 @@ begun n =
 -- the loop's twelve additions, of the 12 bytes from p on: four to a, four to b, four to c, shifted by 0, 8, 16 and 24
 -- bits
 unfoldable pub grouped : List ℕ → ℕ → State → State
-grouped bytes p s = record { a = add32 s.a (le_at bytes p 4); b = add32 s.b (le_at bytes (p + 4) 4); c = add32 s.c (le_at bytes (p + 8) 4) }
+grouped bytes p s = record {
+  a = add32 s.a (le_at bytes p 4);
+  b = add32 s.b (le_at bytes (p + 4) 4);
+  c = add32 s.c (le_at bytes (p + 8) 4);
+}
 
--- the loop, while more than 12 bytes are left: one group is added and mixed, and 12 bytes are done. n such groups from p on
+-- the loop, while more than 12 bytes are left: one group is added and mixed, and 12 bytes are done. n such groups
+-- from p on
 unfoldable pub run : List ℕ → ℕ → ℕ → State → State
 run bytes p zero s = s
 run bytes p (suc n) s = run bytes (p + 12) n (mixed (grouped bytes p s))
 
--- how often more than 12 of n bytes remain
+-- how often more than 12 of n bytes remain: that this is the loop's count is the law `MixedWhileMore`
 unfoldable pub groups_of : ℕ → ℕ
 groups_of n = (n - 1) / 12
 

@@ -6,17 +6,17 @@ use Rattle.std.specs.Int.{w32, rotate_left}
 unfoldable pub add32 : ℕ → ℕ → ℕ
 add32 x y = (x + y) % 2 ^ 32
 
-unfoldable pub sub32 : ℕ → ℕ → ℕ
+abbrev pub sub32 : ℕ → ℕ → ℕ
 sub32 x y = (x + (2 ^ 32 - y)) % 2 ^ 32
 
 -- the macro rot: x rotated by k bits to the left
-unfoldable pub rot : ℕ → ℕ → ℕ
+abbrev pub rot : ℕ → ℕ → ℕ
 rot x k = rotate_left w32 x k
 
 -- y is taken from x, then x is exclusive-ored with y rotated by k
-unfoldable pub sub_xor : ℕ → ℕ → ℕ → ℕ
+abbrev pub sub_xor : ℕ → ℕ → ℕ → ℕ
 sub_xor x y k = bit_xor (sub32 x y) (rot y k)
 
 -- x is exclusive-ored with y, then y rotated by k is taken from it
-unfoldable pub xor_sub : ℕ → ℕ → ℕ → ℕ
+abbrev pub xor_sub : ℕ → ℕ → ℕ → ℕ
 xor_sub x y k = sub32 (bit_xor x y) (rot y k)

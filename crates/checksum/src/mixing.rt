@@ -1,5 +1,5 @@
-//! The mixing of Bob Jenkins' lookup3.c. One line of its macros mix and final is one function here; a state is
-//! its three words.
+//! The mixing of Bob Jenkins' lookup3.c. One line of its macros mix and final is one function here, from a state to a
+//! state; a state is its three words.
 ghost use Rattle.std.specs.Prelude.{◌≡◌};
 ghost use Rattle.checksum.specs.Words.{sub_xor, xor_sub};
 ghost use Rattle.checksum.specs.Mix.{mix_a, mix_b, mix_c, mixed, final_a, final_b, final_c, final_mixed};
@@ -13,7 +13,6 @@ pub struct State {
 }
 
 // `y` is taken from `x`, then `x` is exclusive-ored with `y` rotated by `k`.
-#[tactic(auto, unfolding(crate::specs::Words::sub_xor, crate::specs::Words::sub32, crate::specs::Words::rot))]
 fn sub_xor(x: u32, y: u32, k: u32) -> u32
     ensures { result ≡ sub_xor x y k }
 {
@@ -21,7 +20,6 @@ fn sub_xor(x: u32, y: u32, k: u32) -> u32
 }
 
 // `x` is exclusive-ored with `y`, then `y` rotated by `k` is taken from it.
-#[tactic(auto, unfolding(crate::specs::Words::xor_sub, crate::specs::Words::sub32, crate::specs::Words::rot))]
 fn xor_sub(x: u32, y: u32, k: u32) -> u32
     ensures { result ≡ xor_sub x y k }
 {

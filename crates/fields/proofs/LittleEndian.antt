@@ -68,7 +68,7 @@ unfolding le_at
 le_at-last s h w q k e =
     let whole : take w (drop q s) ≡ drop q s = take_all w (drop q s) (rw length-drop (omega arith)) in
     let part : take w (drop (q + k) s) ≡ drop k (drop q s) =
-      take_all w (drop (q + k) s) (rw length-drop (omega arith)) ∙ sym (drop-drop k q s) in
+    take_all w (drop (q + k) s) (rw length-drop (omega arith)) ∙ sym (drop-drop k q s) in
     rw (whole, part) (value-drop (drop q s) (λ j. rw (get_or-drop q s j 0) (h (q + j))) k)
 
 pub length-le : (w x : ℕ) → length (le w x) ≡ w

@@ -42,6 +42,10 @@ take-le zero v x h = refl
 take-le (suc w) zero x h = absurd (omega arith)
 take-le (suc w) (suc v) x h = ap (λ (bs : List ℕ). x % 256 ∷ bs) (take-le w v (x / 256) (omega arith))
 
+-- so are those of all eight bytes
+pub low_bytes : (w x : ℕ) → w ≤ 8 → take w (to_le_bytes w64 x) ≡ le w x
+low_bytes w x h = rw (le-eight x) (take-le w 8 x h)
+
 pub legal_narrow : (w : ℕ) → legal w ≡ true → w ≤ 8
 legal_narrow w e = legal-small w e
 

@@ -1,12 +1,12 @@
 //! Bytes as little-endian numbers: what two, four and eight bytes of a lent slice are. Public for the crates
 //! above alone: the caller has tested the length.
+#![tactic(auto, unfolding(crate::specs::LittleEndian::le_at, crate::specs::LittleEndian::value))]
 
 ghost use Rattle.std.specs.Prelude.{◌≡◌, true, ◌+◌, ◌≤◌, length};
 ghost use Rattle.fields.specs.LittleEndian.{le_at};
 ghost use Rattle.fields.specs.Widths.{legal};
 
 /// The two bytes at `pos`.
-#[tactic(auto, unfolding(crate::specs::LittleEndian::le_at, crate::specs::LittleEndian::value))]
 pub fn read_u16_le(bytes: &[u8], pos: usize) -> u16
     requires { pos + 2 ≤ length bytes.now }
     ensures { result ≡ le_at bytes.now pos 2 }
@@ -15,7 +15,6 @@ pub fn read_u16_le(bytes: &[u8], pos: usize) -> u16
 }
 
 /// The four bytes at `pos`.
-#[tactic(auto, unfolding(crate::specs::LittleEndian::le_at, crate::specs::LittleEndian::value))]
 pub fn read_u32_le(bytes: &[u8], pos: usize) -> u32
     requires { pos + 4 ≤ length bytes.now }
     ensures { result ≡ le_at bytes.now pos 4 }
@@ -24,7 +23,6 @@ pub fn read_u32_le(bytes: &[u8], pos: usize) -> u32
 }
 
 /// The eight bytes at `pos`.
-#[tactic(auto, unfolding(crate::specs::LittleEndian::le_at, crate::specs::LittleEndian::value))]
 pub fn read_u64_le(bytes: &[u8], pos: usize) -> u64
     requires { pos + 8 ≤ length bytes.now }
     ensures { result ≡ le_at bytes.now pos 8 }

@@ -1,5 +1,5 @@
-//! Little-endian stores into a lent slice: addresses, tested, a writer that goes through a slice, and two laws, each the
-//! contract of a function.
+//! Little-endian stores into a lent slice: addresses, tested, a writer that goes through a slice, and two laws, each
+//! the contract of a function.
 pub mod writer;
 
 ghost use Rattle.std.specs.Prelude.{◌≡◌, ◌+◌, ◌*◌, ◌%◌, ◌^◌, ◌≤◌, true, length, replicate, Ok, OnOk, OnErr};
@@ -42,7 +42,8 @@ fn ensure_store(lent: usize, pos: usize, offset_size: u8) -> Result<(), FormatEr
 }
 
 /// Stores the low bytes of `value` as an address of `offset_size` bytes at `pos`. A size that is none gives 2, a slice
-/// that ends too early 13; then the slice stays as it is.
+/// that ends too early 13, in this order; then the slice stays as it is. Of the original's file writer, whose source is
+/// not at hand, two facts are known: which bytes this stores, and which `write_undef_offset`.
 #[tactic(auto, using(crate::proofs::Writing::legal_narrow, crate::proofs::Storing::address_reads_back))]
 pub fn write_offset(
     bytes: &mut [u8],

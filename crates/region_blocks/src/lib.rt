@@ -13,7 +13,7 @@ ghost use Rattle.region_blocks.specs.Blocks.{block_head};
 use fields::stores::Writer;
 
 /// What all blocks of a region share: the width of addresses in bytes, and where the heap's header and the region
-/// stand in the file.
+/// stand in the file. It is the caller's, so the width is any byte; the writers of blocks ask that it is 8 at most.
 #[derive(Clone, Copy, Debug, PartialEq, Eq)]
 pub struct Site {
     pub offset_size: u8,

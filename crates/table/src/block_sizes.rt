@@ -6,7 +6,8 @@ ghost use Rattle.table.specs.Sizes.{direct_header, max_managed, indirect_size};
 
 use crate::{BLOCK_OFFSET_BYTES, MAX_DIRECT_BLOCK_SIZE, TABLE_WIDTH};
 
-/// The bytes of a direct block before its objects.
+/// The bytes of a direct block before its objects: signature (4), version (1), heap header address, block offset,
+/// checksum (4), which every direct block of ours has.
 #[tactic(auto, unfolding(crate::specs::Sizes::direct_header, crate::specs::Sizes::offset_bytes))]
 pub fn direct_block_header(offset_size: u8) -> u64
     ensures { result ≡ direct_header fixed offset_size }
@@ -14,7 +15,7 @@ pub fn direct_block_header(offset_size: u8) -> u64
     4 + 1 + u64::from(offset_size) + BLOCK_OFFSET_BYTES + 4
 }
 
-/// The largest object that a direct block holds.
+/// The largest object that a managed block holds, in bytes: the largest direct block without its header.
 #[tactic(auto, using(crate::proofs::Sizes::header_is), unfolding(crate::specs::Sizes::max_managed))]
 pub fn max_managed_object(offset_size: u8) -> u64
     ensures { result ≡ max_managed fixed offset_size }
@@ -22,7 +23,8 @@ pub fn max_managed_object(offset_size: u8) -> u64
     MAX_DIRECT_BLOCK_SIZE - direct_block_header(offset_size)
 }
 
-/// The bytes of an indirect block of `nrows` rows.
+/// The bytes of an indirect block of `nrows` rows: the same header, a child's address for each slot, the checksum. The
+/// heap is unfiltered, so an entry is a bare address.
 #[tactic(auto, unfolding(crate::specs::Sizes::indirect_size, crate::specs::Sizes::offset_bytes))]
 pub fn indirect_block_size(nrows: u64, offset_size: u8) -> u64
     requires { nrows < 2 ^ 16 }

@@ -29,8 +29,9 @@ fn block_capacity(row: u64, below: u64, header: u64) -> u64
     }
 }
 
-/// What a block of each row holds, upward: an indirect row's blocks hold what the rows below that fill
-/// them hold. Rows 0 and 1 are alike and filled at once.
+/// The object bytes that a block of each row holds, upward: an indirect row's blocks hold what the rows below that fill
+/// them hold, and `below` is the sum of these, one block of each. Rows 0 and 1 are alike, and no other row has their
+/// number, so the array is made with it in every place. It is all rows', so that one call serves any number of rows.
 pub fn rows_capacity(offset_size: u8) -> [u64; MAX_ROOT_ROWS]
     ensures { result ≡ capacities fixed (direct_header fixed offset_size) MAX_ROOT_ROWS }
 {
@@ -44,7 +45,8 @@ pub fn rows_capacity(offset_size: u8) -> [u64; MAX_ROOT_ROWS]
     per_block
 }
 
-/// What `nrows` rows hold, from the capacities of their blocks.
+/// The object bytes that `nrows` rows hold, allocated or not, from the capacities of their blocks (HDF5's
+/// `row_tot_dblock_free`, summed).
 pub fn capacity_sum(per_block: [u64; MAX_ROOT_ROWS], nrows: usize) -> u64
     requires rows_of_root { nrows ≤ MAX_ROOT_ROWS }
     requires sum_in_heap { TABLE_WIDTH * sum (take nrows per_block) ≤ MAX_HEAP_SPACE }

@@ -59,21 +59,23 @@ pub const MAX_ROOT_ROWS: usize = (MAX_HEAP_SIZE_BITS - FIRST_ROW_BITS + 1) as us
 /// Bytes of the heap space: all heap offsets lie below it.
 pub const MAX_HEAP_SPACE: u64 = 1u64 << MAX_HEAP_SIZE_BITS;
 
-/// Row and column of a slot.
+/// Row and column of a slot. Rows are `u64` here, not `usize`: they are shifted by and compared, and index an array
+/// only where capacities are reckoned.
 #[derive(Clone, Copy)]
 pub struct RowCol {
     pub row: u64,
     pub col: u64,
 }
 
-/// A direct slot of the heap.
+/// A direct slot of the heap: the heap offset at which it begins, and its bytes.
 #[derive(Clone, Copy)]
 pub struct Slot {
     pub start: u64,
     pub size: u64,
 }
 
-/// A slot of one indirect block's table: its row, and its place from the block's own offset on.
+/// A slot of one indirect block's table: its row, where it begins, in bytes from the block's own offset on, and its
+/// bytes.
 #[derive(Clone, Copy)]
 pub struct TableSlot {
     pub row: u64,

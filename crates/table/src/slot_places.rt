@@ -25,7 +25,8 @@ pub fn table_slot(offset: u64) -> TableSlot
     }
 }
 
-/// The direct slot that holds an offset.
+/// The direct slot that holds an offset. It goes down through indirect slots, so that planning can go through the
+/// direct ones in order although the table is a tree.
 pub fn locate(offset: u64) -> Slot
     requires { offset < MAX_HEAP_SPACE }
     ensures { result ≡ slot_at fixed offset }
@@ -59,8 +60,8 @@ fn entered_here(end: u64, start: u64, size: u64, offset_size: u8) -> u64
     }
 }
 
-/// The bytes of the indirect blocks that a direct block at `start` opens, where the one before ended at
-/// `end`.
+/// The bytes of the indirect blocks that a direct block at `start` opens, where the one before ended at `end`: of those
+/// in whose slots it lies, but not the one before.
 pub fn entered_blocks(end: u64, start: u64, offset_size: u8) -> u64
     requires { start < MAX_HEAP_SPACE }
     ensures { result ≡ entered_bytes fixed offset_size end start }

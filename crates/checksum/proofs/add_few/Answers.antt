@@ -11,4 +11,5 @@ returns-then-bytes-gt8 c = rw (c.add_word-a.ensures, c.add_word.ensures, c.third
 
 pub returns : goal.returns
 unfolding add32
-returns c = rw (c.add_word-a.ensures, c.second_word.ensures) (in_two c.args.bytes.now (omega arith) c.if-bytes-gt8.false)
+returns c =
+    rw (c.add_word-a.ensures, c.second_word.ensures) (in_two c.args.bytes.now (omega arith) c.if-bytes-gt8.false)

@@ -7,4 +7,5 @@ use Rattle.checksum.proofs.add_tail_word.Goals as goal
 pub returns : goal.returns
 unfolding add32
 returns c =
-    rw (c.drop_low_bytes.ensures, c.read_u32_le.ensures) (tail-word-added _ _ (λ j. omega (arith, c.type_inv.bytes j)) _ _ c.requires c.min-at.ensures)
+    rw (c.drop_low_bytes.ensures, c.read_u32_le.ensures)
+    (tail-word-added _ (λ j. omega (arith, c.type_inv.bytes j)) _ _ _ c.requires c.min-at.ensures)

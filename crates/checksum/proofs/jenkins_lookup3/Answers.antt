@@ -1,7 +1,7 @@
 -- What is left of `jenkins_lookup3`: few bytes are all of the tail.
 use Rattle.std.proofs.Common.{ℕ, ◌≡◌, ◌<◌, Bool, false, sym, ap, ◌∙◌, arith}
 use Rattle.std.specs.Prelude.{◌==◌}
-use borrow.Author.Tests.{eqb-true}
+use Rattle.std.proofs.lemmas.Bool.{eqb-true}
 use Rattle.std.proofs.lemmas.Bool.Decides.{nat_tests}
 use Rattle.checksum.specs.Mix.{final_mixed}
 use Rattle.checksum.specs.Words.{add32}
@@ -15,14 +15,17 @@ nonempty e f = grind (arith, nat_tests)
 
 pub returns-then-bytes-ge4 : goal.returns-then-bytes-ge4
 returns-then-bytes-ge4 c =
-    rw (c.ended.ensures, c.add_few.ensures) (few-ended _ _ c.begun-first.ensures (record { some = omega arith; most = omega arith }))
+    rw (c.ended.ensures, c.add_few.ensures)
+    (few-ended _ _ c.begun-first.ensures (record { some = omega arith; most = omega arith }))
 
 pub returns-then-is_empty : goal.returns-then-is_empty
-returns-then-is_empty c = none-ended _ _ c.begun-first.ensures (eqb-true _ _ (sym c.is_empty.ensures ∙ c.if-is_empty.true))
+returns-then-is_empty c =
+    none-ended _ _ c.begun-first.ensures (eqb-true _ _ (sym c.is_empty.ensures ∙ c.if-is_empty.true))
 
 pub returns : goal.returns
 unfolding add32
 returns c =
+    let some = nonempty c.is_empty.ensures c.if-is_empty.false in
     rw (c.ended-2.ensures, c.short_word.ensures)
     (ap (λ (t : State). (final_mixed t).c) (in_one c.args.bytes.now (omega arith) (omega arith))
-    ∙ few-ended _ _ c.begun-first.ensures (record { some = nonempty c.is_empty.ensures c.if-is_empty.false; most = omega arith }))
+    ∙ few-ended _ _ c.begun-first.ensures (record { some = some; most = omega arith }))

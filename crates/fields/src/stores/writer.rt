@@ -3,6 +3,7 @@ ghost use Rattle.std.specs.Prelude.{◌≡◌, ◌+◌, ◌≤◌, length, repli
 ghost use Rattle.fields.specs.LittleEndian.{le};
 
 /// A writer that goes through a lent slice: the bytes before `at` are written, those from there on are as they were.
+/// Its contract says what was put, so that a chain of puts is an append and no place is reckoned twice.
 #[derive(Drop)]
 pub struct Writer<'a> {
     bytes: &'a mut [u8],
@@ -51,6 +52,7 @@ impl<'a> Writer<'a> {
     }
 
     /// Puts a number's four bytes, the lowest first.
+    #[tactic(auto, using(crate::proofs::Writing::le_four))]
     pub fn put_u32(&mut self, number: u32)
         requires room { self.old.at + 4 ≤ length self.old.bytes.now }
         ensures { Puts self.old self.new 4 (le 4 number) }
