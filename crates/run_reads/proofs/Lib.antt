@@ -1,4 +1,2 @@
 pub mod Words
 pub mod Counting
-pub mod Parts
-pub mod Tallying

@@ -1,9 +1,9 @@
 -- Words of a head, one by one.
-use Rattle.std.proofs.Common.{◌≡◌, ℕ, ◌+◌, ◌*◌, ◌<◌, ◌≤◌, ◌≢◌, List, length, get_or, drop, Bool, true, false, arith}
+use Rattle.std.proofs.Common.{◌≡◌, ℕ, ◌+◌, ◌*◌, ◌<◌, ◌≤◌, ◌≢◌, List, length, get_or, drop, true, false, arith}
 use Rattle.std.proofs.lemmas.Bool.Decides.{nat_tests}
 use Rattle.std.proofs.lemmas.List.{drop_more, drop_all}
 use Rattle.fields.specs.LittleEndian.{le_at}
-use Rattle.run_reads.specs.Recorded.{has_words, is_recorded}
+use Rattle.run_reads.specs.Recorded.{has_words}
 
 -- the next word stands there
 pub words_next : (s words : List ℕ) (i : ℕ) → i < length words → get_or words i 0 ≡ le_at s (27 + 8 * i) 8
@@ -21,19 +21,3 @@ words_other s words i below other = grind (arith, nat_tests, drop_more)
 pub words_done : (s words : List ℕ) (i place : ℕ) → length words ≤ i → has_words s place (drop i words) ≡ true
 unfolding has_words
 words_done s words i place past = grind (arith, drop_all)
-
--- a head of another size
-pub size_other : (head words : List ℕ) (number : ℕ) → length head ≢ 27 + 8 * length words → false ≡ is_recorded head number words
-unfolding is_recorded
-size_other head words number other = grind (arith, nat_tests)
-
--- a head of this size, with another number
-pub number_other : (head words : List ℕ) (number stored : ℕ) → number ≢ stored → stored ≡ le_at head 22 4 → false ≡ is_recorded head number words
-unfolding is_recorded
-number_other head words number stored other e = grind (arith, nat_tests)
-
--- a head of this size with this number: the words decide
-pub words_decide : (head words : List ℕ) (number stored : ℕ) (same : Bool) → length head ≡ 27 + 8 * length words → number ≡ stored
-    → stored ≡ le_at head 22 4 → same ≡ has_words head 27 words → same ≡ is_recorded head number words
-unfolding is_recorded
-words_decide head words number stored same size number_same e words_same = grind (arith, nat_tests)

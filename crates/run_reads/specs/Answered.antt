@@ -1,5 +1,5 @@
 -- How a case is answered, by the definitions of reading, and whether its head records that.
-use Rattle.std.specs.Prelude.{ℕ, List, take, drop, Bool, ◌&&◌, not, ◌==◌, slice_index, if◌then◌else◌, Result}
+use Rattle.std.specs.Prelude.{ℕ, List, Bool, ◌&&◌, not, ◌==◌, slice_index, if◌then◌else◌, Result}
 use Rattle.fields.specs.LittleEndian.{le_at}
 use Rattle.refusals.specs.Refusals.{report_of}
 use Rattle.refusals.specs.declared.FormatError.{FormatError}
@@ -12,7 +12,7 @@ use Rattle.fields.specs.declared.place.Place.{Place}
 use Rattle.fractal_heap.specs.Header.{header_at}
 use Rattle.fractal_heap.specs.Read.{id_by, object_by}
 use Rattle.fractal_heap.specs.declared.header.FractalHeapHeader.{FractalHeapHeader}
-use Rattle.run_reads.specs.Cases.{file_place, id_place}
+use Rattle.run_reads.specs.Cases.{head_in, file_in, id_in}
 use Rattle.run_reads.specs.Recorded.{is_answer, is_parsed}
 
 -- the header of the file: its place is in bytes 14 to 21 of the head, Size of Offsets is byte 1, Size of Lengths byte 2
@@ -41,16 +41,16 @@ answered_as_recorded head file id =
     else if slice_index head 0 == 3 then is_answer head (report_of place_report (tiny_of head id))
     else is_answer head (report_of type_report (id_type id))
 
--- the case in front is answered as it records
-unfoldable pub as_recorded : List ℕ → Bool
-as_recorded s =
-    answered_as_recorded (take (file_place s) s) (take (le_at s 6 4) (drop (file_place s) s))
-    (take (le_at s 10 4) (drop (id_place s) s))
+-- a case is of a kind; and it is answered otherwise than recorded
+abbrev pub asks : ℕ → List ℕ → Bool
+asks kind head = slice_index head 0 == kind
 
--- the case in front is of a kind
+abbrev pub answers_otherwise : ℕ → List ℕ → List ℕ → List ℕ → Bool
+answers_otherwise kind head file id = asks kind head && not (answered_as_recorded head file id)
+
+-- the same of the case in front of a list
 abbrev pub is_of : ℕ → List ℕ → Bool
-is_of kind s = slice_index s 0 == kind
+is_of kind s = asks kind (head_in s)
 
--- the same, and it is answered otherwise than recorded
 abbrev pub differs : ℕ → List ℕ → Bool
-differs kind s = is_of kind s && not (as_recorded s)
+differs kind s = answers_otherwise kind (head_in s) (file_in s) (id_in s)

@@ -1,19 +1,31 @@
 -- A list of cases, byte by byte: src/main.rt says at its top what a case is.
-use Rattle.std.specs.Prelude.{ℕ, zero, suc, ◌+◌, ◌-◌, ◌*◌, ◌≡◌, ◌≤◌, List, [], ◌∷◌, length, Bool, ◌&&◌, ◌||◌, ◌==◌, nat_le, slice_index, if◌then◌else◌}
+use Rattle.std.specs.Prelude.{ℕ, zero, suc, ◌+◌, ◌-◌, ◌*◌, ◌≡◌, List, [], ◌∷◌, length, take, drop}
+use Rattle.std.specs.Prelude.{Bool, ◌&&◌, ◌||◌, ◌==◌, nat_le, slice_index, if◌then◌else◌}
 use Rattle.fields.specs.LittleEndian.{le_at}
-use Rattle.run_reads.specs.declared.Case.{Case}
+use Rattle.run_reads.specs.declared.one_case.Case.{Case}
 
--- where the file of the case in front begins: behind 27 bytes and its words
-abbrev pub file_place : List ℕ → ℕ
-file_place s = 27 + 8 * slice_index s 26
+-- how many bytes the head of the case in front has, its words with it; the file; the ID; and all of the case
+abbrev pub head_bytes : List ℕ → ℕ
+head_bytes s = 27 + 8 * slice_index s 26
 
--- where its ID begins
-abbrev pub id_place : List ℕ → ℕ
-id_place s = file_place s + le_at s 6 4
+abbrev pub file_bytes : List ℕ → ℕ
+file_bytes s = le_at s 6 4
 
--- how many bytes it has
+abbrev pub id_bytes : List ℕ → ℕ
+id_bytes s = le_at s 10 4
+
 abbrev pub case_size : List ℕ → ℕ
-case_size s = id_place s + le_at s 10 4
+case_size s = head_bytes s + file_bytes s + id_bytes s
+
+-- these parts of it, one behind the other
+abbrev pub head_in : List ℕ → List ℕ
+head_in s = take (head_bytes s) s
+
+abbrev pub file_in : List ℕ → List ℕ
+file_in s = take (file_bytes s) (drop (head_bytes s) s)
+
+abbrev pub id_in : List ℕ → List ℕ
+id_in s = take (id_bytes s) (drop (file_bytes s) (drop (head_bytes s) s))
 
 -- a whole case is in front: one of the five kinds, with two words or twelve
 unfoldable pub begins_case : List ℕ → Bool
@@ -22,12 +34,11 @@ begins_case s =
     && (nat_le (slice_index s 0) 4
     && (((slice_index s 26 == 2) || (slice_index s 26 == 12)) && nat_le (case_size s) (length s)))
 
--- the places of the case in front
+-- the case in front
 pub record IsCase (c : Case) (s : List ℕ) : Type 0 where
-  pub file : c.file ≡ file_place s
-  pub id : c.id ≡ id_place s
-  pub next : c.next ≡ case_size s
-  pub in_list : c.next ≤ length s
+  pub head : c.head.now ≡ head_in s
+  pub file : c.file.now ≡ file_in s
+  pub id : c.id.now ≡ id_in s
 
 -- the cases one after another, each with all that is behind it, up to the first place where none begins; the first
 -- bytes, so many, belong to the case before

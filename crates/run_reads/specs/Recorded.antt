@@ -5,6 +5,7 @@ use Rattle.refusals.specs.Refusals.{refusal}
 use Rattle.refusals.specs.declared.answer.Answer.{Answer}
 use Rattle.refusals.specs.declared.FormatError.{FormatError}
 use Rattle.fractal_heap.specs.declared.header.FractalHeapHeader.{FractalHeapHeader}
+use Rattle.fractal_heap.specs.Header.{header_numbers}
 
 -- these words stand one after another from a place on
 unfoldable pub has_words : List ℕ → ℕ → List ℕ → Bool
@@ -12,7 +13,7 @@ has_words s place [] = true
 has_words s place (word ∷ words) = (le_at s place 8 == word) && has_words s (place + 8) words
 
 -- the head records this number and these words, and no more
-unfoldable pub is_recorded : List ℕ → ℕ → List ℕ → Bool
+abbrev pub is_recorded : List ℕ → ℕ → List ℕ → Bool
 is_recorded head number words =
     (length head == 27 + 8 * length words) && ((le_at head 22 4 == number) && has_words head 27 words)
 
@@ -20,28 +21,7 @@ is_recorded head number words =
 abbrev pub is_answer : List ℕ → Answer → Bool
 is_answer head a = is_recorded head a.number (a.first ∷ a.second ∷ [])
 
--- the fields of a header, in the original's order
-abbrev pub header_words : FractalHeapHeader → List ℕ
-header_words h =
-    h.heap_id_length ∷
-    h.io_filter_encoded_length ∷
-    h.max_managed_object_size ∷
-    h.btree_huge_objects_address ∷
-    h.table.table_width ∷
-    h.table.starting_block_size ∷
-    h.table.max_direct_block_size ∷
-    h.table.max_heap_size ∷
-    h.start_root_rows ∷
-    h.root_block_address ∷
-    h.current_rows_in_root_indirect_block ∷
-    h.managed_objects_count ∷
-    []
-
--- an accepted header: number 0 and its fields
-abbrev pub is_header : List ℕ → FractalHeapHeader → Bool
-is_header head h = is_recorded head 0 (header_words h)
-
--- what parsing gave
+-- what parsing gave: of an accepted header number 0 and its fields
 abbrev pub is_parsed : List ℕ → Result FractalHeapHeader FormatError → Bool
-is_parsed head (Ok h) = is_header head h
+is_parsed head (Ok h) = is_recorded head 0 (header_numbers h)
 is_parsed head (Err e) = is_answer head (refusal e)

@@ -1,0 +1,136 @@
+//! One case of the list: what is asked, and whether the answer is the recorded one.
+ghost use Rattle.std.specs.Prelude.{◌≡◌, ◌+◌, ◌*◌, ◌≤◌, length, drop, is_some, IfSome};
+ghost use Rattle.run_reads.specs.Recorded.{has_words, is_recorded, is_answer, is_parsed};
+
+use fields::convert::to_usize;
+use fields::little_endian::{read_u16_le, read_u32_le, read_u64_le};
+use fractal_heap::{FractalHeapHeader, ManagedId, Place};
+use ids::tiny::read_tiny_object;
+use refusals::{Answer, FormatError, Reported};
+
+// Whether these words stand in a head, one after another behind its 27 bytes.
+#[tactic(auto, using(crate::proofs::Words::words_next, crate::proofs::Words::words_other))]
+fn has_words(head: &[u8], words: &[u64]) -> bool
+    requires { length head.now ≡ 27 + 8 * length words.now }
+    ensures { result ≡ has_words head.now 27 words.now }
+{
+    for i in 0..words.len() {
+        if words[i] != read_u64_le(head, 27 + 8 * i) {
+            return false;
+        }
+    }
+    true
+}
+
+// Whether a head records this number and these words.
+fn is_recorded(head: &[u8], number: u32, words: &[u64]) -> bool
+    ensures { result ≡ is_recorded head.now number words.now }
+{
+    if head.len() != 27 + 8 * words.len() {
+        return false;
+    }
+    if number != read_u32_le(head, 22) {
+        return false;
+    }
+    has_words(head, words)
+}
+
+/// A case in its parts: what is asked and what is recorded as the answer to it; the file, and the ID.
+#[derive(Clone, Copy)]
+pub struct Case<'a> {
+    pub head: &'a [u8],
+    pub file: &'a [u8],
+    pub id: &'a [u8],
+    ghost long: { 27 ≤ length head.now },
+}
+
+impl<'a> Case<'a> {
+    ghost use Rattle.run_reads.specs.Cases.{case_size, begins_case, IsCase};
+    ghost use Rattle.run_reads.specs.Answered.{header_of, id_of, object_of, answered_as_recorded};
+
+    /// The case that a list begins with, and the list behind it; none where no whole case does.
+    #[tactic(auto, unfolding(crate::specs::Cases::begins_case))]
+    pub fn first(list: &'a [u8]) -> Option<(Case<'a>, &'a [u8])>
+        ensures found { is_some result ≡ begins_case list.now }
+        ensures parts { IfSome result (λ found. IsCase found.0 list.now) }
+        ensures behind { IfSome result (λ found. found.1.now ≡ drop (case_size list.now) list.now) }
+        ensures in_list { IfSome result (λ found. case_size list.now ≤ length list.now) }
+    {
+        if list.len() < 27 {
+            return None;
+        }
+        let n = list[26];
+        if list[0] > 4 {
+            return None;
+        }
+        if n != 2 && n != 12 {
+            return None;
+        }
+        let head_bytes = 27 + 8 * usize::from(n);
+        let file_bytes = read_u32_le(list, 6) as usize;
+        let id_bytes = read_u32_le(list, 10) as usize;
+        let size = head_bytes + file_bytes + id_bytes;
+        if size <= list.len() {
+            let (head, behind) = list.split_at(head_bytes);
+            let (file, behind) = behind.split_at(file_bytes);
+            let (id, _) = behind.split_at(id_bytes);
+            let (_, rest) = list.split_at(size);
+            Some((Case { head, file, id }, rest))
+        } else {
+            None
+        }
+    }
+
+    // The header, with which the first three kinds begin: its refusal is the answer to each of them.
+    fn header(&self) -> Result<FractalHeapHeader, FormatError>
+        ensures { result ≡ header_of self.now.head.now self.now.file.now }
+    {
+        let head = self.head;
+        FractalHeapHeader::parse(self.file, to_usize(read_u64_le(head, 14)), head[1], head[2])
+    }
+
+    fn managed_id(&self) -> Result<ManagedId, FormatError>
+        ensures { result ≡ id_of self.now.head.now self.now.file.now self.now.id.now }
+    {
+        self.header()?.decode_managed_id(self.id)
+    }
+
+    fn managed_object(&self) -> Result<Place, FormatError>
+        ensures { result ≡ object_of self.now.head.now self.now.file.now self.now.id.now }
+    {
+        self.header()?
+            .read_managed_object(self.file, self.id, self.head[3])
+    }
+
+    // Whether this answer is the recorded one.
+    fn records(&self, answer: Answer) -> bool
+        ensures { result ≡ is_answer self.now.head.now answer }
+    {
+        let words = [answer.first, answer.second];
+        is_recorded(self.head, answer.number, &words)
+    }
+
+    // The same of what parsing gives: an accepted header is recorded by its fields.
+    fn records_header(&self, parsed: Result<FractalHeapHeader, FormatError>) -> bool
+        ensures { result ≡ is_parsed self.now.head.now parsed }
+    {
+        match parsed {
+            Ok(header) => is_recorded(self.head, 0, &header.numbers()),
+            Err(refusal) => self.records(refusal.answer()),
+        }
+    }
+
+    /// Whether it is answered as recorded.
+    pub fn is_same(&self) -> bool
+        ensures { result
+            ≡ answered_as_recorded self.now.head.now self.now.file.now self.now.id.now }
+    {
+        match self.head[0] {
+            0 => self.records_header(self.header()),
+            1 => self.records(self.managed_id().answer()),
+            2 => self.records(self.managed_object().answer()),
+            3 => self.records(read_tiny_object(read_u16_le(self.head, 4), self.id).answer()),
+            _ => self.records(FractalHeapHeader::heap_id_type(self.id).answer()),
+        }
+    }
+}
