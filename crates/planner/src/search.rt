@@ -5,8 +5,8 @@ ghost use Rattle.table.specs.Table.{fixed};
 ghost use Rattle.planner.specs.Steps.{open_at};
 ghost use Rattle.planner.specs.Requires.{InHeap};
 
-use table::{MAX_HEAP_SPACE, Slot};
 use table::slot_places::locate;
+use table::{MAX_HEAP_SPACE, Slot};
 
 /// The first slot from the heap offset `cursor` on, where a slot begins, that has `need` bytes; `None` where the heap
 /// space has none.
