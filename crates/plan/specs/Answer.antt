@@ -1,9 +1,9 @@
--- The answer of planning: the tests and then the run, the totals of the state at its end, and what the
--- lent lists hold after the call. HDF5 File Format Specification 3.0, III.G, 'Fractal Heap Header':
--- root_rows is Current # of Rows in Root Indirect Block, managed_space Amount of Managed Space in Heap,
--- allocated_space Amount of Allocated Managed Space in Heap, free_space Amount of Free Space in Managed
--- Blocks, allocation_iterator Offset of Direct Block Allocation Iterator in Managed Space. Free space
--- and the iterator of a direct root are our rules (docs/DIFFERENCES.md).
+-- The answer of planning: the tests and then the run, the totals of the state at its end, and what
+-- the lent lists hold after the call. HDF5 File Format Specification 3.0, III.G, 'Fractal Heap
+-- Header': root_rows is Current # of Rows in Root Indirect Block, managed_space Amount of Managed
+-- Space in Heap, allocated_space Amount of Allocated Managed Space in Heap, free_space Amount of
+-- Free Space in Managed Blocks, allocation_iterator Offset of Direct Block Allocation Iterator in
+-- Managed Space. Free space and the iterator of a direct root are our rules (docs/DIFFERENCES.md).
 --
 -- Here t is the table, w the bytes of an address, s the State at the end.
 use Rattle.std.specs.Prelude.{ℕ, ◌+◌, ◌-◌, ◌^◌, ◌==◌, if◌then◌else◌, List, [], ◌∷◌, Result, Ok, Err}
@@ -34,8 +34,8 @@ bare_totals t w s = record {
   allocation_iterator = 0;
 }
 
--- the root is an indirect block of so many rows. In the region all other indirect blocks come before it,
--- and the direct blocks after it
+-- the root is an indirect block of so many rows. In the region all other indirect blocks come
+-- before it, and the direct blocks after it
 abbrev pub row_totals : Table → ℕ → State → ℕ → ManagedPlan
 row_totals t w s rows = record {
   block_count = s.count;
@@ -60,8 +60,8 @@ abbrev pub ran_plan : ℕ → Result State ℕ → Result ManagedPlan FormatErro
 ran_plan w (Ok s) = Ok (totals fixed w (end_state fixed w s))
 ran_plan w (Err i) = Err (HeapSpaceExhausted i)
 
--- the answer for these sizes, lists of so many places for offsets and blocks, and addresses of w bytes:
--- 12 after the tests
+-- the answer for these sizes, lists of so many places for offsets and blocks, and addresses of w
+-- bytes: 12 after the tests
 unfoldable pub planned_for : List ℕ → ℕ → ℕ → ℕ → Result ManagedPlan FormatError
 planned_for sizes offsets blocks w = do
   _ ← input_checked sizes offsets blocks w
@@ -83,7 +83,8 @@ abbrev pub planned_values : Result ManagedPlan FormatError → List ℕ
 planned_values (Ok p) = numbers p
 planned_values (Err e) = (refusal e).first ∷ (refusal e).second ∷ []
 
--- what a lent list holds after the call: new numbers in front where the plan is accepted, else what it held
+-- what a lent list holds after the call: new numbers in front where the plan is accepted, else what
+-- it held
 abbrev pub list_after : Result ManagedPlan FormatError → List ℕ → List ℕ → List ℕ
 list_after (Ok p) new old = put old 0 new
 list_after (Err e) new old = old

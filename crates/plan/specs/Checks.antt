@@ -22,8 +22,8 @@ places_checked needed lent = required (nat_le needed lent) (SliceTooShort needed
 abbrev pub width_checked : ℕ → Result (Unit {0}) FormatError
 width_checked w = required (legal w) (InvalidOffsetSize w)
 
--- the tests before any planning, for lists of so many places for offsets and blocks: 2, 13 offsets, 13
--- blocks, 11. Without objects there is still one block
+-- the tests before any planning, for lists of so many places for offsets and blocks: 2, 13 offsets,
+-- 13 blocks, 11. Without objects there is still one block
 unfoldable pub input_checked : List ℕ → ℕ → ℕ → ℕ → Result (Unit {0}) FormatError
 input_checked sizes offsets blocks w = do
   _ ← width_checked w

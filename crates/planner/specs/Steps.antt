@@ -1,10 +1,10 @@
 -- Planning, object by object. Each object goes into the current block if it fits there. Otherwise
--- slots are tried in heap order, each that is too small is passed for good, and the first whose body
--- fits opens. This rule is ours: the HDF5 File Format Specification does not say which block an
--- object goes into.
+-- slots are tried in heap order, each that is too small is passed for good, and the first whose
+-- body fits opens. This rule is ours: the HDF5 File Format Specification does not say which block
+-- an object goes into.
 --
--- Here t is the table, w the bytes of an address, s a State, where planning stands, x a size, and xs
--- the sizes that a run goes through, one after another.
+-- Here t is the table, w the bytes of an address, s a State, where planning stands, x a size, and
+-- xs the sizes that a run goes through, one after another.
 use Rattle.std.specs.Prelude.{ℕ, zero, suc, ◌+◌, ◌-◌, ◌^◌, true, false, nat_le, nat_lt, if◌then◌else◌, List, [], ◌∷◌, Option, Some, None, Result, Ok, Err}
 use Rattle.table.specs.Table.{Table}
 use Rattle.table.specs.Slots.{slot_at, slot_end, entered_bytes}
@@ -61,7 +61,8 @@ in_new t w s x b = record {
   indirect = s.indirect + entered_bytes t w (block_end s) b.start;
 }
 
--- an object of x bytes in a new block, if there is a slot for it: the state after it and its heap offset
+-- an object of x bytes in a new block, if there is a slot for it: the state after it and its heap
+-- offset
 abbrev pub opened : Table → ℕ → State → ℕ → Option Slot → Option (State × ℕ)
 opened t w s x (Some b) = Some (in_new t w s x b, b.start + direct_header t w)
 opened t w s x None = None
@@ -74,8 +75,8 @@ step_of t w s x =
       | false ↦ opened t w s x (open_at t (direct_header t w + x) (block_end s))
     ]
 
--- a run from the state s on, the sizes being those from the index i on: the state after all of them, or
--- the index at which the heap space ends
+-- a run from the state s on, the sizes being those from the index i on: the state after all of
+-- them, or the index at which the heap space ends
 unfoldable pub run_from : Table → ℕ → State → List ℕ → ℕ → Result State ℕ
 run_from t w s [] i = Ok s
 run_from t w s (x ∷ xs) i =
