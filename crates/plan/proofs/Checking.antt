@@ -6,17 +6,19 @@ use Rattle.fields.specs.Widths.{legal}
 use Rattle.refusals.specs.declared.FormatError.TheVariants.{ObjectTooLarge, HeapSpaceExhausted}
 use Rattle.table.specs.Table.{fixed}
 use Rattle.table.specs.Sizes.{max_managed}
-use Rattle.plan.specs.Checks.{sizes_checked, places_checked, width_checked, input_checked}
+use Rattle.plan.specs.Checks.{sizes_checked, input_checked}
 
 -- ---- one size
 
 -- the i-th is the first above the limit
-pub size_large : (limit : ℕ) (xs : List ℕ) (i : ℕ) → i < length xs → limit < slice_index xs i → sizes_checked limit i (drop i xs) ≡ Err (ObjectTooLarge i (slice_index xs i))
+pub size_large : (limit : ℕ) (xs : List ℕ) (i : ℕ) → i < length xs → limit < slice_index xs i
+    → sizes_checked limit i (drop i xs) ≡ Err (ObjectTooLarge i (slice_index xs i))
 unfolding sizes_checked
 size_large limit xs i h l = grind (arith, nat_tests, drop_more)
 
 -- the i-th is not
-pub size_small : (limit : ℕ) (xs : List ℕ) (i : ℕ) → i < length xs → slice_index xs i ≤ limit → sizes_checked limit i (drop i xs) ≡ sizes_checked limit (i + 1) (drop (i + 1) xs)
+pub size_small : (limit : ℕ) (xs : List ℕ) (i : ℕ) → i < length xs → slice_index xs i ≤ limit
+    → sizes_checked limit i (drop i xs) ≡ sizes_checked limit (i + 1) (drop (i + 1) xs)
 unfolding sizes_checked
 size_small limit xs i h l = grind (arith, nat_tests, drop_more)
 
@@ -25,8 +27,12 @@ pub sizes_passed : (limit : ℕ) (xs : List ℕ) (i : ℕ) → length xs ≤ i �
 unfolding sizes_checked
 sizes_passed limit xs i h = grind (arith, drop_all)
 
+-- the three, for the loop over the sizes
+pub ruleset sizes_in_turn = (size_large, size_small, sizes_passed)
+
 -- no size is above the limit
-pub all_small : (limit i : ℕ) (xs : List ℕ) → sizes_checked limit i xs ≡ Ok tt → (k : ℕ) → k < length xs → slice_index xs k ≤ limit
+pub all_small : (limit i : ℕ) (xs : List ℕ) → sizes_checked limit i xs ≡ Ok tt → (k : ℕ) → k < length xs
+    → slice_index xs k ≤ limit
 unfolding sizes_checked
 all_small limit i [] e k l = absurd (omega arith)
 all_small limit i (x ∷ xs) e zero l = grind (arith, nat_tests)
@@ -49,14 +55,14 @@ pub record Passing (xs : List ℕ) (o b w : ℕ) : Type 0 where
 
 module _ (xs : List ℕ) (o b w : ℕ) where
   pub passing : input_checked xs o b w ≡ Ok tt → Passing xs o b w
-  unfolding input_checked width_checked places_checked
+  unfolding input_checked
   passing e = grind (arith, nat_tests)
 
   pub passed : Passing xs o b w → input_checked xs o b w ≡ Ok tt
-  unfolding input_checked width_checked places_checked
+  unfolding input_checked
   passed P = grind (arith, nat_tests)
 
   -- no test before planning says so
   pub tests-other : (i : ℕ) → input_checked xs o b w ≡ Err (HeapSpaceExhausted i) → ⊥
-  unfolding input_checked width_checked places_checked
+  unfolding input_checked
   tests-other i e = grind (arith, nat_tests, sizes_other (max_managed fixed w) 0 xs i)

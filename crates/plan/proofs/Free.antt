@@ -46,8 +46,10 @@ in-at : {lo hi : ℕ} {os xs : List ℕ} → Spaced lo os xs hi → (x i : ℕ) 
 unfolding in_objects
 in-at (none l) x i A = absurd (omega (arith, A.is_object))
 in-at (more l s) x zero A = grind (arith, nat_tests, A.not_before, A.not_behind)
-in-at (more l s) x (suc i) A =
-    grind (arith, nat_tests, in-at s x i (record { is_object = omega (arith, A.is_object); not_before = A.not_before; not_behind = A.not_behind }))
+in-at (more {os = os} {xs = xs} l s) x (suc i) A =
+    let here : InObject os xs i x =
+    record { is_object = omega (arith, A.is_object); not_before = A.not_before; not_behind = A.not_behind } in
+    grind (arith, nat_tests, in-at s x i here)
 
 -- none before the first
 below_none : {lo hi : ℕ} {os xs : List ℕ} → Spaced lo os xs hi → (x : ℕ) → x < lo → in_objects os xs x ≡ false
@@ -108,7 +110,8 @@ module _ (t : Table) (g : t.start_bits ≤ t.direct_bits) (k : t.start_bits ≤ 
   objects-in-bodies x e =
       let (i, A) = in_some os xs x e in
       let H = held L i A.is_object in
-      slot-body t g (direct_header t w) x k H.slot (grind (arith, A.not_before, H.from)) (grind (arith, A.not_behind, H.to))
+      slot-body t g (direct_header t w) x k H.slot (grind (arith, A.not_before, H.from))
+      (grind (arith, A.not_behind, H.to))
 
   -- in a body, and in no object
   abbrev is_free : ℕ → Bool
@@ -128,7 +131,8 @@ module _ (t : Table) (g : t.start_bits ≤ t.direct_bits) (k : t.start_bits ≤ 
       }
 
   -- a test that passes just the free bytes passes all that the bodies hold, less the objects' bytes
-  free-count : (q : ℕ → Bool) → ((x : ℕ) → (q x ≡ true) ↔ FreeByte t (direct_header t w) n os xs x) → count q m + s.used ≡ c
+  free-count : (q : ℕ → Bool) → ((x : ℕ) → (q x ≡ true) ↔ FreeByte t (direct_header t w) n os xs x)
+      → count q m + s.used ≡ c
   free-count q f =
       let same : (x : ℕ) → x < m → q x ≡ is_free x = λ x u.
       let there = λ (e : q x ≡ true). (free_in x ((f x).0 e)).1 in
@@ -147,8 +151,10 @@ module _ (t : Table) (g : t.start_bits ≤ t.direct_bits) (k : t.start_bits ≤ 
 
   free-test : (x : ℕ) → (free_test x ≡ true) ↔ FreeByte t (direct_header t w) n os xs x
   unfolding free_test
-  free-test x =
-      (λ e. free-out x (grind (arith, nat_tests)) (grind (arith, nat_tests)), λ F. let b = free_in x F in grind (arith, nat_tests))
+  free-test x = (
+    λ e. free-out x (grind (arith, nat_tests)) (grind (arith, nat_tests)),
+    λ F. let b = free_in x F in grind (arith, nat_tests),
+  )
 
 -- free space is the count of the free bytes
 pub free-is-count : (xs : List ℕ) (o b w : ℕ) (p : ManagedPlan) → planned_for xs o b w ≡ Ok p → FreeCounted w xs p
@@ -160,7 +166,8 @@ free-is-count xs o b w p e = ⊎_elim bare rowed (shape w xs p w8 went)
     w8 : w ≤ 8
     w8 = legal-small w (accepted xs o b w p e).0.width
 
-    L : Laid fixed w (initial fixed w) xs (plan_offsets fixed w xs) (starts_from fixed w (initial fixed w) xs) went.state
+    L : Laid fixed w (initial fixed w) xs (plan_offsets fixed w xs)
+        (starts_from fixed w (initial fixed w) xs) went.state
     L = ran-laid w xs went.state went.ran
 
     counted : (c : ℕ) → Span fixed (direct_header fixed w) p.root_rows p.managed_space c

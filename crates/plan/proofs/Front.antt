@@ -38,7 +38,12 @@ front t w (x ∷ xs) (suc k) s i s' e = go (step_of t w s x) refl (λ s₁. fron
         record {
           state = F.state;
           is = run-goes t w s x (take k xs) s₁ o q i ∙ F.is;
-          same-offsets = grind (arith, offsets-go t w s x (take k xs) s₁ o q, offsets-go t w s x xs s₁ o q, F.same-offsets);
+          same-offsets = grind (
+            arith,
+            offsets-go t w s x (take k xs) s₁ o q,
+            offsets-go t w s x xs s₁ o q,
+            F.same-offsets,
+          );
           later = F.later;
           same-starts = grind (arith, nat_tests, F.same-starts);
         }
@@ -78,7 +83,8 @@ front-part xs o b w p e k o' b' lo lb =
     }
 
 -- such as those of the whole list
-pub front-part-there : (xs : List ℕ) (o b w : ℕ) (p : ManagedPlan) → planned_for xs o b w ≡ Ok p → (k : ℕ) → FrontPart xs w k o b
+pub front-part-there : (xs : List ℕ) (o b w : ℕ) (p : ManagedPlan) → planned_for xs o b w ≡ Ok p → (k : ℕ)
+    → FrontPart xs w k o b
 front-part-there xs o b w p e k =
     let A = (accepted xs o b w p e).0 in
     let a = A.offsets in

@@ -28,13 +28,15 @@ record Stopped (t : Table) (w : ℕ) (s : State) (xs : List ℕ) (i n : ℕ) : T
 
 module _ (t : Table) (w : ℕ) where
   -- a run that stops has such a size
-  stopped : (xs : List ℕ) (s : State) (i j : ℕ) → run_from t w s xs i ≡ Err j → (n : ℕ) × (j ≡ i + n) × Stopped t w s xs i n
+  stopped : (xs : List ℕ) (s : State) (i j : ℕ) → run_from t w s xs i ≡ Err j
+      → (n : ℕ) × (j ≡ i + n) × Stopped t w s xs i n
   unfolding run_from
   stopped [] s i j e = absurd cc
   stopped (x ∷ xs) s i j e = go (step_of t w s x) refl (λ s₁. stopped xs s₁ (suc i) j)
     where
       go : (v : Option (State × ℕ)) → step_of t w s x ≡ v
-          → ((s₁ : State) → run_from t w s₁ xs (suc i) ≡ Err j → (n : ℕ) × (j ≡ suc i + n) × Stopped t w s₁ xs (suc i) n)
+          → ((s₁ : State) → run_from t w s₁ xs (suc i) ≡ Err j
+          → (n : ℕ) × (j ≡ suc i + n) × Stopped t w s₁ xs (suc i) n)
           → (n : ℕ) × (j ≡ i + n) × Stopped t w s (x ∷ xs) i n
       go (Some (s₁, o)) q ih =
           let (n, j-is, S) = ih s₁ (sym (run-goes t w s x xs s₁ o q i) ∙ e) in (
@@ -48,7 +50,8 @@ module _ (t : Table) (w : ℕ) where
             },
           )
       go None q ih =
-          (0, grind (arith, run-stops t w s x xs i q), record { object = omega arith; state = s; before = refl; ends = q })
+          let here : Stopped t w s (x ∷ xs) i 0 = record { object = omega arith; state = s; before = refl; ends = q } in
+          (0, grind (arith, run-stops t w s x xs i q), here)
 
   -- and back
   stops : (xs : List ℕ) (s : State) (i n : ℕ) → Stopped t w s xs i n → run_from t w s xs i ≡ Err (i + n)
@@ -59,7 +62,8 @@ module _ (t : Table) (w : ℕ) where
       grind (
         arith,
         λ (p : State × ℕ) (q : step_of t w s x ≡ Some p). λ (b : run_from t w p.0 (take n xs) (suc i) ≡ Ok S.state).
-            stops xs p.0 (suc i) n (record { object = omega (arith, S.object); state = S.state; before = b; ends = S.ends }),
+            stops xs p.0 (suc i) n
+            (record { object = omega (arith, S.object); state = S.state; before = b; ends = S.ends }),
       )
 
 -- ---- one step
@@ -83,7 +87,8 @@ module _ (t : Table) (g : t.start_bits ≤ t.direct_bits) (k : t.start_bits ≤ 
       }
 
   ends-step : Nowhere → step_of t w s x ≡ None
-  ends-step N = step-open t w s x N.not-here ∙ ap (opened t w s x) (go (open_at t (direct_header t w + x) (block_end s)) refl)
+  ends-step N = step-open t w s x N.not-here
+      ∙ ap (opened t w s x) (go (open_at t (direct_header t w + x) (block_end s)) refl)
     where
       go : (v : Option Slot) → open_at t (direct_header t w + x) (block_end s) ≡ v → v ≡ None
       go (Some b) q =

@@ -182,7 +182,8 @@ module _ {t : Table} {w : ℕ} where
 -- ---- the fixed table
 
 -- the blocks of the whole list, where it has an object
-pub starts-some : (w : ℕ) (xs : List ℕ) → 0 < length xs → plan_starts fixed w xs ≡ starts_from fixed w (initial fixed w) xs
+pub starts-some : (w : ℕ) (xs : List ℕ) → 0 < length xs
+    → plan_starts fixed w xs ≡ starts_from fixed w (initial fixed w) xs
 unfolding plan_starts
 starts-some w [] l = absurd (omega arith)
 starts-some w (x ∷ xs) l = refl

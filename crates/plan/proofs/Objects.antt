@@ -28,7 +28,8 @@ spaced-apart (more l s) (suc i) (suc j) u v = spaced-apart s i j (omega arith) (
 
 module _ (xs : List ℕ) (o b w : ℕ) (p : ManagedPlan) (e : planned_for xs o b w ≡ Ok p) where
   -- a heap offset is a byte of one object at most
-  pub no-shared-byte : (i j x : ℕ) → InObject (plan_offsets fixed w xs) xs i x → InObject (plan_offsets fixed w xs) xs j x
+  pub no-shared-byte : (i j x : ℕ) → InObject (plan_offsets fixed w xs) xs i x
+      → InObject (plan_offsets fixed w xs) xs j x
       → i ≡ j
   no-shared-byte i j x A B =
       let went = (accepted xs o b w p e).1 in
@@ -40,7 +41,14 @@ module _ (xs : List ℕ) (o b w : ℕ) (p : ManagedPlan) (e : planned_for xs o b
   in-one-body i l =
       let went = (accepted xs o b w p e).1 in
       let H = rw (sym (starts-some w xs (omega arith))) at (held (ran-laid w xs went.state went.ran) i l) in
-      record { n = H.n; placed = H.placed; size = H.size; slot = slot-fixed H.slot; past_header = H.from; ends_inside = H.to }
+      record {
+        n = H.n;
+        placed = H.placed;
+        size = H.size;
+        slot = slot-fixed H.slot;
+        past_header = H.from;
+        ends_inside = H.to;
+      }
 
   -- no object has a byte in a block header, be the block placed or not
   pub no-header-touched : (i x : ℕ) → InObject (plan_offsets fixed w xs) xs i x

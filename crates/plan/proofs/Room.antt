@@ -124,10 +124,10 @@ module _ (w : ℕ) (l : w ≤ 255) (s : State) where
       let p : 0 < block_end s = omega (arith, I.taken, I.blocks) in
       let hs = header-small w l in
       record {
-        some = p;
+        block_placed = p;
         bounded = sound-bounded w s l R.sound;
-        one = λ e. grind (arith, R.room, first-bodies fixed (direct_header fixed w));
-        more = λ e.
+        fits_one_block = λ e. grind (arith, R.room, first-bodies fixed (direct_header fixed w));
+        fits_rows = λ e.
             let T = reach (block_end s) p I.heap e in
             let f : row_offset fixed (rows_of_root fixed (block_end s)) ≤ 2 ^ 40 =
             unfold row_offset in row-mono fixed (rows_of_root fixed (block_end s)) 29 T.most in

@@ -134,7 +134,8 @@ module _ (w x : ℕ) (xs : List ℕ) (p : ManagedPlan) (s : State) (ran : run fi
   shape-some = ⊎_elim (λ h. inl (some-bare h)) (λ h. inr (some-rows h)) (cases_eq (block_end s) 1024)
 
 -- every accepted plan has one of the two
-pub shape : (w : ℕ) (xs : List ℕ) (p : ManagedPlan) → w ≤ 8 → (G : Went w xs p) → Bare w xs p G.state ⊎ Rowed w xs p G.state
+pub shape : (w : ℕ) (xs : List ℕ) (p : ManagedPlan) → w ≤ 8 → (G : Went w xs p)
+    → Bare w xs p G.state ⊎ Rowed w xs p G.state
 shape w [] p l G = inl (shape-none w p l G)
 shape w (x ∷ xs) p l G = shape-some w x xs p G.state G.ran G.totals-is
 
@@ -145,7 +146,8 @@ unfolding slot_at slot_bits slot_bits_in row_of row_in row_offset row_bits
 slot-zero = refl
 
 first_slot : Direct fixed 29 0 1024
-first_slot = slot-fixed (record { starts = start-zero fixed (omega arith); inside = omega arith; size_is = sym slot-zero })
+first_slot =
+    slot-fixed (record { starts = start-zero fixed (omega arith); inside = omega arith; size_is = sym slot-zero })
 
 module _ (xs : List ℕ) (o b w : ℕ) (p : ManagedPlan) (e : planned_for xs o b w ≡ Ok p) where
   shaped : Bare w xs p (accepted xs o b w p e).1.state ⊎ Rowed w xs p (accepted xs o b w p e).1.state

@@ -14,19 +14,19 @@ sizes_checked limit i (x ∷ xs) = do
   _ ← required (nat_le x limit) (ObjectTooLarge i x)
   sizes_checked limit (suc i) xs
 
--- a list of m places holds n numbers: else 13
-unfoldable pub places_checked : ℕ → ℕ → Result (Unit {0}) FormatError
-places_checked n m = required (nat_le n m) (SliceTooShort n m)
+-- a list has the places that are needed: else 13
+abbrev pub places_checked : ℕ → ℕ → Result (Unit {0}) FormatError
+places_checked needed lent = required (nat_le needed lent) (SliceTooShort needed lent)
 
 -- addresses may have w bytes: else 2
-unfoldable pub width_checked : ℕ → Result (Unit {0}) FormatError
+abbrev pub width_checked : ℕ → Result (Unit {0}) FormatError
 width_checked w = required (legal w) (InvalidOffsetSize w)
 
--- the tests before any planning, for lists of o and b places: 2, 13 offsets, 13 blocks, 11. Without objects there is
--- still one block
+-- the tests before any planning, for lists of so many places for offsets and blocks: 2, 13 offsets,
+-- 13 blocks, 11. Without objects there is still one block
 unfoldable pub input_checked : List ℕ → ℕ → ℕ → ℕ → Result (Unit {0}) FormatError
-input_checked xs o b w = do
+input_checked sizes offsets blocks w = do
   _ ← width_checked w
-  _ ← places_checked (length xs) o
-  _ ← places_checked (max 1 (length xs)) b
-  sizes_checked (max_managed fixed w) 0 xs
+  _ ← places_checked (length sizes) offsets
+  _ ← places_checked (max 1 (length sizes)) blocks
+  sizes_checked (max_managed fixed w) 0 sizes

@@ -1,4 +1,5 @@
--- What the theorems say of a plan. The objects have these sizes, in bytes, and addresses offset_size bytes.
+-- What the theorems say of a plan. The objects have these sizes, in bytes, and addresses
+-- offset_size bytes.
 use Rattle.std.specs.Prelude.{ℕ, ◌+◌, ◌≤◌, ◌<◌, ◌≡◌, ◌↔◌, max, Bool, true, List, [], ◌∷◌, ◌++◌, length, take, slice_index, Ok, Err}
 use Rattle.refusals.specs.declared.FormatError.TheVariants.{HeapSpaceExhausted}
 use Rattle.table.specs.Table.{Table, fixed, row_offset}
@@ -19,8 +20,8 @@ object_start offset_size sizes i = slice_index (plan_offsets fixed offset_size s
 abbrev pub block_start : ℕ → List ℕ → ℕ → ℕ
 block_start offset_size sizes n = slice_index (plan_starts fixed offset_size sizes) n
 
--- the heap offset x is a byte of the i-th of the objects at these heap offsets: one of as many as its size, from its
--- own on
+-- the heap offset x is a byte of the i-th of the objects at these heap offsets: one of as many as
+-- its size, from its own on
 pub record InObject (offsets sizes : List ℕ) (i x : ℕ) : Type 0 where
   pub is_object : i < length sizes
   pub not_before : slice_index offsets i ≤ x
@@ -30,8 +31,8 @@ pub record InObject (offsets sizes : List ℕ) (i x : ℕ) : Type 0 where
 abbrev pub InPlannedObject : ℕ → List ℕ → ℕ → ℕ → Type 0
 InPlannedObject offset_size sizes i x = InObject (plan_offsets fixed offset_size sizes) sizes i x
 
--- the first k of the sizes are accepted in lists of so many places, with the same offsets; where there are some, the
--- blocks too are the first of the whole's
+-- the first k of the sizes are accepted in lists of so many places, with the same offsets; where
+-- there are some, the blocks too are the first of the whole's
 pub record FrontPart (sizes : List ℕ) (offset_size k offset_places block_places : ℕ) : Type 0 where
   pub plan : ManagedPlan
   pub accepted : planned_for (take k sizes) offset_places block_places offset_size ≡ Ok plan
@@ -52,8 +53,8 @@ pub record InPlacedBlock (offset_size : ℕ) (sizes : List ℕ) (i : ℕ) : Type
   pub ends_inside : object_start offset_size sizes i + slice_index sizes i
       ≤ block_start offset_size sizes n + size
 
--- the heap offset x lies in the body of a direct slot of the managed space of a heap with so many root rows, past its
--- header, and in no object
+-- the heap offset x lies in the body of a direct slot of the managed space of a heap with so many
+-- root rows, past its header, and in no object
 pub record FreeByte (t : Table) (header rows : ℕ) (offsets sizes : List ℕ) (x : ℕ) : Type 0 where
   pub in_body : InBody t header rows x
   pub in_no_object : (i : ℕ) → InObject offsets sizes i x → ⊥
@@ -64,8 +65,8 @@ Free offset_size sizes plan x =
     FreeByte fixed (direct_header fixed offset_size) plan.root_rows
     (plan_offsets fixed offset_size sizes) sizes x
 
--- the plan says how many free bytes there are: all lie in the managed space, and a test that passes just them, such as
--- the one here, passes as many there
+-- the plan says how many free bytes there are: all lie in the managed space, and a test that passes
+-- just them, such as the one here, passes as many there
 pub record FreeCounted (offset_size : ℕ) (sizes : List ℕ) (plan : ManagedPlan) : Type 0 where
   pub in_managed_space : (x : ℕ) → Free offset_size sizes plan x → x < plan.managed_space
   pub test : ℕ → Bool
@@ -99,8 +100,8 @@ FrontPartsFit =
     → planned_for sizes offset_places block_places offset_size ≡ Ok plan
     → (k : ℕ) → FrontPart sizes offset_size k offset_places block_places
 
--- after the sizes before it, the i-th fits neither the rest of the current block nor any direct slot that begins at or
--- after that block's end
+-- after the sizes before it, the i-th fits neither the rest of the current block nor any direct
+-- slot that begins at or after that block's end
 pub record NoSlotFits (offset_size : ℕ) (sizes : List ℕ) (i : ℕ) : Type 0 where
   pub is_object : i < length sizes
   pub state : State
@@ -109,7 +110,8 @@ pub record NoSlotFits (offset_size : ℕ) (sizes : List ℕ) (i : ℕ) : Type 0 
   pub not_in_later : (start size : ℕ) → Direct fixed 29 start size → block_end state ≤ start
       → size < direct_header fixed offset_size + slice_index sizes i
 
--- the answer is 12 at the i-th object exactly if the tests before pass and no slot that is left fits it
+-- the answer is 12 at the i-th object exactly if the tests before pass and no slot that is left
+-- fits it
 abbrev pub EndsIffNoneFits : Type 0
 EndsIffNoneFits =
     (sizes : List ℕ) (offset_places block_places offset_size i : ℕ)
@@ -117,7 +119,8 @@ EndsIffNoneFits =
     ↔ ((input_checked sizes offset_places block_places offset_size ≡ Ok tt)
     × NoSlotFits offset_size sizes i)
 
--- the root's rows reach the end of the last placed block, the n-th, which is the iterator, and fewer do not
+-- the root's rows reach the end of the last placed block, the n-th, which is the iterator, and
+-- fewer do not
 pub record FewestRows (offset_size : ℕ) (sizes : List ℕ) (plan : ManagedPlan) : Type 0 where
   pub n : ℕ
   pub is_last : length (plan_starts fixed offset_size sizes) ≡ n + 1
@@ -134,7 +137,8 @@ pub record OneBlock (offset_size : ℕ) (sizes : List ℕ) (plan : ManagedPlan) 
   pub managed : plan.managed_space ≡ 1024
   pub iterator : plan.allocation_iterator ≡ 0
 
--- a root of some rows has the fewest, one of none is the one placed block, and that block is such a root
+-- a root of some rows has the fewest, one of none is the one placed block, and that block is such a
+-- root
 pub record RootFits (offset_size : ℕ) (sizes : List ℕ) (plan : ManagedPlan) : Type 0 where
   pub rows_are_fewest : 0 < plan.root_rows → FewestRows offset_size sizes plan
   pub no_rows_one_block : plan.root_rows ≡ 0 → OneBlock offset_size sizes plan
@@ -145,7 +149,8 @@ unfoldable pub sizes_at : Table → List ℕ → ℕ
 sizes_at t [] = 0
 sizes_at t (b ∷ bs) = (slot_at t b).size + sizes_at t bs
 
--- every object has an offset, and the plan says how many blocks are placed and how large they are together
+-- every object has an offset, and the plan says how many blocks are placed and how large they are
+-- together
 pub record Tallied (offset_size : ℕ) (sizes : List ℕ) (plan : ManagedPlan) : Type 0 where
   pub offsets : length (plan_offsets fixed offset_size sizes) ≡ length sizes
   pub blocks : plan.block_count ≡ length (plan_starts fixed offset_size sizes)

@@ -7,11 +7,12 @@ use Rattle.plan.specs.declared.ManagedPlan.{ManagedPlan}
 
 -- the list of totals at the end: the plan's numbers in front, or the refusal's pair
 abbrev pub planned_totals : List ℕ → Result ManagedPlan FormatError → List ℕ
-planned_totals l p = put l 0 (planned_values p)
+planned_totals totals answer = put totals 0 (planned_values answer)
 
 -- a list of totals shorter than 8 places gives 13 before all else
-unfoldable pub plan_number : List ℕ → Result ManagedPlan FormatError → ℕ
-plan_number l p = if nat_lt (length l) 8 then 13 else planned_number p
+abbrev pub plan_number : List ℕ → Result ManagedPlan FormatError → ℕ
+plan_number totals answer = if nat_lt (length totals) 8 then 13 else planned_number answer
 
-unfoldable pub plan_totals : List ℕ → Result ManagedPlan FormatError → List ℕ
-plan_totals l p = if nat_lt (length l) 8 then l else planned_totals l p
+abbrev pub plan_totals : List ℕ → Result ManagedPlan FormatError → List ℕ
+plan_totals totals answer =
+    if nat_lt (length totals) 8 then totals else planned_totals totals answer

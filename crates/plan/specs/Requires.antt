@@ -9,8 +9,9 @@ use Rattle.planner.specs.Requires.{Bounded}
 use Rattle.plan.specs.End.{rows_of_root}
 
 -- a state after the last object: some block is placed, and the objects lie in the root's slots
-pub record Totalled (w : ℕ) (s : State) : Type 0 where
-  pub some : 0 < block_end s
+pub record Totalled (offset_size : ℕ) (s : State) : Type 0 where
+  pub block_placed : 0 < block_end s
   pub bounded : Bounded s
-  pub one : block_end s ≡ 1024 → direct_header fixed w + s.used ≤ 1024
-  pub more : (block_end s ≡ 1024 → ⊥) → s.used ≤ capacity fixed (direct_header fixed w) (rows_of_root fixed (block_end s))
+  pub fits_one_block : block_end s ≡ 1024 → direct_header fixed offset_size + s.used ≤ 1024
+  pub fits_rows : (block_end s ≡ 1024 → ⊥)
+      → s.used ≤ capacity fixed (direct_header fixed offset_size) (rows_of_root fixed (block_end s))

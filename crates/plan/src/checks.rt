@@ -8,7 +8,7 @@ use refusals::FormatError;
 use table::block_sizes::max_managed_object;
 
 // The first size above the limit is refused.
-#[tactic(auto, using(crate::proofs::Checking::size_large, crate::proofs::Checking::size_small, crate::proofs::Checking::sizes_passed))]
+#[tactic(auto, using(crate::proofs::Checking::sizes_in_turn))]
 fn check_sizes(sizes: &[u64], limit: u64) -> Result<(), FormatError>
     ensures { result ≡ sizes_checked limit 0 sizes.now }
 {
@@ -24,7 +24,6 @@ fn check_sizes(sizes: &[u64], limit: u64) -> Result<(), FormatError>
 }
 
 /// Tests that a list of `lent` places holds `needed` numbers: else 13 with both.
-#[tactic(auto, unfolding(crate::specs::Checks::places_checked))]
 pub fn check_places(needed: usize, lent: usize) -> Result<(), FormatError>
     ensures answer { result ≡ places_checked needed lent }
     ensures long_enough { OnOk result (needed ≤ lent) }
@@ -40,7 +39,7 @@ pub fn check_places(needed: usize, lent: usize) -> Result<(), FormatError>
 
 /// The tests of lists of `offsets` and `blocks` places and of the sizes: 13 for the offsets, 13 for the blocks, 11, in
 /// this order. Without objects there is still one block, so the list of blocks has one place at least.
-#[tactic(auto, unfolding(crate::specs::Checks::input_checked, crate::specs::Checks::width_checked), using(fields::proofs::Widths::legal_width))]
+#[tactic(auto, unfolding(crate::specs::Checks::input_checked), using(fields::proofs::Widths::legal_width))]
 pub fn check_input(
     sizes: &[u64],
     offsets: usize,

@@ -136,7 +136,7 @@ impl ManagedPlan {
     /// the first that applies, leaves both as they were.
     //
     // The sizes are planned twice: once without touching a list, which gives 12 or the totals, and then to write them.
-    #[tactic(auto, unfolding(crate::specs::Answer::planned_for, crate::specs::Checks::input_checked, crate::specs::Checks::width_checked))]
+    #[tactic(auto, unfolding(crate::specs::Answer::planned_for, crate::specs::Checks::input_checked))]
     pub fn new(
         sizes: &[u64],
         offsets: &mut [u64],

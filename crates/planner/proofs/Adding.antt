@@ -8,7 +8,8 @@ use Rattle.planner.specs.Steps.{open_at, block_end, step_of}
 use Rattle.planner.specs.declared.State.{State}
 use Rattle.planner.proofs.Stepping.{step-open}
 
--- the state after an object of x bytes that opened the slot b, from its header's size and the bytes of new indirect blocks
+-- the state after an object of x bytes that opened the slot b, from its header's size and the bytes of new indirect
+-- blocks
 abbrev pub after : State → ℕ → ℕ → ℕ → Slot → State
 after s x h e b = record {
   start = b.start;

@@ -25,7 +25,8 @@ module _ (s : State) (x : ℕ) (xs : List ℕ) where
 -- s' is the state after the first of the sizes xs, which have the offsets os and open no block
 pub record Fill (t : Table) (w : ℕ) (s : State) (xs : List ℕ) (s' : State) (os : List ℕ) : Type 0 where
   pub inside : length os ≤ length xs
-  pub same-run : (ys : List ℕ) (i : ℕ) → run_from t w s (take (length os) xs ++ ys) i ≡ run_from t w s' ys (i + length os)
+  pub same-run : (ys : List ℕ) (i : ℕ)
+      → run_from t w s (take (length os) xs ++ ys) i ≡ run_from t w s' ys (i + length os)
   pub same-offsets : offsets_from t w s xs ≡ os ++ offsets_from t w s' (drop (length os) xs)
   pub same-starts : starts_from t w s xs ≡ starts_from t w s' (drop (length os) xs)
   pub same_count : s'.count ≡ s.count
@@ -49,7 +50,7 @@ module _ (t : Table) (w : ℕ) where
           → Fill t w (filled s x) xs (fill_state (filled s x) xs) (fill_offsets (filled s x) xs)
           → Fill t w s (x ∷ xs) (elim b [ true ↦ fill_state (filled s x) xs | false ↦ s ])
           (elim b [ true ↦ (s.start + s.fill) ∷ fill_offsets (filled s x) xs | false ↦ [] ])
-      go true e ih = fill_more s x xs (fill_state (filled s x) xs) (fill_offsets (filled s x) xs) (leb-true (s.fill + x) s.size e) ih
+      go true e ih = fill_more s x xs _ _ (leb-true (s.fill + x) s.size e) ih
       go false e ih = fill_none s (x ∷ xs) (λ u. leb-false (s.fill + x) s.size e)
 
 sound-fill : (w : ℕ) → w ≤ 255 → (xs : List ℕ) (s : State) → Sound w s → Sound w (fill_state s xs)
@@ -73,7 +74,8 @@ module _ (xs : List ℕ) (s : State) (next : ℕ) where
     state-on f = grind (arith, nat_tests, drop_more)
 
     pub offsets-on : s.fill + slice_index xs next ≤ s.size
-        → fill_offsets s (drop next xs) ≡ (s.start + s.fill) ∷ fill_offsets (filled s (slice_index xs next)) (drop (next + 1) xs)
+        → fill_offsets s (drop next xs)
+        ≡ (s.start + s.fill) ∷ fill_offsets (filled s (slice_index xs next)) (drop (next + 1) xs)
     unfolding fill_offsets
     offsets-on f = grind (arith, nat_tests, drop_more)
 
@@ -125,7 +127,8 @@ module _ (w : ℕ) (xs : List ℕ) (s : State) (i : ℕ) (s' : State) (j : ℕ) 
         take-append-drop (length (fill_offsets s (drop i xs))) (drop i xs),
       )
 
-  pub offsets-from-next : offsets_from fixed w s (drop i xs) ≡ fill_offsets s (drop i xs) ++ offsets_from fixed w s' (drop j xs)
+  pub offsets-from-next : offsets_from fixed w s (drop i xs)
+      ≡ fill_offsets s (drop i xs) ++ offsets_from fixed w s' (drop j xs)
   offsets-from-next = grind (arith, rest-is, (fill fixed w (drop i xs) s).same-offsets)
 
   pub starts-from-next : starts_from fixed w s (drop i xs) ≡ starts_from fixed w s' (drop j xs)

@@ -1,6 +1,6 @@
 -- A slot begins at a multiple of its size: so no slot of 2 ^ e bytes or more begins between two multiples of
 -- 2 ^ e, and the search may go on at the next one.
-use Rattle.std.proofs.Common.{◌≡◌, ℕ, zero, suc, ◌+◌, ◌-◌, ◌*◌, ◌/◌, ◌%◌, ◌^◌, ◌<◌, ◌≤◌, max, sym, ap, ◌∙◌, subst, arith, pow_pos, pow_mono, pow-add, mul-le-mul_right, lt_of_mul-lt-mul_right}
+use Rattle.std.proofs.Common.{◌≡◌, ℕ, zero, suc, ◌+◌, ◌-◌, ◌*◌, ◌/◌, ◌%◌, ◌^◌, ◌<◌, ◌≤◌, max, sym, ap, ◌∙◌, arith, pow_pos, pow_mono, pow-add, mul-le-mul_right, lt_of_mul-lt-mul_right}
 use Rattle.std.specs.Int.{IsPowerOfTwo}
 use Rattle.std.specs.Int.Bits.{bit_and}
 use Rattle.std.proofs.lemmas.Nat.{and_mask}
@@ -37,7 +37,8 @@ module _ (t : Table) (g : t.start_bits ≤ t.direct_bits) (k : t.start_bits ≤ 
       )
 
   -- from a slot's start to the next multiple of 2 ^ e no slot holds n
-  pub jump : (f n e c q : ℕ) → Start t c → q * 2 ^ e ≤ c + f → c ≤ q * 2 ^ e → q * 2 ^ e < c + 2 ^ e → q * 2 ^ e ≤ 2 ^ t.heap_bits
+  pub jump : (f n e c q : ℕ) → Start t c → q * 2 ^ e ≤ c + f → c ≤ q * 2 ^ e → q * 2 ^ e < c + 2 ^ e
+      → q * 2 ^ e ≤ 2 ^ t.heap_bits
       → ((j : ℕ) → n ≤ 2 ^ j → e ≤ j) → open_at t n c ≡ open_at t n (q * 2 ^ e)
   unfolding slot_at
   jump zero n e c q s a l u w least = grind arith
@@ -81,8 +82,9 @@ jumped-power n c e s half h is l u =
     let small : 2 ^ e ≤ 2 ^ 16 = pow_mono few in
     let some : 0 < 2 ^ e = pow_pos e in
     let mask : bit_and end (2 ^ e - 1) ≡ end % 2 ^ e = and_mask end e in
-    let within : slot_end s ≤ 2 ^ 40 = subst (λ (y : Slot). slot_end y ≤ 2 ^ 40) (sym is) (end-le fixed c (omega arith) (omega arith) l) in
-    let jumped = pass-jump fixed (omega arith) (omega arith) n e c (end - bit_and end (2 ^ e - 1)) (end / 2 ^ e) s is l (omega arith) u
+    let within : slot_end s ≤ 2 ^ 40 = rw is (end-le fixed c (omega arith) (omega arith) l) in
+    let y = end - bit_and end (2 ^ e - 1) in
+    let jumped = pass-jump fixed (omega arith) (omega arith) n e c y (end / 2 ^ e) s is l (omega arith) u
     (λ j v. power-least n e j half v) (omega arith) (omega arith) (grind arith) in
     record { sum = omega arith; same = jumped.0; on = jumped.1; within = jumped.2 }
 

@@ -72,7 +72,14 @@ module _ (t : Table) (g : t.start_bits ≤ t.direct_bits) (k : t.start_bits ≤ 
   unfolding open_in
   full-in zero n c h s e b r l u = absurd (omega arith)
   full-in (suc f) n c h s e b r l u =
-      grind (arith, nat_tests, end-gt t c, start-next t g k c s, apart t g k c b s r, full-in f n (slot_end (slot_at t c)))
+      grind (
+        arith,
+        nat_tests,
+        end-gt t c,
+        start-next t g k c s,
+        apart t g k c b s r,
+        full-in f n (slot_end (slot_at t c)),
+      )
 
   -- the heap is full for n bytes only if no slot from c on has n bytes
   pub full-none : (n c : ℕ) → Start t c → open_at t n c ≡ None

@@ -43,7 +43,8 @@ module _ (w : ℕ) (s : State) (R : IsReached w s) where
   pub reached-bounded : w ≤ 255 → Bounded s
   unfolding run
   reached-bounded l =
-      ∥∥₁_elim R (bounded-prop s) (λ p. sound-bounded w s l (run-sound w l p.0 (initial fixed w) 0 s (sound-initial w) p.1))
+      ∥∥₁_elim R (bounded-prop s)
+      (λ p. sound-bounded w s l (run-sound w l p.0 (initial fixed w) 0 s (sound-initial w) p.1))
 
   -- one object more
   pub reached-step : (x : ℕ) (s' : State) (o : ℕ) → step_of fixed w s x ≡ Some (s', o) → IsReached w s'
@@ -59,5 +60,5 @@ reached-fill w (x ∷ xs) s R =
     elim (cases_lt s.size (s.fill + x)) [
       | inl l ↦ subst (IsReached w) (sym (state-full s x xs l)) R
       | inr l ↦ subst (IsReached w) (sym (state-fits s x xs l))
-          (reached-fill w xs (filled s x) (reached-step w s R x (filled s x) (s.start + s.fill) (step_same fixed w s x l)))
+          (reached-fill w xs (filled s x) (reached-step w s R x _ _ (step_same fixed w s x l)))
     ]

@@ -59,7 +59,8 @@ module _ (t : Table) (w : ℕ) (xs : List ℕ) (s : State) (i : ℕ) (l : i < le
     unfolding offsets_from
     offsets-placed = grind (arith, drop_more)
 
-    pub starts-new : s.count < s'.count → starts_from t w s (drop i xs) ≡ s'.start ∷ starts_from t w s' (drop (i + 1) xs)
+    pub starts-new : s.count < s'.count
+        → starts_from t w s (drop i xs) ≡ s'.start ∷ starts_from t w s' (drop (i + 1) xs)
     unfolding starts_from
     starts-new u = grind (arith, nat_tests, drop_more)
 
@@ -89,7 +90,8 @@ pub sound-bounded : (w : ℕ) (s : State) → w ≤ 255 → Sound w s → Bounde
 unfolding direct_header offset_bytes
 sound-bounded w s l S = grind arith
 
-module _ (w : ℕ) (s : State) (x : ℕ) (s' : State) (o : ℕ) (l : w ≤ 255) (S : Sound w s) (e : step_of fixed w s x ≡ Some (s', o)) where
+module _ (w : ℕ) (s : State) (x : ℕ) (s' : State) (o : ℕ) (l : w ≤ 255) (S : Sound w s)
+    (e : step_of fixed w s x ≡ Some (s', o)) where
   pub placing : Placing fixed w s x s' o
   placing = step-placed fixed (omega arith) (omega arith) w s x S.ok s' o e
 

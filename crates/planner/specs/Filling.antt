@@ -6,10 +6,14 @@ use Rattle.planner.specs.declared.State.{State}
 -- the state after them
 unfoldable pub fill_state : State → List ℕ → State
 fill_state s [] = s
-fill_state s (x ∷ xs) = elim (nat_le (s.fill + x) s.size) [ true ↦ fill_state (filled s x) xs | false ↦ s ]
+fill_state s (x ∷ xs) =
+    elim (nat_le (s.fill + x) s.size) [ true ↦ fill_state (filled s x) xs | false ↦ s ]
 
 -- their heap offsets
 unfoldable pub fill_offsets : State → List ℕ → List ℕ
 fill_offsets s [] = []
 fill_offsets s (x ∷ xs) =
-    elim (nat_le (s.fill + x) s.size) [ true ↦ (s.start + s.fill) ∷ fill_offsets (filled s x) xs | false ↦ [] ]
+    elim (nat_le (s.fill + x) s.size) [
+      | true ↦ (s.start + s.fill) ∷ fill_offsets (filled s x) xs
+      | false ↦ []
+    ]

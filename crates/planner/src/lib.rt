@@ -4,7 +4,8 @@
 
 pub mod search;
 
-ghost use Rattle.std.specs.Prelude.{◌≡◌, ◌+◌, ◌<◌, ◌≤◌, length, take, drop, Some, None, Ok, Err, IfSome, IfNone, IfErr, OnOk};
+ghost use Rattle.std.specs.Prelude.{◌≡◌, ◌+◌, ◌<◌, ◌≤◌, length, take, drop};
+ghost use Rattle.std.specs.Prelude.{Some, None, Ok, Err, IfSome, IfNone, IfErr, OnOk};
 ghost use Rattle.table.specs.Table.{fixed};
 ghost use Rattle.table.specs.Sizes.{max_managed};
 ghost use Rattle.planner.specs.Steps.{initial, step_of, run_from, offsets_from, starts_from};
@@ -52,8 +53,8 @@ pub struct Planner {
 impl Planner {
     /// The plan of no objects: no block is placed.
     //
-    // The current block is one of no bytes, filled past its end by a header: so nothing fits, and the first object opens
-    // a block, be it empty.
+    // The current block is one of no bytes, filled past its end by a header: so nothing fits, and the first object
+    // opens a block, be it empty.
     pub fn new(offset_size: u8) -> Planner
         ensures width { result.offset_size ≡ offset_size }
         ensures state { result.state ≡ initial fixed offset_size }

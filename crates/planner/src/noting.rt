@@ -2,7 +2,8 @@
 
 ghost use Rattle.std.specs.Prelude.{◌≡◌, ℕ, ◌<◌, List, length, slice_set};
 
-/// What becomes of a number that belongs at an index of a lent list: a type parameter, so that one loop counts and writes.
+/// What becomes of a number that belongs at an index of a lent list: a type parameter, so that one loop counts and
+/// writes.
 //
 // A closure would do that, too, but what it writes to a lent list is not known after the call.
 pub trait Noting {

@@ -5,16 +5,16 @@ ghost use Rattle.table.specs.Table.{fixed};
 ghost use Rattle.planner.specs.Steps.{open_at};
 ghost use Rattle.planner.specs.Requires.{InHeap};
 
-use table::{MAX_HEAP_SPACE, Slot};
 use table::slot_places::locate;
+use table::{MAX_HEAP_SPACE, Slot};
 
 /// The first slot from the heap offset `cursor` on, where a slot begins, that has `need` bytes; `None` where the heap
 /// space has none.
 //
 // A slot begins at a multiple of its size, so no slot that is large enough begins between two multiples of `span`, the
-// least power of two that holds `need`: from a slot that is too small the search goes on at the next one. The definition
-// tries slot after slot; `jump` in proofs/Jumping.antt proves that both find the same. The mask is the next multiple
-// without a division.
+// least power of two that holds `need`: from a slot that is too small the search goes on at the next one. The
+// definition tries slot after slot; `jump` in proofs/Jumping.antt proves that both find the same. The mask is the next
+// multiple without a division.
 pub fn find_slot(cursor: u64, need: u64) -> Option<Slot>
     requires cursor_in_heap { cursor ≤ 2 ^ 40 }
     requires need_in_block { need ≤ 65536 }

@@ -7,17 +7,24 @@ use Rattle.planner.proofs.Planner.open.Goals as goal
 
 pub returns-in_err-slot-clause-ends : goal.returns-in_err-slot-clause-ends
 returns-in_err-slot-clause-ends c =
-    if_none _ _ (opens-none _ _ _ c.requires.no_room_here c.direct_block_header-header.ensures c.in_err-slot.ensures.first_large_enough)
+    let none = c.in_err-slot.ensures.first_large_enough in
+    if_none _ _ (opens-none _ _ _ c.requires.no_room_here c.direct_block_header-header.ensures none)
 
 pub overflow_add-self-5 : goal.overflow_add-self-5
 overflow_add-self-5 c =
-    omega (arith, c.entered_blocks.ensures, entered-small c.args.self.now.offset_size (c.args.self.now.state.start + c.args.self.now.state.size) c.in_ok-slot.slot.start (omega arith))
+    let s = c.args.self.now.state in
+    let small = entered-small c.args.self.now.offset_size (s.start + s.size) c.in_ok-slot.slot.start (omega arith) in
+    omega (arith, c.entered_blocks.ensures)
 
 pub invariant_of-self : goal.invariant_of-self
 invariant_of-self c =
-    let r = reached-step _ _ c.args.self.now.reached _ _ _
-    (opens-at _ _ _ c.requires.no_room_here c.direct_block_header-header.ensures c.entered_blocks.ensures c.in_ok-slot.ensures.first_large_enough) in
+    let found = c.in_ok-slot.ensures.first_large_enough in
+    let header = c.direct_block_header-header.ensures in
+    let step = opens-at _ _ _ c.requires.no_room_here header c.entered_blocks.ensures found in
+    let r = reached-step _ _ c.args.self.now.reached _ _ _ step in
     record { reached = r; bounded = reached-bounded _ _ r (omega arith); narrow = c.args.self.now.narrow }
 
 pub returns-clause-placed : goal.returns-clause-placed
-returns-clause-placed c = opens-at _ _ _ c.requires.no_room_here c.direct_block_header-header.ensures c.entered_blocks.ensures c.in_ok-slot.ensures.first_large_enough
+returns-clause-placed c =
+    let found = c.in_ok-slot.ensures.first_large_enough in
+    opens-at _ _ _ c.requires.no_room_here c.direct_block_header-header.ensures c.entered_blocks.ensures found

@@ -15,26 +15,30 @@ returns-then-need-slot-clause-in_heap c =
 
 pub overflow_add-end : goal.overflow_add-end
 overflow_add-end c =
-    let j = jumped c.next_power_of_two-span.ensures.power c.next_power_of_two-span.ensures.upper_bound c.requires.need_in_block
-    c.locate-slot.ensures c.loop-from-test.true c.if-need-slot.false in
+    let span = c.next_power_of_two-span.ensures in
+    let j = jumped span.power span.upper_bound c.requires.need_in_block c.locate-slot.ensures c.loop-from-test.true
+    c.if-need-slot.false in
     omega (arith, j.sum)
 
 pub overflow_add-end-in-loop-from : goal.overflow_add-end-in-loop-from
 overflow_add-end-in-loop-from c =
-    let j = jumped c.next_power_of_two-span.ensures.power c.next_power_of_two-span.ensures.upper_bound c.requires.need_in_block
-    c.locate-slot.ensures c.loop-from-test.true c.if-need-slot.false in
+    let span = c.next_power_of_two-span.ensures in
+    let j = jumped span.power span.upper_bound c.requires.need_in_block c.locate-slot.ensures c.loop-from-test.true
+    c.if-need-slot.false in
     omega (arith, j.sum)
 
 pub loop-from-smaller : goal.loop-from-smaller
 loop-from-smaller c =
-    let j = jumped c.next_power_of_two-span.ensures.power c.next_power_of_two-span.ensures.upper_bound c.requires.need_in_block
-    c.locate-slot.ensures c.loop-from-test.true c.if-need-slot.false in
+    let span = c.next_power_of_two-span.ensures in
+    let j = jumped span.power span.upper_bound c.requires.need_in_block c.locate-slot.ensures c.loop-from-test.true
+    c.if-need-slot.false in
     omega (arith, j.on, j.within)
 
 pub loop-from-preserved : goal.loop-from-preserved
 loop-from-preserved c =
-    let j = jumped c.next_power_of_two-span.ensures.power c.next_power_of_two-span.ensures.upper_bound c.requires.need_in_block
-    c.locate-slot.ensures c.loop-from-test.true c.if-need-slot.false in
+    let span = c.next_power_of_two-span.ensures in
+    let j = jumped span.power span.upper_bound c.requires.need_in_block c.locate-slot.ensures c.loop-from-test.true
+    c.if-need-slot.false in
     record { in_heap = j.within; same = c.loop-from.invariant.same ∙ j.same }
 
 pub returns-clause-first_large_enough : goal.returns-clause-first_large_enough
