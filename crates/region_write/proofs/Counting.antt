@@ -1,15 +1,9 @@
 -- The indirect blocks that the walk yields take as many bytes as are counted while direct blocks open.
-use Prim.Native.Nat.{ℕ, zero, suc, ◌+◌, ◌-◌, ◌*◌, ◌/◌, ◌^◌, ◌≤◌, ◌<◌}
-use mathlib.Core.Path.{◌≡◌, refl, sym, ap, ◌∙◌, subst}
-use mathlib.Core.Bool.{cond}
-use mathlib.Core.List.{List, [], ◌∷◌, ◌++◌}
-use native.Mathlib.Omega.{arith}
-use native.Mathlib.Nat.{zero-add, sub-zero}
-use native.Mathlib.Decide.{dec_lt}
-use lib.Dec.{leb}
-use lib.ListN.{length, length-append}
-use lib.Pow.{pow_pos, high}
-use borrow.Author.Tests.{le-leb, lt-leb}
+use Rattle.std.proofs.Common.{ℕ, zero, suc, ◌+◌, ◌-◌, ◌*◌, ◌/◌, ◌^◌, ◌≤◌, ◌<◌, ◌≡◌, refl, sym, ap, ◌∙◌, subst, cond, List, [], ◌∷◌, ◌++◌, arith, zero-add, leb, length, length-append, pow_pos, le-leb}
+use Rattle.std.proofs.Math.Nat.{sub-zero}
+use Rattle.std.proofs.Math.Decide.{dec_lt}
+use Rattle.std.proofs.Math.Pow.{high}
+use Rattle.std.proofs.lemmas.Bool.{lt-leb}
 use Rattle.table.specs.Table.{Table, row_bits, row_offset, row_of}
 use Rattle.table.specs.Slots.{slot_at, slot_start, entered_bytes_in, entered_bytes}
 use Rattle.table.specs.Sizes.{indirect_size}

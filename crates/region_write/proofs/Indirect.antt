@@ -1,16 +1,10 @@
 -- The indirect blocks of a plan's region are as long as the plan says, and lead to all of its direct blocks.
-use Prim.Native.Nat.{ℕ, ◌+◌, ◌≤◌, ◌<◌}
-use mathlib.Core.Path.{◌≡◌, refl, sym, ap, ◌∙◌, subst}
-use mathlib.Core.List.{List, [], ◌∷◌}
-use native.Mathlib.Omega.{arith}
-use native.Mathlib.Nat.{zero-add}
-use native.Mathlib.Decide.{ℕ_discrete}
-use borrow.Author.Tests.{eq-eqb, ne_eqb}
+use Rattle.std.proofs.Common.{ℕ, ◌+◌, ◌≤◌, ◌<◌, ◌≡◌, refl, sym, ap, ◌∙◌, subst, List, [], ◌∷◌, arith, zero-add, eq-eqb, ne_eqb, Ok}
+use Rattle.std.proofs.Math.Decide.{ℕ_discrete}
 use Rattle.table.specs.Table.{Table, fixed, row_offset}
 use Rattle.table.specs.Sizes.{indirect_size}
 use Rattle.table_laws.proofs.Format.{slot-least}
 use Rattle.planner.specs.declared.State.{State}
-use Rattle.std.specs.Prelude.{Ok}
 use Rattle.plan.specs.declared.ManagedPlan.{ManagedPlan}
 use Rattle.planner.specs.Steps.{initial, block_end, run, plan_offsets, plan_starts}
 use Rattle.plan.specs.End.{end_state, rows_of_root}

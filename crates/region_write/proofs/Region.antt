@@ -1,17 +1,10 @@
 -- Of every plan: the region of its objects is as long as planned, and its root stands at the planned place.
-use Prim.Native.Nat.{ℕ, zero, suc, ◌+◌, ◌<◌}
-use mathlib.Core.Path.{◌≡◌, refl, sym, ap, ◌∙◌}
-use mathlib.Core.Bool.{Bool, true, false, cond}
-use mathlib.Core.List.{List}
-use native.Mathlib.Omega.{arith}
-use lib.Dec.{eqb}
-use lib.ListN.{length, take, drop, length-append}
+use Rattle.std.proofs.Common.{ℕ, zero, suc, ◌+◌, ◌<◌, ◌≡◌, refl, sym, ap, ◌∙◌, Bool, true, false, cond, List, arith, eqb, length, take, drop, length-append, Ok}
 use Rattle.fields.proofs.Widths.{legal-small}
 use Rattle.table.specs.Table.{fixed}
 use Rattle.planner.specs.Steps.{plan_offsets, plan_starts}
 use Rattle.planner.specs.declared.State.{State}
 use Rattle.plan.specs.declared.ManagedPlan.{ManagedPlan}
-use Rattle.std.specs.Prelude.{Ok}
 use Rattle.plan.specs.End.{one_block, end_state}
 use Rattle.plan.specs.Answer.{planned_for}
 use Rattle.plan.proofs.Answering.{accepted}

@@ -1,17 +1,11 @@
 -- The walk over indirect blocks: which way a slot goes, and which direct blocks are behind it.
-use Prim.Native.Nat.{ℕ, zero, suc, ◌+◌, ◌-◌, ◌^◌, ◌≤◌, ◌<◌}
-use mathlib.Core.Path.{◌≡◌, refl, sym, ap, ◌∙◌, subst}
-use mathlib.Core.Logic.{⊎_elim}
-use mathlib.Core.List.{List, [], ◌∷◌}
-use native.Mathlib.Omega.{arith}
-use native.Mathlib.Nat.{eq-or-lt_of_le}
-use native.Mathlib.Decide.{dec_le, dec_lt}
-use lib.Pow.{pow_pos}
-use borrow.Author.Tests.{lt-ltb, le-ltb, le-leb, lt-leb}
+use Rattle.std.proofs.Common.{ℕ, zero, suc, ◌+◌, ◌-◌, ◌^◌, ◌≤◌, ◌<◌, ◌≡◌, refl, sym, ap, ◌∙◌, subst, ⊎_elim, List, [], ◌∷◌, arith, eq-or-lt_of_le, pow_pos, lt-ltb, le-ltb, le-leb}
+use Rattle.std.proofs.Math.Decide.{dec_le, dec_lt}
+use Rattle.std.proofs.lemmas.Bool.{lt-leb}
 use Rattle.table.specs.Table.{Table, row_bits, row_offset}
 use Rattle.table.specs.Slots.{slot_at}
 use Rattle.plan.specs.Plans.{sizes_at}
-use Rattle.region_indirects.specs.Walk.{Walked, Walk, begins_before, unplaced, direct, nothing, both, slot, slots, finished, smaller, all_slots, block}
+use Rattle.region_indirects.specs.Walk.{Walked, WalkedFrom, begins_before, unplaced, direct, nothing, both, slot, slots, finished, smaller, all_slots, block}
 use Rattle.region_indirects.proofs.Walking.{slot-unplaced, slot-direct, slot-inner, smaller-block}
 use Rattle.region_write.proofs.Geometry.{SlotAt, Ahead, done, slot_of, slot-end, all-ahead, BlockAt, inner-span, own-slot, inner_block}
 use Rattle.region_write.proofs.Starts.{Placed, none, more, before, from, before-yes, before-none, from-yes, from_all, from-placed, before-later, from-later, sizes-append}
@@ -43,7 +37,7 @@ module _ (t : Table) (g : t.start_bits ≤ t.direct_bits) (wd : t.width_bits + t
   way {n} {base} {r} {at} B C none pos next = empty refl refl (slot-unplaced t w header (smaller t w header n) r at [] pos next refl refl)
   way {n} {base} {r} {at} B C (more {s = s} {ss = ss} v S P) pos next = go (dec_lt s end) (dec_le (row_bits t r) t.direct_bits)
     where
-      inn : ℕ → Walk
+      inn : ℕ → WalkedFrom
       inn = smaller t w header n
 
       end : ℕ
