@@ -1,13 +1,6 @@
 -- What is known where the writer accepts: the plan and its region fit into what is lent.
-use Prim.Native.Nat.{ℕ, suc, ◌+◌, ◌-◌, ◌^◌, ◌≤◌, max}
-use mathlib.Core.Path.{◌≡◌, refl, sym, ap, ◌∙◌, subst}
-use mathlib.Core.Logic.{⊎_elim}
-use mathlib.Core.List.{List, ◌++◌}
-use native.Mathlib.Omega.{arith}
-use native.Mathlib.Decide.{dec_le}
-use lib.ListN.{length, take, drop, length-append}
-use lib.Pow.{pow_mono}
-use lib.Seq.{take_at, length-take-le}
+use Rattle.std.proofs.Common.{ℕ, suc, ◌+◌, ◌-◌, ◌^◌, ◌≤◌, max, ◌≡◌, refl, sym, ap, ◌∙◌, subst, ⊎_elim, List, ◌++◌, arith, length, take, drop, length-append, pow_mono, take_at, length-take-le}
+use Rattle.std.proofs.Math.Decide.{dec_le}
 use Rattle.fields.specs.LittleEndian.{put}
 use Rattle.fields.proofs.LittleEndian.{put_front}
 use Rattle.fields.proofs.Widths.{legal-small}

@@ -1,81 +1,66 @@
 -- Laws of the walk's definition: its equations, the width of a slot's entry, addresses that only grow, and the
 -- rows of the slots that are left.
-use Prim.Native.Nat.{ℕ, zero, suc, ◌+◌, ◌-◌, ◌*◌, ◌^◌, ◌≤◌, ◌<◌}
-use mathlib.Core.Path.{◌≡◌, refl, sym, ap, ap₂, ◌∙◌}
-use mathlib.Core.Bool.{Bool, true, false, cond}
-use mathlib.Core.List.{List, [], ◌∷◌, ◌++◌, append_assoc}
-use native.Mathlib.Omega.{arith}
-use native.Mathlib.Nat.{add-zero, le_trans, mul-le-mul_left}
-use native.Mathlib.Numerals.{add-one}
-use native.Mathlib.Decide.{dec_lt}
-use lib.ListN.{length, length-append, length-replicate, replicate, replicate-append-replicate, drop, drop_of_length-le, get_or}
-use lib.Seq.{drop-cons}
-use lib.Dec.{leb, ltb, eqb}
-use lib.Pow.{pow_mono}
-use borrow.Author.Tests.{leb-false, ltb-false, eqb-true, eqb-false, ne_eqb, lt-ltb, le-ltb}
+use Rattle.std.proofs.Common.{ℕ, zero, suc, ◌+◌, ◌-◌, ◌*◌, ◌^◌, ◌≤◌, ◌<◌, ◌≡◌, refl, true, false}
+use Rattle.std.proofs.Common.{nat_le, nat_lt, List, [], ◌∷◌, ◌++◌, append_assoc, length, replicate}
+use Rattle.std.proofs.Common.{drop, slice_index, arith, length-append, add-zero, pow_mono, inl, inr}
+use Rattle.std.proofs.lemmas.List.{drop_more, drop_all, length-replicate, replicate-append-replicate}
+use Rattle.std.proofs.lemmas.Bool.{cases_lt}
+use Rattle.std.proofs.lemmas.Bool.Decides.{nat_tests}
 use Rattle.fields.proofs.LittleEndian.{length-le}
+use Rattle.fields.specs.Signatures.{indirect_signature}
 use Rattle.table.specs.Table.{Table, fixed, row_bits}
 use Rattle.table.specs.Sizes.{offset_bytes}
-use Rattle.fields.specs.Signatures.{indirect_signature}
 use Rattle.region_blocks.specs.Blocks.{block_head, indirect_block}
 use Rattle.region_blocks.proofs.Lengths.{indirect-head-length, indirect-length}
-use Rattle.region_indirects.specs.Walk.{Walked, Walk, begins_before, rows_of_slots, unplaced, direct, nothing, both, slot, slots, finished, smaller, all_slots, block}
+use Rattle.region_indirects.specs.declared.cursor.Slots.{Slots}
+use Rattle.region_indirects.specs.Slots.{block_slots, next_rows, next_slots}
+use Rattle.region_indirects.specs.Walk.{Walked, WalkedFrom, begins_before, rows_of_slots, unplaced, direct, nothing, both}
+use Rattle.region_indirects.specs.Walk.{slot, slots, finished, smaller, all_slots, block}
 use Rattle.region_indirects.specs.Requires.{rows_left}
 
 -- ---- the next placed block
 
-pub begins_some : (ss : List ℕ) (i end : ℕ) → i < length ss → ltb (get_or ss i 0) end ≡ begins_before (drop i ss) end
+pub begins_some : (ss : List ℕ) (i end : ℕ) → i < length ss → nat_lt (slice_index ss i) end ≡ begins_before (drop i ss) end
 unfolding begins_before
-begins_some ss i end h = rw (drop-cons ss i 0 h)
+begins_some ss i end h = rw (drop_more ss i 0 h)
 
 pub begins_none : (ss : List ℕ) (i end : ℕ) → length ss ≤ i → false ≡ begins_before (drop i ss) end
 unfolding begins_before
-begins_none ss i end h = rw (drop_of_length-le ss {i = i} h)
+begins_none ss i end h = rw (drop_all i ss h)
 
 -- ---- the definition's equations, at any table
 
 module _ (t : Table) (w header : ℕ) where
-  -- what a slot of row r comes to, by its two tests, o being the block that it can hold
-  abbrev held : ℕ → List ℕ → ℕ → Walked → Bool → Bool → Walked
-  held r ss next o begun low = elim begun [ true ↦ elim low [ true ↦ direct w (2 ^ row_bits t r) ss next | false ↦ o ] | false ↦ unplaced w ss next ]
-
-  slot_held : (inner : ℕ → Walk) (r at : ℕ) (ss : List ℕ) (pos next : ℕ)
-      → slot t w header inner r at ss pos next ≡ held r ss next (inner (r - t.width_bits) at ss pos next) (begins_before ss (at + 2 ^ row_bits t r)) (leb (row_bits t r) t.direct_bits)
-  unfolding slot
-  slot_held inner r at ss pos next = refl
-
-  module _ (inner : ℕ → Walk) (r at : ℕ) (ss : List ℕ) (pos next : ℕ) {size : ℕ} (sz : size ≡ 2 ^ row_bits t r) where
+  module _ (inner : ℕ → WalkedFrom) (r at : ℕ) (ss : List ℕ) (pos next : ℕ) {size : ℕ} (sz : size ≡ 2 ^ row_bits t r) where
     pub slot-unplaced : begins_before ss (at + size) ≡ false → slot t w header inner r at ss pos next ≡ unplaced w ss next
-    slot-unplaced b = slot_held inner r at ss pos next ∙ ap (λ (y : Bool). held r ss next (inner (r - t.width_bits) at ss pos next) y (leb (row_bits t r) t.direct_bits)) (rw sz at b)
+    unfolding slot
+    slot-unplaced b = grind arith
 
     module _ (b : begins_before ss (at + size) ≡ true) where
-      pub slot-direct : leb (row_bits t r) t.direct_bits ≡ true → slot t w header inner r at ss pos next ≡ direct w size ss next
-      slot-direct d = slot_held inner r at ss pos next ∙ ap₂ (held r ss next (inner (r - t.width_bits) at ss pos next)) (rw sz at b) d ∙ ap (λ (y : ℕ). direct w y ss next) (sym sz)
+      pub slot-direct : nat_le (row_bits t r) t.direct_bits ≡ true → slot t w header inner r at ss pos next ≡ direct w size ss next
+      unfolding slot
+      slot-direct d = grind arith
 
-      pub slot-inner : leb (row_bits t r) t.direct_bits ≡ false → slot t w header inner r at ss pos next ≡ inner (r - t.width_bits) at ss pos next
-      slot-inner d = slot_held inner r at ss pos next ∙ ap₂ (held r ss next (inner (r - t.width_bits) at ss pos next)) (rw sz at b) d
+      pub slot-inner : nat_le (row_bits t r) t.direct_bits ≡ false
+          → slot t w header inner r at ss pos next ≡ inner (r - t.width_bits) at ss pos next
+      unfolding slot
+      slot-inner d = grind arith
 
   -- the blocks of fewer than n rows are the blocks
-  pub smaller-block : (n j : ℕ) → j < n → (at : ℕ) (ss : List ℕ) (pos next : ℕ) → smaller t w header n j at ss pos next ≡ block t w header j at ss pos next
+  pub smaller-block : (n j : ℕ) → j < n → (at : ℕ) (ss : List ℕ) (pos next : ℕ)
+      → smaller t w header n j at ss pos next ≡ block t w header j at ss pos next
   unfolding smaller block all_slots
   smaller-block zero j h at ss pos next = absurd (omega arith)
-  smaller-block (suc n) j h at ss pos next = by (eqb j n) refl (λ l. smaller-block n j l at ss pos next)
-    where
-      by : (b : Bool) → eqb j n ≡ b → (j < n → smaller t w header n j at ss pos next ≡ block t w header j at ss pos next)
-          → elim b [ true ↦ finished t w header at pos (slots t w header (smaller t w header n) (rows_of_slots t n 0) at ss pos next) | false ↦ smaller t w header n j at ss pos next ]
-          ≡ block t w header j at ss pos next
-      by true e g = ap (λ (m : ℕ). block t w header m at ss pos next) (sym (eqb-true j n e))
-      by false e g = let ne = eqb-false j n e in g (omega arith)
+  smaller-block (suc n) j h at ss pos next = grind (arith, nat_tests, smaller-block n j)
 
   -- a slot of a block of n rows can hold any block
   slot-any : (n r : ℕ) → r < n → (at : ℕ) (ss : List ℕ) (pos next : ℕ)
       → slot t w header (smaller t w header n) r at ss pos next ≡ slot t w header (block t w header) r at ss pos next
-  slot-any n r h at ss pos next =
-      slot_held (smaller t w header n) r at ss pos next
-      ∙ ap (λ (o : Walked). held r ss next o (begins_before ss (at + 2 ^ row_bits t r)) (leb (row_bits t r) t.direct_bits)) (smaller-block n (r - t.width_bits) (omega arith) at ss pos next)
-      ∙ sym (slot_held (block t w header) r at ss pos next)
+  unfolding slot
+  slot-any n r h at ss pos next = let same = smaller-block n (r - t.width_bits) (omega arith) at ss pos next in grind arith
 
-  pub slots-step : (n r : ℕ) (rs : List ℕ) → r < n → (at : ℕ) (ss : List ℕ) (pos next : ℕ) (c : Walked) → c ≡ slot t w header (block t w header) r at ss pos next
+  pub slots-step : (n r : ℕ) (rs : List ℕ) → r < n → (at : ℕ) (ss : List ℕ) (pos next : ℕ) (c : Walked)
+      → c ≡ slot t w header (block t w header) r at ss pos next
       → slots t w header (smaller t w header n) (r ∷ rs) at ss pos next
       ≡ both c (slots t w header (smaller t w header n) rs (at + 2 ^ row_bits t r) c.rest (pos + length c.bytes) c.next)
   unfolding slots
@@ -86,43 +71,37 @@ module _ (t : Table) (w header : ℕ) where
 before-less : (ss : List ℕ) (a b : ℕ) → a ≤ b → begins_before ss b ≡ false → begins_before ss a ≡ false
 unfolding begins_before
 before-less [] a b l e = refl
-before-less (s ∷ ss) a b l e = le-ltb s a (let z = ltb-false s b e in omega arith)
+before-less (s ∷ ss) a b l e = grind (arith, nat_tests)
 
 both-none : (ss : List ℕ) (next w : ℕ) (o : Walked) → both (unplaced (0 * w) ss next) o ≡ o
 unfolding both unplaced
-both-none ss next w o = let e : 0 * w ≡ 0 = omega arith in rw e
+both-none ss next w o = let none : 0 * w ≡ 0 = omega arith in rw none
 
-both-more : (ss : List ℕ) (next w k : ℕ) (o : Walked) → both (unplaced w ss next) (both (unplaced (k * w) ss next) o) ≡ both (unplaced (suc k * w) ss next) o
+both-more : (ss : List ℕ) (next w k : ℕ) (o : Walked)
+    → both (unplaced w ss next) (both (unplaced (k * w) ss next) o) ≡ both (unplaced (suc k * w) ss next) o
 unfolding both unplaced
 both-more ss next w k o =
     let n : w + k * w ≡ suc k * w = omega arith in
-    let e : replicate w 0xFF ++ (replicate (k * w) 0xFF ++ o.entries) ≡ replicate (suc k * w) 0xFF ++ o.entries =
-    sym (append_assoc (replicate w 0xFF) (replicate (k * w) 0xFF) o.entries)
-    ∙ ap (λ (es : List ℕ). es ++ o.entries) (replicate-append-replicate w (k * w) 0xFF ∙ ap (λ (m : ℕ). replicate m 0xFF) n) in
-    λ i. record { bytes = o.bytes; entries = e i; rest = o.rest; next = o.next }
+    let one : replicate w 0xFF ++ replicate (k * w) 0xFF ≡ replicate (suc k * w) 0xFF =
+    rw n at (replicate-append-replicate {A = ℕ} w (k * w) 0xFF) in
+    rw (← (append_assoc (replicate w 0xFF) (replicate (k * w) 0xFF) o.entries), one)
 
-module _ (t : Table) (w header : ℕ) (inner : ℕ → Walk) where
-  slots-first : (r : ℕ) (rs : List ℕ) (at : ℕ) (ss : List ℕ) (pos next : ℕ) → slot t w header inner r at ss pos next ≡ unplaced w ss next
-      → slots t w header inner (r ∷ rs) at ss pos next ≡ both (unplaced w ss next) (slots t w header inner rs (at + 2 ^ row_bits t r) ss pos next)
-  unfolding slots unplaced
-  slots-first r rs at ss pos next e =
-      ap (λ (c : Walked). both c (slots t w header inner rs (at + 2 ^ row_bits t r) c.rest (pos + length c.bytes) c.next)) e
-      ∙ ap (λ (y : ℕ). both (unplaced w ss next) (slots t w header inner rs (at + 2 ^ row_bits t r) ss y next)) (add-zero pos)
-
+module _ (t : Table) (w header : ℕ) (inner : ℕ → WalkedFrom) where
   -- k slots of a row before whose end no block begins
-  pub slots-passed : (k r : ℕ) (rs : List ℕ) (at : ℕ) (ss : List ℕ) (pos next : ℕ) → begins_before ss (at + k * 2 ^ row_bits t r) ≡ false
-      → slots t w header inner (replicate k r ++ rs) at ss pos next ≡ both (unplaced (k * w) ss next) (slots t w header inner rs (at + k * 2 ^ row_bits t r) ss pos next)
+  pub slots-passed : (k r : ℕ) (rs : List ℕ) (at : ℕ) (ss : List ℕ) (pos next : ℕ)
+      → begins_before ss (at + k * 2 ^ row_bits t r) ≡ false
+      → slots t w header inner (replicate k r ++ rs) at ss pos next
+      ≡ both (unplaced (k * w) ss next) (slots t w header inner rs (at + k * 2 ^ row_bits t r) ss pos next)
+  unfolding slots unplaced
   slots-passed zero r rs at ss pos next b =
-      let e : at ≡ at + 0 * 2 ^ row_bits t r = omega arith in
-      ap (λ (y : ℕ). slots t w header inner rs y ss pos next) e ∙ sym (both-none ss next w (slots t w header inner rs (at + 0 * 2 ^ row_bits t r) ss pos next))
+      let here : at + 0 * 2 ^ row_bits t r ≡ at = omega arith in rw (here, both-none ss next w)
   slots-passed (suc k) r rs at ss pos next b =
       let z : ℕ = 2 ^ row_bits t r in
-      let e : at + z + k * z ≡ at + suc k * z = omega arith in
-      let c : slot t w header inner r at ss pos next ≡ unplaced w ss next = slot-unplaced t w header inner r at ss pos next refl (before-less ss (at + z) (at + suc k * z) (omega arith) b) in
-      slots-first r (replicate k r ++ rs) at ss pos next c
-      ∙ ap (both (unplaced w ss next)) (slots-passed k r rs (at + z) ss pos next (ap (begins_before ss) e ∙ b))
-      ∙ both-more ss next w k (slots t w header inner rs (at + z + k * z) ss pos next)
-      ∙ ap (λ (y : ℕ). both (unplaced (suc k * w) ss next) (slots t w header inner rs y ss pos next)) e
+      let on : at + z + k * z ≡ at + suc k * z = omega arith in
+      let none = before-less ss (at + z) (at + suc k * z) (omega arith) b in
+      let first = slot-unplaced t w header inner r at ss pos next refl none in
+      let rest = rw on at (slots-passed k r rs (at + z) ss pos next (rw on b)) in
+      rw (first, add-zero, rest) (both-more ss next w k (slots t w header inner rs (at + suc k * z) ss pos next))
 
 -- ---- the width of entries, and the address of the next direct block
 
@@ -132,132 +111,135 @@ record Sound (w n next : ℕ) (o : Walked) : Type 0 where
   grows : next ≤ o.next
 
 module _ (t : Table) (w header : ℕ) where
-  abbrev AllSound : (ℕ → Walk) → Type 0
+  abbrev AllSound : (ℕ → WalkedFrom) → Type 0
   AllSound inner = (j at : ℕ) (ss : List ℕ) (pos next : ℕ) → Sound w 1 next (inner j at ss pos next)
 
-  slot-sound : (inner : ℕ → Walk) → AllSound inner → (r at : ℕ) (ss : List ℕ) (pos next : ℕ) → Sound w 1 next (slot t w header inner r at ss pos next)
+  slot-sound : (inner : ℕ → WalkedFrom) → AllSound inner → (r at : ℕ) (ss : List ℕ) (pos next : ℕ)
+      → Sound w 1 next (slot t w header inner r at ss pos next)
   unfolding slot unplaced direct
-  slot-sound inner h r at ss pos next = by (begins_before ss (at + 2 ^ row_bits t r)) (leb (row_bits t r) t.direct_bits)
-    where
-      by : (a b : Bool) → Sound w 1 next (held t w header r ss next (inner (r - t.width_bits) at ss pos next) a b)
-      by true true = record { wide = length-le w next ∙ omega arith; grows = omega arith }
-      by true false = h (r - t.width_bits) at ss pos next
-      by false b = record { wide = length-replicate w 255 ∙ omega arith; grows = omega arith }
+  slot-sound inner h r at ss pos next = grind (arith, h, length-le, length-replicate {A = ℕ})
 
-  slots-sound : (inner : ℕ → Walk) → AllSound inner → (rs : List ℕ) (at : ℕ) (ss : List ℕ) (pos next : ℕ) → Sound w (length rs) next (slots t w header inner rs at ss pos next)
+  slots-sound : (inner : ℕ → WalkedFrom) → AllSound inner → (rs : List ℕ) (at : ℕ) (ss : List ℕ) (pos next : ℕ)
+      → Sound w (length rs) next (slots t w header inner rs at ss pos next)
   unfolding slots both nothing
-  slots-sound inner h [] at ss pos next = record { wide = omega arith; grows = omega arith }
+  slots-sound inner h [] at ss pos next = grind arith
   slots-sound inner h (r ∷ rs) at ss pos next =
       let c : Walked = slot t w header inner r at ss pos next in
-      let a : Sound w 1 next c = slot-sound inner h r at ss pos next in
-      let o : Walked = slots t w header inner rs (at + 2 ^ row_bits t r) c.rest (pos + length c.bytes) c.next in
-      let b : Sound w (length rs) c.next o = slots-sound inner h rs (at + 2 ^ row_bits t r) c.rest (pos + length c.bytes) c.next in
-      record { wide = length-append c.entries o.entries ∙ omega (arith, a.wide, b.wide); grows = le_trans a.grows b.grows }
-
-  finished-sound : (at pos n next : ℕ) (o : Walked) → Sound w n next o → Sound w 1 next (finished t w header at pos o)
-  unfolding finished
-  finished-sound at pos n next o h = record { wide = length-le w (pos + length o.bytes) ∙ omega arith; grows = h.grows }
+      let first = slot-sound inner h r at ss pos next in
+      let rest = slots-sound inner h rs (at + 2 ^ row_bits t r) c.rest (pos + length c.bytes) c.next in
+      grind (arith, length-append {A = ℕ})
 
   smaller-sound : (n : ℕ) → AllSound (smaller t w header n)
-  unfolding smaller unplaced
-  smaller-sound zero j at ss pos next = record { wide = length-replicate w 255 ∙ omega arith; grows = omega arith }
-  smaller-sound (suc n) j at ss pos next = by (eqb j n) (smaller-sound n j at ss pos next) (slots-sound (smaller t w header n) (smaller-sound n) (rows_of_slots t n 0) at ss pos next)
-    where
-      o : Walked
-      o = slots t w header (smaller t w header n) (rows_of_slots t n 0) at ss pos next
+  unfolding smaller unplaced finished
+  smaller-sound zero j at ss pos next = grind (arith, length-replicate {A = ℕ})
+  smaller-sound (suc n) j at ss pos next =
+      let slots = slots-sound (smaller t w header n) (smaller-sound n) (rows_of_slots t n 0) at ss pos next in
+      let less = smaller-sound n j at ss pos next in
+      grind (arith, length-le)
 
-      by : (b : Bool) → Sound w 1 next (smaller t w header n j at ss pos next) → Sound w (length (rows_of_slots t n 0)) next o
-          → Sound w 1 next (elim b [ true ↦ finished t w header at pos o | false ↦ smaller t w header n j at ss pos next ])
-      by true f g = finished-sound at pos (length (rows_of_slots t n 0)) next o g
-      by false f g = f
-
-  pub slots-grow : (n : ℕ) (rs : List ℕ) (at : ℕ) (ss : List ℕ) (pos next : ℕ) → next ≤ (slots t w header (smaller t w header n) rs at ss pos next).next
+  pub slots-grow : (n : ℕ) (rs : List ℕ) (at : ℕ) (ss : List ℕ) (pos next : ℕ)
+      → next ≤ (slots t w header (smaller t w header n) rs at ss pos next).next
   slots-grow n rs at ss pos next = (slots-sound (smaller t w header n) (smaller-sound n) rs at ss pos next).grows
 
   -- a slot has one entry
-  pub slot-entry : (n r at : ℕ) (ss : List ℕ) (pos next : ℕ) → length (slot t w header (smaller t w header n) r at ss pos next).entries ≡ w
-  slot-entry n r at ss pos next = (slot-sound (smaller t w header n) (smaller-sound n) r at ss pos next).wide ∙ omega arith
+  pub slot-entry : (n r at : ℕ) (ss : List ℕ) (pos next : ℕ)
+      → length (slot t w header (smaller t w header n) r at ss pos next).entries ≡ w
+  slot-entry n r at ss pos next = omega (arith, (slot-sound (smaller t w header n) (smaller-sound n) r at ss pos next).wide)
 
   length-rows : (m r : ℕ) → length (rows_of_slots t m r) ≡ m * 2 ^ t.width_bits
   unfolding rows_of_slots
   length-rows zero r = omega arith
-  length-rows (suc m) r = length-append (replicate (2 ^ t.width_bits) r) (rows_of_slots t m (suc r)) ∙ omega (arith, length-rows m (suc r), length-replicate (2 ^ t.width_bits) r)
+  length-rows (suc m) r = grind (arith, length-rows m (suc r), length-append {A = ℕ}, length-replicate {A = ℕ})
 
-  pub block-entries : (n at : ℕ) (ss : List ℕ) (pos next : ℕ) → length (all_slots t w header n at ss pos next).entries ≡ n * 2 ^ t.width_bits * w
+  pub block-entries : (n at : ℕ) (ss : List ℕ) (pos next : ℕ)
+      → length (all_slots t w header n at ss pos next).entries ≡ n * 2 ^ t.width_bits * w
   unfolding all_slots
-  block-entries n at ss pos next = (slots-sound (smaller t w header n) (smaller-sound n) (rows_of_slots t n 0) at ss pos next).wide ∙ ap (λ (m : ℕ). m * w) (length-rows n 0)
+  block-entries n at ss pos next =
+      let sound = slots-sound (smaller t w header n) (smaller-sound n) (rows_of_slots t n 0) at ss pos next in
+      rw (length-rows n 0) at sound.wide
 
 -- at the fixed table a heap offset has five bytes
 pub head-length : (w header at : ℕ) → length (block_head fixed w indirect_signature header at) ≡ 10 + w
 unfolding offset_bytes
-head-length w header at = indirect-head-length fixed w header at ∙ omega arith
+head-length w header at = omega (arith, indirect-head-length fixed w header at)
 
 pub block-length : (w header at : ℕ) (es : List ℕ) → length (indirect_block fixed w header at es) ≡ 14 + w + length es
 unfolding offset_bytes
-block-length w header at es = indirect-length fixed w header at es ∙ omega arith
+block-length w header at es = omega (arith, indirect-length fixed w header at es)
 
 -- ---- the rows of the slots that are left
 
-pub rows_none : (n row left : ℕ) → n ≤ row → rows_left n row left ≡ []
+pub rows_none : (n : ℕ) (s : Slots) → n ≤ s.row → rows_left n s ≡ []
 unfolding rows_left
-rows_none n row left h = rw (le-ltb row n h)
+rows_none n s h = grind (arith, nat_tests)
 
-pub rows_all : (n : ℕ) → rows_left n 0 4 ≡ rows_of_slots fixed n 0
+pub rows_all : (n off : ℕ) → rows_left n (block_slots off) ≡ rows_of_slots fixed n 0
 unfolding rows_left rows_of_slots
-rows_all zero = refl
-rows_all (suc n) = let e : suc n - (0 + 1) ≡ n = omega arith in rw (lt-ltb 0 (suc n) (omega arith), e)
+rows_all zero off = refl
+rows_all (suc n) off = grind (arith, nat_tests)
 
 -- the rows from one on, where a row begins
-rows-from : (n row : ℕ) → rows_of_slots fixed (n - row) row ≡ rows_left n row 4
+rows-from : (n row off : ℕ) → rows_of_slots fixed (n - row) row ≡ rows_left n (record { row = row; left = 4; offset = off })
 unfolding rows_left rows_of_slots
-rows-from n row = by (dec_lt row n)
-  where
-    by : Dec (row < n) → rows_of_slots fixed (n - row) row ≡ rows_left n row 4
-    by (yes l) = let e : n - row ≡ suc (n - (row + 1)) = omega arith in rw (lt-ltb row n l, e, add-one row)
-    by (no l) = let e : n - row ≡ 0 = omega arith in rw (le-ltb row n (omega arith), e)
-
-rows-here : (n row left : ℕ) → row < n → rows_left n row left ≡ replicate left row ++ rows_of_slots fixed (n - (row + 1)) (row + 1)
-unfolding rows_left
-rows-here n row left h = rw (lt-ltb row n h)
+rows-from n row off =
+    elim (cases_lt row n) [
+      | inl l ↦ (let some : n - row ≡ suc (n - (row + 1)) = omega arith in rw some (grind (arith, nat_tests)))
+      | inr l ↦ (let none : n - row ≡ 0 = omega arith in rw none (grind (arith, nat_tests)))
+    ]
 
 -- the rest of a row, and the rows after it
-pub rows_row : (n row left : ℕ) → row < n → rows_left n row left ≡ replicate left row ++ rows_left n (row + 1) 4
-rows_row n row left h = rows-here n row left h ∙ ap (λ (rs : List ℕ). replicate left row ++ rs) (rows-from n (row + 1))
-
-pub rows_next : (n row left : ℕ) → row < n → 0 < left → rows_left n row left ≡ row ∷ rows_left n (cond (eqb left 1) (row + 1) row) (cond (eqb left 1) 4 (left - 1))
+pub rows_row : (n : ℕ) (s : Slots) (off : ℕ) → s.row < n → rows_left n s ≡ replicate s.left s.row ++ rows_left n (next_rows s off)
 unfolding rows_left
-rows_next n row zero h l = absurd (omega arith)
-rows_next n row (suc zero) h l = rw (lt-ltb row n h) (ap (λ (rs : List ℕ). row ∷ rs) (rows-from n (row + 1)))
-rows_next n row (suc (suc k)) h l =
-    let e : suc (suc k) - 1 ≡ suc k = omega arith in
-    let ne : suc (suc k) ≡ 1 → ⊥ = λ z. omega arith in
-    rw (ne_eqb (suc (suc k)) 1 ne, e, lt-ltb row n h)
+rows_row n s off h = let rest = rows-from n (s.row + 1) off in grind (arith, nat_tests)
+
+rows-next-at : (n row left off size : ℕ) → row < n → 0 < left
+    → let s : Slots = record { row = row; left = left; offset = off } in
+    rows_left n s ≡ row ∷ rows_left n (next_slots s size)
+unfolding rows_left
+rows-next-at n row zero off size h l = absurd (omega arith)
+rows-next-at n row (suc zero) off size h l = let rest = rows-from n (row + 1) off in grind (arith, nat_tests)
+rows-next-at n row (suc (suc k)) off size h l =
+    let less : suc (suc k) - 1 ≡ suc k = omega arith in
+    let more : replicate (suc (suc k) - 1) row ≡ row ∷ replicate k row = rw less in
+    grind (arith, nat_tests)
+
+pub rows_next : (n : ℕ) (s : Slots) (size : ℕ) → s.row < n → 0 < s.left → rows_left n s ≡ s.row ∷ rows_left n (next_slots s size)
+rows_next n s size h l = rows-next-at n s.row s.left s.offset size h l
+
+-- ---- the bounds of the walks
+
+-- slots by their numbers
+pub record Numbers (s : Slots) (row left offset : ℕ) : Type 0 where
+  pub row_is : s.row ≡ row
+  pub left_is : s.left ≡ left
+  pub offset_is : s.offset ≡ offset
+
+pub numbers : {s : Slots} {row left offset : ℕ} → s ≡ record { row = row; left = left; offset = offset } → Numbers s row left offset
+numbers e = rw e (record { row_is = refl; left_is = refl; offset_is = refl })
 
 -- the next slot's row, and the slots that are left fall
-pub record Next (n row left row₁ left₁ : ℕ) : Type 0 where
-  pub within : row₁ ≤ n
-  pub some : 0 < left₁
-  pub few : left₁ ≤ 4
-  pub fewer : 4 * (n - row₁) + left₁ < 4 * (n - row) + left
+pub record Next (n : ℕ) (s : Slots) (size : ℕ) (s' : Slots) : Type 0 where
+  pub within : s'.row ≤ n
+  pub some : 0 < s'.left
+  pub few : s'.left ≤ 4
+  pub fewer : 4 * (n - s'.row) + s'.left < 4 * (n - s.row) + s.left
+  pub offset_is : s'.offset ≡ s.offset + size
 
-pub next-slot : {n row left row₁ left₁ : ℕ} → row < n → 0 < left → left ≤ 4 → row₁ ≡ cond (eqb left 1) (row + 1) row → left₁ ≡ cond (eqb left 1) 4 (left - 1)
-    → Next n row left row₁ left₁
-next-slot {n} {row} {left} {row₁} {left₁} h s f = by (eqb left 1) refl
-  where
-    by : (b : Bool) → eqb left 1 ≡ b → row₁ ≡ cond b (row + 1) row → left₁ ≡ cond b 4 (left - 1) → Next n row left row₁ left₁
-    by true e rn ln = let z = eqb-true left 1 e in record { within = omega arith; some = omega arith; few = omega arith; fewer = omega arith }
-    by false e rn ln = let z = eqb-false left 1 e in record { within = omega arith; some = omega arith; few = omega arith; fewer = omega arith }
+pub next-slot : {n : ℕ} {s s' : Slots} {size : ℕ} → s.row < n → 0 < s.left → s.left ≤ 4 → s' ≡ next_slots s size
+    → Next n s size s'
+next-slot {n} {s} {size = size} h l f e =
+    let next : Next n s size (next_slots s size) = grind (arith, nat_tests) in rw e next
 
 -- a slot of any of the 29 rows
 pub size_small : {row size : ℕ} → row < 29 → size ≡ 2 ^ row_bits fixed row → size ≤ 2 ^ 38
 unfolding row_bits
-size_small {row} {size} h e = let m : 2 ^ (10 + (row - 1)) ≤ 2 ^ 38 = pow_mono {i = 10 + (row - 1)} {j = 38} (omega arith) in omega arith
+size_small {row} h e = omega (arith, e, pow_mono {i = 10 + (row - 1)} {j = 38} (omega arith))
 
 -- some slots of one of these rows, and the entries of some slots
-pub row_small : {row size left : ℕ} → row < 29 → size ≡ 2 ^ row_bits fixed row → left ≤ 4 → left * size ≤ left * 2 ^ 38
-row_small {row} {size} {left} h e l = mul-le-mul_left left (size_small {row = row} {size = size} h e)
+pub row_small : (left : ℕ) {row size : ℕ} → row < 29 → size ≡ 2 ^ row_bits fixed row → left * size ≤ left * 2 ^ 38
+row_small left {row} {size} h e = let l = size_small {row = row} {size = size} h e in grind arith
 
 -- an indirect slot's row
-pub row-high : {row : ℕ} → leb (row_bits fixed row) 16 ≡ false → 8 ≤ row
+pub row-high : {row : ℕ} → nat_le (row_bits fixed row) 16 ≡ false → 8 ≤ row
 unfolding row_bits
-row-high {row} d = omega (arith, leb-false (10 + (row - 1)) 16 d)
+row-high {row} d = grind (arith, nat_tests)

@@ -1,15 +1,8 @@
 -- The indirect blocks that the walk yields take as many bytes as are counted while direct blocks open.
-use Prim.Native.Nat.{ℕ, zero, suc, ◌+◌, ◌-◌, ◌*◌, ◌/◌, ◌^◌, ◌≤◌, ◌<◌}
-use mathlib.Core.Path.{◌≡◌, refl, sym, ap, ◌∙◌, subst}
-use mathlib.Core.Bool.{cond}
-use mathlib.Core.List.{List, [], ◌∷◌, ◌++◌}
-use native.Mathlib.Omega.{arith}
-use native.Mathlib.Nat.{zero-add, sub-zero}
-use native.Mathlib.Decide.{dec_lt}
-use lib.Dec.{leb}
-use lib.ListN.{length, length-append}
-use lib.Pow.{pow_pos, high}
-use borrow.Author.Tests.{le-leb, lt-leb}
+use Rattle.std.proofs.Common.{◌⊎◌, inl, inr, ℕ, zero, suc, ◌+◌, ◌-◌, ◌*◌, ◌/◌, ◌^◌, ◌≤◌, ◌<◌, ◌≡◌, refl, sym, ap, ◌∙◌, subst, List, [], ◌∷◌, ◌++◌, arith, length, length-append, pow_pos}
+use Rattle.std.proofs.Math.Nat.{sub-zero}
+use Rattle.std.proofs.lemmas.Bool.{cases_lt}
+use Rattle.std.proofs.lemmas.Bool.Decides.{nat_tests}
 use Rattle.table.specs.Table.{Table, row_bits, row_offset, row_of}
 use Rattle.table.specs.Slots.{slot_at, slot_start, entered_bytes_in, entered_bytes}
 use Rattle.table.specs.Sizes.{indirect_size}
@@ -30,8 +23,11 @@ counted t w f at e (s ∷ ss) = entered_bytes_in t w f e at (s - at) + counted t
 
 counted-append : (t : Table) (w f at e : ℕ) (cs ds : List ℕ) → counted t w f at e (cs ++ ds) ≡ counted t w f at e cs + counted t w f at (last_end t e cs) ds
 unfolding counted last_end
-counted-append t w f at e [] ds = sym (zero-add (counted t w f at e ds))
-counted-append t w f at e (c ∷ cs) ds = let z = counted-append t w f at (c + (slot_at t c).size) cs ds in omega arith
+counted-append t w f at e [] ds = omega arith
+counted-append t w f at e (c ∷ cs) ds = omega (arith, counted-append t w f at (c + (slot_at t c).size) cs ds)
+
+slot-number : (m b r : ℕ) → r < 2 ^ b → (m * 2 ^ b + r) / 2 ^ b ≡ m
+slot-number m b r l = grind arith
 
 -- a direct block at s, in a slot of row r of the block at `base`
 module _ (t : Table) (w s : ℕ) {n base r at : ℕ} (C : SlotAt t n base r at) (lo : at ≤ s) (hi : s < at + 2 ^ row_bits t r) (heap : s < 2 ^ t.heap_bits) where
@@ -46,34 +42,30 @@ module _ (t : Table) (w s : ℕ) {n base r at : ℕ} (C : SlotAt t n base r at) 
   start_is =
       let b = row_bits t r in
       let m = (row t r).m + C.col in
-      let q = C.is in
-      let k = (row t r).begins in
-      let x : s - base ≡ m * 2 ^ b + (s - at) = omega arith in
-      let d : (s - base) / 2 ^ b ≡ m = ap (λ (y : ℕ). y / 2 ^ b) x ∙ high m b (omega arith) in
-      let f : (s - base) / 2 ^ b * 2 ^ b ≡ m * 2 ^ b = ap (λ (y : ℕ). y * 2 ^ b) d in
-      ap (λ (y : ℕ). base + (s - base) / 2 ^ row_bits t y * 2 ^ row_bits t y) row_is ∙ (let z : base + (s - base) / 2 ^ b * 2 ^ b ≡ at = omega arith in z)
+      let x : s - base ≡ m * 2 ^ b + (s - at) = omega (arith, C.is, (row t r).begins) in
+      let d : (s - base) / 2 ^ b ≡ m = ap (λ y. y / 2 ^ b) x ∙ slot-number m b (s - at) (omega arith) in
+      let f : (s - base) / 2 ^ b * 2 ^ b ≡ m * 2 ^ b = ap (λ y. y * 2 ^ b) d in
+      ap (λ y. base + (s - base) / 2 ^ row_bits t y * 2 ^ row_bits t y) row_is ∙ omega arith
+
+  rest_is : s - base - slot_start t (s - base) ≡ s - at
+  rest_is = omega (arith, start_is)
 
   entered-direct : (f e : ℕ) → row_bits t r ≤ t.direct_bits → entered_bytes_in t w f e base (s - base) ≡ 0
   unfolding entered_bytes_in
   entered-direct zero e d = refl
-  entered-direct (suc f) e d = rw (le-leb (row_bits t (row_of t (s - base))) t.direct_bits (subst (λ (y : ℕ). row_bits t y ≤ t.direct_bits) (sym row_is) d), entered_bytes_in)
-
-  entered-inner : (f e : ℕ) → t.direct_bits < row_bits t r → entered_bytes_in t w (suc f) e base (s - base) ≡ cond (leb e at) (indirect_size t w (r - t.width_bits)) 0 + entered_bytes_in t w f e at (s - at)
-  unfolding entered_bytes_in
-  entered-inner f e d =
-      let x : s - base - slot_start t (s - base) ≡ s - at = (let z = start_is in omega arith) in
-      let a = start_is in
-      let b = row_is in
-      rw (lt-leb (row_bits t (row_of t (s - base))) t.direct_bits (subst (λ (y : ℕ). t.direct_bits < row_bits t y) (sym row_is) d), entered_bytes_in)
-      (λ i. cond (leb e (a i)) (indirect_size t w (b i - t.width_bits)) 0 + entered_bytes_in t w f e (a i) (x i))
+  entered-direct (suc f) e d = grind (arith, nat_tests, row_is)
 
   -- the first direct block in an indirect slot brings the block there
-  entered-new : (f e : ℕ) → t.direct_bits < row_bits t r → e ≤ at → entered_bytes_in t w (suc f) e base (s - base) ≡ indirect_size t w (r - t.width_bits) + entered_bytes_in t w f e at (s - at)
-  entered-new f e d l = entered-inner f e d ∙ rw (le-leb e at l)
+  entered-new : (f e : ℕ) → t.direct_bits < row_bits t r → e ≤ at
+      → entered_bytes_in t w (suc f) e base (s - base) ≡ indirect_size t w (r - t.width_bits) + entered_bytes_in t w f e at (s - at)
+  unfolding entered_bytes_in
+  entered-new f e d l = grind (arith, nat_tests, row_is, start_is, rest_is)
 
   -- the later ones do not
-  entered-old : (f e : ℕ) → t.direct_bits < row_bits t r → at < e → entered_bytes_in t w (suc f) e base (s - base) ≡ entered_bytes_in t w f e at (s - at)
-  entered-old f e d l = entered-inner f e d ∙ rw (lt-leb e at l) (zero-add (entered_bytes_in t w f e at (s - at)))
+  entered-old : (f e : ℕ) → t.direct_bits < row_bits t r → at < e
+      → entered_bytes_in t w (suc f) e base (s - base) ≡ entered_bytes_in t w f e at (s - at)
+  unfolding entered_bytes_in
+  entered-old f e d l = grind (arith, nat_tests, row_is, start_is, rest_is)
 
 -- ---- what is counted is what the walk yields
 
@@ -107,15 +99,18 @@ module _ (t : Table) (w f : ℕ) {n base r at : ℕ} (C : SlotAt t n base r at) 
   later : {e : ℕ} {ss : List ℕ} → at < e → Placed t e ss → counted t w (suc f) base e (before (at + 2 ^ row_bits t r) ss) ≡ counted t w f at e (before (at + 2 ^ row_bits t r) ss)
   unfolding counted before
   later l none = refl
-  later {e} l (more {s = s} {ss = ss} v S P) = go (dec_lt s end) (later (let z : at < s + (slot_at t s).size = omega arith in z) P)
+  later {e} l (more {s = s} {ss = ss} v S P) = go (cases_lt s end) (later (omega arith) P)
     where
       end : ℕ
       end = at + 2 ^ row_bits t r
 
-      go : Dec (s < end) → counted t w (suc f) base (s + (slot_at t s).size) (before end ss) ≡ counted t w f at (s + (slot_at t s).size) (before end ss)
+      next : ℕ
+      next = s + (slot_at t s).size
+
+      go : (s < end) ⊎ (end ≤ s) → counted t w (suc f) base next (before end ss) ≡ counted t w f at next (before end ss)
           → counted t w (suc f) base e (before end (s ∷ ss)) ≡ counted t w f at e (before end (s ∷ ss))
-      go (yes i) ih = let a = entered-old t w s C (omega arith) i S.inside f e d l in rw (before-yes s ss end i) (omega arith)
-      go (no i) ih = rw (before-no s ss end (omega arith))
+      go (inl i) ih = rw (before-yes s ss end i) (omega (arith, entered-old t w s C (omega arith) i S.inside f e d l))
+      go (inr i) ih = rw (before-no s ss end i)
 
   -- all of them: the first brings the block there
   first-and-later : (e s : ℕ) (ss : List ℕ) → e ≤ at → s < at + 2 ^ row_bits t r → Placed t at (s ∷ ss)
@@ -124,7 +119,7 @@ module _ (t : Table) (w f : ℕ) {n base r at : ℕ} (C : SlotAt t n base r at) 
   first-and-later e s ss l i (more v S P) =
       let p = slot-some t s in
       let a = entered-new t w s C v i S.inside f e d l in
-      let b = later (let z : at < s + (slot_at t s).size = omega arith in z) P in
+      let b = later {e = s + (slot_at t s).size} (omega arith) P in
       rw (before-yes s ss (at + 2 ^ row_bits t r) i) (omega arith)
 
 -- rows 0 and 1 have the starting size

@@ -1,11 +1,6 @@
 -- The slots of an indirect block, by row and column, at any table.
-use Prim.Native.Nat.{ℕ, zero, suc, ◌+◌, ◌-◌, ◌*◌, ◌^◌, ◌≤◌, ◌<◌}
-use mathlib.Core.Path.{◌≡◌, sym, ap, subst, subst₂}
-use mathlib.Core.List.{List, [], ◌∷◌, ◌++◌}
-use native.Mathlib.Omega.{arith}
-use native.Mathlib.Nat.{mul-le-mul_right, sub-zero}
-use lib.ListN.{replicate}
-use lib.Pow.{pow_pos}
+use Rattle.std.proofs.Common.{ℕ, zero, suc, ◌+◌, ◌-◌, ◌*◌, ◌^◌, ◌≤◌, ◌<◌, ◌≡◌, sym, ap, subst, subst₂, List, [], ◌∷◌, ◌++◌, arith, mul-le-mul_right, replicate, pow_pos}
+use Rattle.std.proofs.Math.Nat.{sub-zero}
 use Rattle.table.specs.Table.{Table, row_bits, row_offset}
 use Rattle.table.specs.Slots.{Direct, own, inner, slot_at}
 use Rattle.table.proofs.Rows.{row, row-mono, row_one, slot-rows}

@@ -1,16 +1,11 @@
 -- The indirect blocks of a plan's region are as long as the plan says, and lead to all of its direct blocks.
-use Prim.Native.Nat.{ℕ, ◌+◌, ◌≤◌, ◌<◌}
-use mathlib.Core.Path.{◌≡◌, refl, sym, ap, ◌∙◌, subst}
-use mathlib.Core.List.{List, [], ◌∷◌}
-use native.Mathlib.Omega.{arith}
-use native.Mathlib.Nat.{zero-add}
-use native.Mathlib.Decide.{ℕ_discrete}
-use borrow.Author.Tests.{eq-eqb, ne_eqb}
+use Rattle.std.proofs.Common.{inl, inr, ℕ, ◌+◌, ◌≤◌, ◌<◌, ◌≡◌, refl, sym, ap, ◌∙◌, subst, List, [], ◌∷◌, arith, zero-add, Ok}
+use Rattle.std.proofs.lemmas.Bool.{cases_eq}
+use Rattle.std.proofs.lemmas.Bool.Decides.{nat_tests}
 use Rattle.table.specs.Table.{Table, fixed, row_offset}
 use Rattle.table.specs.Sizes.{indirect_size}
 use Rattle.table_laws.proofs.Format.{slot-least}
 use Rattle.planner.specs.declared.State.{State}
-use Rattle.std.specs.Prelude.{Ok}
 use Rattle.plan.specs.declared.ManagedPlan.{ManagedPlan}
 use Rattle.planner.specs.Steps.{initial, block_end, run, plan_offsets, plan_starts}
 use Rattle.plan.specs.End.{end_state, rows_of_root}
@@ -68,19 +63,20 @@ module _ {t : Table} {w : ℕ} where
 
 totals-bare : (w : ℕ) (s : State) → rows_of_root fixed (block_end s) ≡ 0 → totals fixed w s ≡ bare_totals fixed w s
 unfolding totals
-totals-bare w s e = rw (eq-eqb (rows_of_root fixed (block_end s)) 0 e)
+totals-bare w s bare = grind (arith, nat_tests)
 
-totals-rows : (w : ℕ) (s : State) → (rows_of_root fixed (block_end s) ≡ 0 → ⊥) → totals fixed w s ≡ row_totals fixed w s (rows_of_root fixed (block_end s))
+totals-rows : (w : ℕ) (s : State) → (rows_of_root fixed (block_end s) ≡ 0 → ⊥)
+    → totals fixed w s ≡ row_totals fixed w s (rows_of_root fixed (block_end s))
 unfolding totals
-totals-rows w s e = rw (ne_eqb (rows_of_root fixed (block_end s)) 0 e)
+totals-rows w s some = grind (arith, nat_tests)
 
 -- no rows mean the totals of a bare root
 bare-totals : (w : ℕ) (p : ManagedPlan) (s : State) → p ≡ totals fixed w s → p.root_rows ≡ 0 → p ≡ bare_totals fixed w s
-bare-totals w p s q z = go (ℕ_discrete (rows_of_root fixed (block_end s)) 0)
-  where
-    go : Dec (rows_of_root fixed (block_end s) ≡ 0) → p ≡ bare_totals fixed w s
-    go (yes e) = q ∙ totals-bare w s e
-    go (no e) = absurd (e (sym (ap (λ (y : ManagedPlan). y.root_rows) (q ∙ totals-rows w s e)) ∙ z))
+bare-totals w p s is bare =
+    elim (cases_eq (rows_of_root fixed (block_end s)) 0) [
+      | inl e ↦ is ∙ totals-bare w s e
+      | inr some ↦ absurd (some (sym (ap (λ y. y.root_rows) (is ∙ totals-rows w s some)) ∙ bare))
+    ]
 
 -- a plan whose root has rows: they reach the last of its blocks
 pub record Rooted (w : ℕ) (xs : List ℕ) (p : ManagedPlan) : Type 0 where
@@ -97,7 +93,7 @@ module _ (w x : ℕ) (xs : List ℕ) (p : ManagedPlan) (s : State) (ran : run fi
 
   is-closed : end_state fixed w s ≡ s
   unfolding end_state
-  is-closed = let c = (blocks laid-all).counted in rw (ne_eqb s.count 0 (λ z. omega arith), end_state)
+  is-closed = grind (arith, nat_tests, (blocks laid-all).counted)
 
   rows-reach : rows_of_root fixed (block_end s) ≡ p.root_rows → Reach (block_end s)
   rows-reach n =
@@ -105,29 +101,20 @@ module _ (w x : ℕ) (xs : List ℕ) (p : ManagedPlan) (s : State) (ran : run fi
       reach (block_end s) (omega arith) (still-ok (ran-ok w) laid-all).heap (λ z. omega (arith, no_rows (block_end s) z))
 
   rooted-some : Rooted w (x ∷ xs) p
-  rooted-some = go (ℕ_discrete (rows_of_root fixed (block_end s)) 0)
-    where
-      are : p ≡ totals fixed w s
-      are = is ∙ ap (totals fixed w) is-closed
-
-      go : Dec (rows_of_root fixed (block_end s) ≡ 0) → Rooted w (x ∷ xs) p
-      go (yes z) = absurd (let e = ap (λ (y : ManagedPlan). y.root_rows) (are ∙ totals-bare w s z) in omega arith)
-      go (no z) =
-          let q = are ∙ totals-rows w s z in
-          let n : rows_of_root fixed (block_end s) ≡ p.root_rows = sym (ap (λ (y : ManagedPlan). y.root_rows) q) in
-          let R = rows-reach n in
-          let m = R.most in
-          let f = R.far in
-          let e = laid_end laid-all in
-          let k = ap (row_offset fixed) n in
-          record {
-            state = s;
-            totals-are = q ∙ ap (row_totals fixed w s) n;
-            few = omega arith;
-            placed = laid-placed laid-all;
-            reaches = omega arith;
-            opened = laid-opened laid-all ∙ zero-add _;
-          }
+  rooted-some =
+      let are : p ≡ totals fixed w s = is ∙ ap (totals fixed w) is-closed in
+      let q = are ∙ totals-rows w s (λ bare. omega (arith, ap (λ (y : ManagedPlan). y.root_rows) (are ∙ totals-bare w s bare))) in
+      let n : rows_of_root fixed (block_end s) ≡ p.root_rows = sym (ap (λ y. y.root_rows) q) in
+      let R = rows-reach n in
+      let reached = ap (row_offset fixed) n in
+      record {
+        state = s;
+        totals-are = q ∙ ap (row_totals fixed w s) n;
+        few = omega (arith, R.most);
+        placed = laid-placed laid-all;
+        reaches = omega (arith, R.far, laid_end laid-all);
+        opened = laid-opened laid-all ∙ zero-add _;
+      }
 
 pub rooted : (xs : List ℕ) (o b w : ℕ) (p : ManagedPlan) → planned_for xs o b w ≡ Ok p → 0 < p.root_rows → Rooted w xs p
 rooted [] o b w p e l = absurd (let z = one-block [] o b w p e (starts_none w) in omega arith)

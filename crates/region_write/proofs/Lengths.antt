@@ -1,9 +1,5 @@
 -- How long an indirect block is.
-use Prim.Native.Nat.{ℕ, ◌+◌}
-use mathlib.Core.Path.{◌≡◌, ◌∙◌}
-use mathlib.Core.List.{List}
-use native.Mathlib.Omega.{arith}
-use lib.ListN.{length, length-append}
+use Rattle.std.proofs.Common.{ℕ, ◌+◌, ◌≡◌, ◌∙◌, List, arith, length, length-append}
 use Rattle.table.specs.Table.{Table}
 use Rattle.table.specs.Sizes.{indirect_size}
 use Rattle.region_blocks.specs.Blocks.{indirect_block}

@@ -1,18 +1,12 @@
 -- Of every plan: the region of its objects is as long as planned, and its root stands at the planned place.
-use Prim.Native.Nat.{ℕ, zero, suc, ◌+◌, ◌<◌}
-use mathlib.Core.Path.{◌≡◌, refl, sym, ap, ◌∙◌}
-use mathlib.Core.Bool.{Bool, true, false, cond}
-use mathlib.Core.List.{List}
-use native.Mathlib.Omega.{arith}
-use lib.Dec.{eqb}
-use lib.ListN.{length, take, drop, length-append}
+use Rattle.std.proofs.lemmas.Bool.Decides.{nat_tests}
+use Rattle.std.proofs.Common.{if◌then◌else◌, ◌==◌, ℕ, zero, suc, ◌+◌, ◌<◌, ◌≡◌, refl, sym, ap, ◌∙◌, List, arith, length, take, drop, length-append, Ok}
 use Rattle.fields.proofs.Widths.{legal-small}
 use Rattle.table.specs.Table.{fixed}
 use Rattle.planner.specs.Steps.{plan_offsets, plan_starts}
 use Rattle.planner.specs.declared.State.{State}
 use Rattle.plan.specs.declared.ManagedPlan.{ManagedPlan}
-use Rattle.std.specs.Prelude.{Ok}
-use Rattle.plan.specs.End.{one_block, end_state}
+use Rattle.plan.specs.End.{end_state}
 use Rattle.plan.specs.Answer.{planned_for}
 use Rattle.plan.proofs.Answering.{accepted}
 use Rattle.plan.proofs.Tally.{counted, tallied}
@@ -24,13 +18,9 @@ use Rattle.region_write.specs.Region.{indirects, indirect_bytes, region, root_by
 use Rattle.region_write.proofs.Root.{indirects-none, indirects-some, root-bare, root-rows}
 use Rattle.region_write.proofs.Indirect.{indirect-planned, region-planned, bare-planned}
 
-closed-space : (w : ℕ) (s : State) → (end_state fixed w s).allocated ≡ cond (eqb s.count 0) 1024 s.allocated
+closed-space : (w : ℕ) (s : State) → (end_state fixed w s).allocated ≡ (if s.count == 0 then 1024 else s.allocated)
 unfolding end_state
-closed-space w s = go (eqb s.count 0)
-  where
-    go : (b : Bool) → (cond b (one_block fixed w) s).allocated ≡ cond b 1024 s.allocated
-    go true = refl
-    go false = refl
+closed-space w s = grind (arith, nat_tests)
 
 module _ (xs : List ℕ) (o b w : ℕ) (p : ManagedPlan) (e : planned_for xs o b w ≡ Ok p) where
   abbrev n : ℕ

@@ -1,6 +1,5 @@
 -- The laws of a region in the words of the contracts.
-use Prim.Native.Nat.{ℕ, ◌/◌, ◌^◌, ◌≤◌, ◌<◌}
-use mathlib.Core.Path.{◌≡◌, sym, ap}
+use Rattle.std.proofs.Common.{ℕ, ◌/◌, ◌^◌, ◌≤◌, ◌<◌, ◌≡◌, sym, ap}
 use Rattle.table.specs.Table.{Table}
 use Rattle.table.specs.Slots.{slot_bits, slot_at}
 use Rattle.table.specs.declared.Slot.{Slot}

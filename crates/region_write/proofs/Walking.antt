@@ -1,17 +1,11 @@
 -- The walk over indirect blocks: which way a slot goes, and which direct blocks are behind it.
-use Prim.Native.Nat.{ℕ, zero, suc, ◌+◌, ◌-◌, ◌^◌, ◌≤◌, ◌<◌}
-use mathlib.Core.Path.{◌≡◌, refl, sym, ap, ◌∙◌, subst}
-use mathlib.Core.Logic.{⊎_elim}
-use mathlib.Core.List.{List, [], ◌∷◌}
-use native.Mathlib.Omega.{arith}
-use native.Mathlib.Nat.{eq-or-lt_of_le}
-use native.Mathlib.Decide.{dec_le, dec_lt}
-use lib.Pow.{pow_pos}
-use borrow.Author.Tests.{lt-ltb, le-ltb, le-leb, lt-leb}
+use Rattle.std.proofs.Common.{◌⊎◌, inl, inr, ℕ, zero, suc, ◌+◌, ◌-◌, ◌^◌, ◌≤◌, ◌<◌, ◌≡◌, refl, sym, ap, ◌∙◌, subst, ⊎_elim, List, [], ◌∷◌, arith, eq-or-lt_of_le, pow_pos}
+use Rattle.std.proofs.lemmas.Bool.{cases_lt}
+use Rattle.std.proofs.lemmas.Bool.Decides.{nat_tests}
 use Rattle.table.specs.Table.{Table, row_bits, row_offset}
 use Rattle.table.specs.Slots.{slot_at}
 use Rattle.plan.specs.Plans.{sizes_at}
-use Rattle.region_indirects.specs.Walk.{Walked, Walk, begins_before, unplaced, direct, nothing, both, slot, slots, finished, smaller, all_slots, block}
+use Rattle.region_indirects.specs.Walk.{Walked, WalkedFrom, begins_before, unplaced, direct, nothing, both, slot, slots, finished, smaller, all_slots, block}
 use Rattle.region_indirects.proofs.Walking.{slot-unplaced, slot-direct, slot-inner, smaller-block}
 use Rattle.region_write.proofs.Geometry.{SlotAt, Ahead, done, slot_of, slot-end, all-ahead, BlockAt, inner-span, own-slot, inner_block}
 use Rattle.region_write.proofs.Starts.{Placed, none, more, before, from, before-yes, before-none, from-yes, from_all, from-placed, before-later, from-later, sizes-append}
@@ -23,7 +17,8 @@ by-smaller P f n = f n (below n)
     below : (m j : ℕ) → j < m → P j
     below zero j l = absurd (omega arith)
     below (suc m) j l =
-        ⊎_elim (λ (e : j ≡ m). subst P (sym e) (f m (below m))) (λ (u : j < m). below m j u) (let h : j ≤ m = omega arith in eq-or-lt_of_le h)
+        let within : j ≤ m = omega arith in
+        ⊎_elim (λ (e : j ≡ m). subst P (sym e) (f m (below m))) (λ (u : j < m). below m j u) (eq-or-lt_of_le within)
 
 -- ---- the ways of a slot
 
@@ -41,29 +36,32 @@ module _ (t : Table) (g : t.start_bits ≤ t.direct_bits) (wd : t.width_bits + t
   pub way : {n base r at : ℕ} {ss : List ℕ} → BlockAt t n base → SlotAt t n base r at → Placed t at ss → (pos next : ℕ) → Way t w header n r at pos next ss
   unfolding begins_before before from
   way {n} {base} {r} {at} B C none pos next = empty refl refl (slot-unplaced t w header (smaller t w header n) r at [] pos next refl refl)
-  way {n} {base} {r} {at} B C (more {s = s} {ss = ss} v S P) pos next = go (dec_lt s end) (dec_le (row_bits t r) t.direct_bits)
+  way {n} {base} {r} {at} B C (more {s = s} {ss = ss} v S P) pos next =
+      go (cases_lt s end) (cases_lt t.direct_bits (row_bits t r))
     where
-      inn : ℕ → Walk
+      inn : ℕ → WalkedFrom
       inn = smaller t w header n
 
       end : ℕ
       end = at + 2 ^ row_bits t r
 
-      go : Dec (s < end) → Dec (row_bits t r ≤ t.direct_bits) → Way t w header n r at pos next (s ∷ ss)
-      go (yes i) (yes d) =
-          let o = own-slot t g wd B C s (slot_at t s).size S d v i in
-          let o0 = o.0 in
-          let o1 = o.1 in
-          placed d o0 o1 (subst (λ (y : ℕ). Placed t y ss) (let z : s + (slot_at t s).size ≡ end = omega arith in z) P)
-          (slot-direct t w header inn r at (s ∷ ss) pos next refl (lt-ltb s end i) (le-leb (row_bits t r) t.direct_bits d))
-      go (yes i) (no d) =
-          let d' : t.direct_bits < row_bits t r = omega arith in
-          let l = C.row_in in
-          deeper d' i
-          (slot-inner t w header inn r at (s ∷ ss) pos next refl (lt-ltb s end i) (lt-leb (row_bits t r) t.direct_bits d') ∙ smaller-block t w header n (r - t.width_bits) (omega arith) at (s ∷ ss) pos next)
-      go (no i) d =
+      go : (s < end) ⊎ (end ≤ s) → (t.direct_bits < row_bits t r) ⊎ (row_bits t r ≤ t.direct_bits)
+          → Way t w header n r at pos next (s ∷ ss)
+      go (inl i) (inr d) =
+          let own = own-slot t g wd B C s (slot_at t s).size S d v i in
+          let own0 = own.0 in
+          let own1 = own.1 in
+          let ends : s + (slot_at t s).size ≡ end = omega arith in
+          placed d own.0 own.1 (rw ends at P)
+          (slot-direct t w header inn r at (s ∷ ss) pos next refl (grind (arith, nat_tests)) (grind (arith, nat_tests)))
+      go (inl i) (inl d) =
+          let row_in = C.row_in in
+          let inner = slot-inner t w header inn r at (s ∷ ss) pos next refl (grind (arith, nat_tests)) (grind (arith, nat_tests)) in
+          deeper d i (inner ∙ smaller-block t w header n (r - t.width_bits) (omega arith) at (s ∷ ss) pos next)
+      go (inr i) d =
           let R : Placed t end (s ∷ ss) = more {lo = end} {s = s} (omega arith) S P in
-          empty (before-none end (omega arith) R) (from_all end (omega arith) R) (slot-unplaced t w header inn r at (s ∷ ss) pos next refl (le-ltb s end (omega arith)))
+          let none = slot-unplaced t w header inn r at (s ∷ ss) pos next refl (grind (arith, nat_tests)) in
+          empty (before-none end (omega arith) R) (from_all end (omega arith) R) none
 
 -- ---- what is behind a walk
 

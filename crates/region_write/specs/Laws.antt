@@ -10,7 +10,7 @@ use Rattle.planner.specs.declared.State.{State}
 use Rattle.planner.specs.Steps.{run, plan_offsets, plan_starts}
 use Rattle.region_blocks.specs.declared.Site.{Site}
 use Rattle.region_blocks.specs.Blocks.{direct_block}
-use Rattle.region_indirects.specs.Walk.{Walk, begins_before, unplaced, both, slots}
+use Rattle.region_indirects.specs.Walk.{WalkedFrom, begins_before, unplaced, both, slots}
 use Rattle.region_directs.specs.Directs.{objects_in, directs}
 use Rattle.region_write.specs.Region.{region, root_bytes}
 use Rattle.region_write.specs.Planned.{IndirectPlanned, BareRegion}
@@ -69,7 +69,7 @@ ObjectsLie =
 -- k slots of a row before whose end no block begins may be passed at once: they are undefined addresses
 abbrev pub RowsPassed : Type 0
 RowsPassed =
-    (t : Table) (w header : ℕ) (inner : ℕ → Walk) (k r : ℕ) (rs : List ℕ) (at : ℕ) (ss : List ℕ) (pos next : ℕ)
+    (t : Table) (w header : ℕ) (inner : ℕ → WalkedFrom) (k r : ℕ) (rs : List ℕ) (at : ℕ) (ss : List ℕ) (pos next : ℕ)
     → begins_before ss (at + k * 2 ^ row_bits t r) ≡ false
     → slots t w header inner (replicate k r ++ rs) at ss pos next
     ≡ both (unplaced (k * w) ss next) (slots t w header inner rs (at + k * 2 ^ row_bits t r) ss pos next)
