@@ -15,7 +15,7 @@ begun n =
 
 -- the loop's twelve additions, of the 12 bytes from p on: four to a, four to b, four to c, shifted by 0, 8, 16 and 24
 -- bits
-unfoldable pub grouped : List ℕ → ℕ → State → State
+unfoldable pub grouped : (bytes : List ℕ) (p : ℕ) (s : State) → State
 grouped bytes p s = record {
   a = add32 s.a (le_at bytes p 4);
   b = add32 s.b (le_at bytes (p + 4) 4);
@@ -24,7 +24,7 @@ grouped bytes p s = record {
 
 -- the loop, while more than 12 bytes are left: one group is added and mixed, and 12 bytes are done. n such groups
 -- from p on
-unfoldable pub run : List ℕ → ℕ → ℕ → State → State
+unfoldable pub run : (bytes : List ℕ) (p n : ℕ) (s : State) → State
 run bytes p zero s = s
 run bytes p (suc n) s = run bytes (p + 12) n (mixed (grouped bytes p s))
 
@@ -42,7 +42,7 @@ tail_of bytes = drop (12 * groups_of (length bytes)) bytes
 
 -- case n of the switch adds x, the n-th byte: cases 1 to 4 to a, 5 to 8 to b, 9 to 12 to c, shifted by 0, 8,
 -- 16 and 24 bits in turn
-unfoldable pub case_added : ℕ → ℕ → State → State
+unfoldable pub case_added : (n x : ℕ) (s : State) → State
 case_added n x s =
     let y = x * 2 ^ ((n - 1) % 4 * 8) in
     if nat_le n 4 then record { a = add32 s.a y; b = s.b; c = s.c }
@@ -51,18 +51,18 @@ case_added n x s =
 
 -- a tail enters at the case of its length and falls through to case 1, so it meets case n if it has n
 -- bytes or more
-unfoldable pub case_met : ℕ → List ℕ → State → State
+unfoldable pub case_met : (n : ℕ) (tail : List ℕ) (s : State) → State
 case_met n tail s = if nat_le n (length tail) then case_added n (slice_index tail (n - 1)) s else s
 
 -- the switch: the cases from n down
-unfoldable pub switched : ℕ → List ℕ → State → State
+unfoldable pub switched : (n : ℕ) (tail : List ℕ) (s : State) → State
 switched zero tail s = s
 switched (suc n) tail s = switched n tail (case_met (suc n) tail s)
 
 -- case 0 gives c as it is; the other cases give it after the final mix
-unfoldable pub ended : List ℕ → State → ℕ
+unfoldable pub ended : (tail : List ℕ) (s : State) → ℕ
 ended tail s = if length tail == 0 then s.c else (final_mixed (switched 12 tail s)).c
 
 -- hashlittle(bytes, length, 0)
-unfoldable pub hashlittle : List ℕ → ℕ
+unfoldable pub hashlittle : (bytes : List ℕ) → ℕ
 hashlittle bytes = ended (tail_of bytes) (body bytes)

@@ -11,6 +11,7 @@ ghost use Rattle.fields.specs.Writing.{Puts};
 ghost use Rattle.region_blocks.specs.Blocks.{block_head};
 
 use fields::stores::Writer;
+use table::BLOCK_OFFSET_BYTES;
 
 /// What all blocks of a region share: the width of addresses in bytes, and where the heap's header and the region
 /// stand in the file. It is the caller's, so the width is any byte; the writers of blocks ask that it is 8 at most.
@@ -32,7 +33,7 @@ fn put_head(writer: &mut Writer<'_>, signature: &[u8; 4], offset: u64, site: Sit
     writer.put(signature);
     writer.fill(0, 1); // Version
     writer.put_number(site.heap_header_address, site.offset_size);
-    writer.put_number(offset, 5);
+    writer.put_number(offset, BLOCK_OFFSET_BYTES as u8);
 }
 
 // The head over the front of a block, whose other bytes are left.

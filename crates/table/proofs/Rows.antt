@@ -172,7 +172,8 @@ row-high : (j x : ℕ) → 12 ≤ j → x ≤ 2 ^ 40 → 2 ^ j ≤ x → x < 2 ^
 unfolding row_offset
 row-high j x g h l u =
     let e : 12 + (j - 12) ≡ j = omega arith in
-    let z = row-of-is fixed x (suc (j - 12)) (omega arith) (rw e l) (rw add-suc (rw e u)) in
+    let f : 12 + suc (j - 12) ≡ suc j = omega arith in
+    let z = row-of-is fixed x (suc (j - 12)) (omega arith) (rw e l) (rw f u) in
     omega arith
 
 -- the row, from the count of leading zeros

@@ -4,19 +4,19 @@ use Rattle.std.specs.Prelude.{ℕ, zero, suc, ◌-◌, ◌*◌, ◌^◌, nat_le,
 use Rattle.numbers.specs.Sums.{sum}
 use Rattle.table.specs.Table.{Table, row_bits}
 
--- a block of row r: a direct one holds what its header of h bytes leaves, an indirect one what its own rows
--- hold, whose capacities stand in front in l
-unfoldable pub block_capacity : Table → ℕ → ℕ → List ℕ → ℕ
+-- a block of a row: a direct one holds what its header of so many bytes leaves, an indirect one what its own rows
+-- hold, whose capacities stand in front in the list below
+unfoldable pub block_capacity : (t : Table) (header row : ℕ) (below : List ℕ) → ℕ
 block_capacity t h r l =
     if nat_le (row_bits t r) t.direct_bits
     then 2 ^ row_bits t r - h
     else 2 ^ t.width_bits * sum (take (r - t.width_bits) l)
 
 -- the capacities of a block of each of the rows before n
-unfoldable pub capacities : Table → ℕ → ℕ → List ℕ
+unfoldable pub capacities : (t : Table) (header n : ℕ) → List ℕ
 capacities t h zero = []
 capacities t h (suc n) = capacities t h n ++ (block_capacity t h n (capacities t h n) ∷ [])
 
 -- the rows before n together
-unfoldable pub capacity : Table → ℕ → ℕ → ℕ
+unfoldable pub capacity : (t : Table) (header n : ℕ) → ℕ
 capacity t h n = 2 ^ t.width_bits * sum (capacities t h n)

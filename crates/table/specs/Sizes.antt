@@ -9,16 +9,16 @@ unfoldable pub offset_bytes : Table → ℕ
 offset_bytes t = (t.heap_bits + 7) / 8
 
 -- Signature, Version, Heap Header Address, Block Offset, Checksum
-unfoldable pub direct_header : Table → ℕ → ℕ
+unfoldable pub direct_header : (t : Table) (w : ℕ) → ℕ
 direct_header t w = 4 + 1 + w + offset_bytes t + 4
 
 -- the largest object that a direct block holds ('Fractal Heap Header': Maximum Direct Block Size)
-unfoldable pub max_managed : Table → ℕ → ℕ
+unfoldable pub max_managed : (t : Table) (w : ℕ) → ℕ
 max_managed t w = 2 ^ t.direct_bits - direct_header t w
 
--- Signature, Version, Heap Header Address, Block Offset, one child's address for each slot of n rows, Checksum
-unfoldable pub indirect_size : Table → ℕ → ℕ → ℕ
-indirect_size t w n = 4 + 1 + w + offset_bytes t + n * 2 ^ t.width_bits * w + 4
+-- Signature, Version, Heap Header Address, Block Offset, one child's address for each slot of the rows, Checksum
+unfoldable pub indirect_size : (t : Table) (w rows : ℕ) → ℕ
+indirect_size t w rows = 4 + 1 + w + offset_bytes t + rows * 2 ^ t.width_bits * w + 4
 
 sizes-fixed : (direct_header fixed 8 ≡ 22) × (max_managed fixed 8 ≡ 65514) × (indirect_size fixed 8 3 ≡ 118)
 unfolding direct_header max_managed indirect_size offset_bytes

@@ -16,25 +16,25 @@ abbrev pub fixed : Table
 fixed = record { width_bits = 2; start_bits = 10; direct_bits = 16; heap_bits = 40 }
 
 -- a block of row r has 2 ^ row_bits r bytes: rows 0 and 1 the starting size, each later row twice the one before
-unfoldable pub row_bits : Table → ℕ → ℕ
+unfoldable pub row_bits : (t : Table) (row : ℕ) → ℕ
 row_bits t r = t.start_bits + (r - 1)
 
 -- where row r begins, which is also what the rows before it span
-unfoldable pub row_offset : Table → ℕ → ℕ
+unfoldable pub row_offset : (t : Table) (row : ℕ) → ℕ
 row_offset t zero = 0
 row_offset t (suc r) = 2 ^ (t.start_bits + t.width_bits + r)
 
 -- the last of the rows 0 to n that begins at or before x
-unfoldable pub row_in : Table → ℕ → ℕ → ℕ
+unfoldable pub row_in : (t : Table) (n offset : ℕ) → ℕ
 row_in t zero x = 0
 row_in t (suc n) x = if nat_le (row_offset t (suc n)) x then suc n else row_in t n x
 
 -- the row of an offset below the heap's size
-unfoldable pub row_of : Table → ℕ → ℕ
+unfoldable pub row_of : (t : Table) (offset : ℕ) → ℕ
 row_of t x = row_in t t.heap_bits x
 
 -- row and column of an offset
-unfoldable pub place_of : Table → ℕ → RowCol
+unfoldable pub place_of : (t : Table) (offset : ℕ) → RowCol
 place_of t x = record { row = row_of t x; col = (x - row_offset t (row_of t x)) / 2 ^ row_bits t (row_of t x) }
 
 -- the most rows that a root has: as many as the heap space holds ('Fractal Heap Header': Starting # of Rows in Root
@@ -42,14 +42,15 @@ place_of t x = record { row = row_of t x; col = (x - row_offset t (row_of t x)) 
 unfoldable pub max_rows : Table → ℕ
 max_rows t = t.heap_bits - (t.start_bits + t.width_bits) + 1
 
--- of the f row counts from n on the first whose rows span at least x bytes
-unfoldable pub covering_in : Table → ℕ → ℕ → ℕ → Option ℕ
-covering_in t zero n x = None
-covering_in t (suc f) n x = if nat_le x (row_offset t n) then Some n else covering_in t f (suc n) x
+-- of so many row counts from n on the first whose rows span at least so many bytes
+unfoldable pub covering_in : (t : Table) (counts n span : ℕ) → Option ℕ
+covering_in t zero n span = None
+covering_in t (suc counts) n span =
+    if nat_le span (row_offset t n) then Some n else covering_in t counts (suc n) span
 
--- the fewest rows of a root that span at least x bytes, if the table has as many
-unfoldable pub covering : Table → ℕ → Option ℕ
-covering t x = covering_in t (max_rows t) 1 x
+-- the fewest rows of a root that span at least so many bytes, if the table has as many
+unfoldable pub covering : (t : Table) (span : ℕ) → Option ℕ
+covering t span = covering_in t (max_rows t) 1 span
 
 -- rows 0 and 1 alike, row 7 the last direct one, 29 rows at most
 rows-fixed : (row_bits fixed 0 ≡ 10) × (row_bits fixed 1 ≡ 10) × (row_bits fixed 7 ≡ 16) × (max_rows fixed ≡ 29)

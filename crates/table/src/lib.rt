@@ -19,7 +19,7 @@ pub const TABLE_WIDTH: u64 = 4;
 pub const STARTING_BLOCK_SIZE: u64 = 1024;
 
 /// Bytes of the largest direct block (`H5O_FHEAP_MAN_MAX_DIRECT_SIZE`). Rows whose blocks would be larger hold
-/// indirect blocks: so a heap grows by levels, and no block has to be read whole that is larger.
+/// indirect blocks: so from there on a heap grows by levels, and not by larger blocks.
 pub const MAX_DIRECT_BLOCK_SIZE: u64 = 65_536;
 
 /// Bits of a heap offset (`H5O_FHEAP_MAN_MAX_INDEX`), the header's Maximum Heap Size.

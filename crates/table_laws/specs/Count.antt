@@ -7,13 +7,13 @@ use Rattle.table.specs.Table.{Table}
 use Rattle.table.specs.Slots.{Direct}
 
 -- how many numbers below n pass p
-unfoldable pub count : (ℕ → Bool) → ℕ → ℕ
+unfoldable pub count : (p : ℕ → Bool) (n : ℕ) → ℕ
 count p zero = 0
 count p (suc n) = count p n + bit (p n)
 
 -- a direct slot of z bytes at s, of the managed space of a heap with n root rows: at 0 rows the one at 0, of
 -- the starting size
-abbrev pub Managed : Table → ℕ → ℕ → ℕ → Type 0
+abbrev pub Managed : (t : Table) (n s z : ℕ) → Type 0
 Managed t zero s z = (s ≡ 0) × (z ≡ 2 ^ t.start_bits)
 Managed t (suc n) s z = Direct t (suc n) s z
 
