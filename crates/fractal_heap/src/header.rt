@@ -23,6 +23,8 @@ pub struct FractalHeapHeader {
     /// How many managed objects the heap holds: Number of Managed Objects in Heap.
     pub managed_objects_count: u64,
     /// The numbers that say how large each block is, and where in the heap space: Table Width to Maximum Heap Size.
+    /// They are one value, and four fields in the Rust crate, since what reads blocks needs these and nothing else of a
+    /// header.
     pub table: DoublingTable,
     /// With how many rows the root indirect block began; nothing is read by it: Starting # of Rows in Root Indirect
     /// Block.

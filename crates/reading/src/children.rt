@@ -10,7 +10,8 @@ use fields::{ensure_len, is_width, read_offset};
 use numbers::saturating_mul;
 use refusals::FormatError;
 
-/// A child of an indirect block.
+/// A child of an indirect block: its address, and the heap offset that it begins at. The size of a direct one is told
+/// as the original does, and read by nobody; `nrows`, at most 64, is what the original cuts to 16 bits.
 #[derive(Clone, Copy, Debug, PartialEq, Eq)]
 pub enum HeapChild {
     Direct {
@@ -57,7 +58,8 @@ fn holds(addr: u64, offset_size: u8, start: u64, end: u64, target: u64) -> bool
 
 impl Search<'_> {
     // The child that holds the target, of the rows whose entries begin at `at` of a block. A row that ends at or before
-    // the target is passed at once, where all its entries are there.
+    // the target is passed at once, where all its entries are there; the definition, as the original, goes slot by
+    // slot.
     #[tactic(auto, using(crate::proofs::Scanning::scanning), unfolding(numbers::specs::Numbers::saturated))]
     fn find_child_in_rows(
         &self,
@@ -96,7 +98,8 @@ impl Search<'_> {
     }
 
     /// The child that holds the target, of the block whose bytes these begin with: `nrows` rows, the first slot at the
-    /// heap offset `start`. Filtered heaps have been refused before: their entries are longer.
+    /// heap offset `start`. Filtered heaps, whose entries are longer, were refused before, and are not tested for
+    /// again.
     #[tactic(auto, unfolding(crate::specs::Blocks::child_in, crate::specs::Blocks::entries_place, fields::specs::LittleEndian::value))]
     pub fn find_child_for_offset(
         &self,

@@ -56,7 +56,8 @@ impl DoublingTable {
         bits.saturating_sub(start + width) + 1
     }
 
-    /// What a block of `nrows` rows spans: row 0, doubled by each row after it.
+    /// What a block of `nrows` rows spans: row 0, doubled by each row after it, in one product. The definition adds up
+    /// the rows, as the original does.
     #[tactic(auto, using(crate::proofs::RowSizes::span))]
     fn indirect_block_heap_size(self, nrows: u64) -> u64
         requires { (0 < nrows) × (nrows ≤ 64) }

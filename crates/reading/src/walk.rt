@@ -10,7 +10,8 @@ use fields::place::Place;
 use refusals::FormatError;
 
 impl Search<'_> {
-    // The object in the direct block at `addr` that begins at heap offset `start`.
+    // The object in the direct block at `addr` that begins at heap offset `start`. The target is never before it; the
+    // difference is cut at 0, so that this need not be asked.
     #[tactic(auto, unfolding(crate::specs::Walk::direct_at))]
     fn read_from_direct_block(&self, addr: u64, start: u64) -> Result<Place, FormatError>
         ensures value { result
@@ -31,7 +32,8 @@ impl Search<'_> {
         })
     }
 
-    // The object below the indirect root block at `root`: child by child, through at most 64 blocks.
+    // The object below the indirect root block at `root`: child by child, in a loop over the original's counter, which
+    // is 64 at the root and one less at each child.
     #[tactic(auto, using(crate::proofs::Walking::walking), unfolding(numbers::specs::Numbers::saturated))]
     fn read_from_indirect_block(&self, root: u64, root_rows: u64) -> Result<Place, FormatError>
         ensures value { result ≡ walk_from self.now.table self.now.file.now self.now.offset_size

@@ -1,18 +1,19 @@
 -- Words of a head, one by one.
-use Rattle.std.proofs.Common.{◌≡◌, ℕ, ◌+◌, ◌*◌, ◌<◌, ◌≤◌, ◌≢◌, List, length, get_or, drop, true, false, arith}
+use Rattle.std.proofs.Common.{◌≡◌, ℕ, ◌+◌, ◌*◌, ◌<◌, ◌≤◌, ◌≢◌, List, length, drop, true, false, arith}
+use Rattle.std.specs.Prelude.{slice_index}
 use Rattle.std.proofs.lemmas.Bool.Decides.{nat_tests}
 use Rattle.std.proofs.lemmas.List.{drop_more, drop_all}
 use Rattle.fields.specs.LittleEndian.{le_at}
 use Rattle.run_reads.specs.Recorded.{has_words}
 
 -- the next word stands there
-pub words_next : (s words : List ℕ) (i : ℕ) → i < length words → get_or words i 0 ≡ le_at s (27 + 8 * i) 8
+pub words_next : (s words : List ℕ) (i : ℕ) → i < length words → slice_index words i ≡ le_at s (27 + 8 * i) 8
     → has_words s (27 + 8 * i) (drop i words) ≡ has_words s (27 + 8 * (i + 1)) (drop (i + 1) words)
 unfolding has_words
 words_next s words i below same = grind (arith, nat_tests, drop_more)
 
 -- the next word is another
-pub words_other : (s words : List ℕ) (i : ℕ) → i < length words → get_or words i 0 ≢ le_at s (27 + 8 * i) 8
+pub words_other : (s words : List ℕ) (i : ℕ) → i < length words → slice_index words i ≢ le_at s (27 + 8 * i) 8
     → has_words s (27 + 8 * i) (drop i words) ≡ false
 unfolding has_words
 words_other s words i below other = grind (arith, nat_tests, drop_more)
