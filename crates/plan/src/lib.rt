@@ -29,7 +29,8 @@ use table::capacities::{capacity_sum, rows_capacity};
 use table::{STARTING_BLOCK_SIZE, row_offset};
 
 /// What planning says of a heap, in bytes but for two counts, by the original's names; block count and root place are
-/// ours. The last four are fields of the heap header (HDF5 File Format Specification 3.0, III.G, 'Fractal Heap Header').
+/// ours. The last four are fields of the heap header (HDF5 File Format Specification 3.0, III.G, 'Fractal Heap
+/// Header').
 #[derive(Clone, Copy, Debug, PartialEq, Eq)]
 pub struct ManagedPlan {
     /// How many direct blocks are placed.
