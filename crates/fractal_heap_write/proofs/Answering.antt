@@ -7,7 +7,6 @@ use Rattle.fields.specs.Widths.{legal}
 use Rattle.fields.proofs.Widths.{legal-small}
 use Rattle.fields.specs.Undefined.{undefined_address}
 use Rattle.numbers.specs.Sums.{sum}
-use Rattle.plan.specs.Checks.{places_checked}
 use Rattle.plan.specs.declared.ManagedPlan.{ManagedPlan}
 use Rattle.plan.specs.Answer.{planned_for}
 use Rattle.plan.proofs.Answering.{accepted}
@@ -41,7 +40,7 @@ module _ (xs : List ℕ) (lent : Lent) (site : Site) where
       go (Err e) g h = absurd cc
 
 pub fit : (site : Site) (lent : Lent) (n size : ℕ) → output_checked site lent n size ≡ Ok tt → Fit site lent n size
-unfolding output_checked bytes_checked places_checked header_address_checked region_address_checked
+unfolding output_checked bytes_checked header_address_checked region_address_checked
 fit site lent n size e = grind (arith, nat_tests)
 
 -- an address of a legal width has 64 bits

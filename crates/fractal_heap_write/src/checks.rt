@@ -73,7 +73,7 @@ fn check_region_address(address: u64, size: u64, width: Width) -> Result<(), For
 /// The plan of objects of these sizes, if all tests pass for what is lent and the site of the region: first those of
 /// planning (2, 13 for the offsets, 13 for the blocks, 11, 12), then 14, 13 for the region, 15 for the header, 15 for
 /// the region.
-#[tactic(auto, unfolding(crate::specs::Answer::serialized_for, crate::specs::Checks::output_checked, plan::specs::Answer::planned_for, plan::specs::Checks::input_checked, plan::specs::Checks::width_checked), using(crate::proofs::Answering::planned_sum))]
+#[tactic(auto, unfolding(crate::specs::Answer::serialized_for, crate::specs::Checks::output_checked, plan::specs::Answer::planned_for, plan::specs::Checks::input_checked), using(crate::proofs::Answering::planned_sum))]
 pub fn serialized_for(sizes: &[u64], lent: Lent, site: Site) -> Result<ManagedPlan, FormatError>
     ensures answer { result ≡ serialized_for sizes.now lent site }
     ensures accepted { IfOk result (λ plan. Accepted sizes.now lent site plan) }

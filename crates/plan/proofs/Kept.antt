@@ -19,7 +19,7 @@ module _ (xs : List ℕ) (o b w : ℕ) (p : ManagedPlan) (e : planned_for xs o b
     free-space = free-is-count xs o b w p e;
   }
 
-  pub root-fits : RootFits w xs p
+  pub root-fits : RootFits xs w p
   root-fits = record {
     rows_are_fewest = root-rows-fewest xs o b w p e;
     no_rows_one_block = no-root-rows xs o b w p e;

@@ -57,7 +57,7 @@ unfolding totals
 totals-count w s = grind (arith, nat_tests)
 
 -- every object has an offset; the block count and the allocated space are those of the placed blocks
-pub tallied : (xs : List ℕ) (o b w : ℕ) (p : ManagedPlan) → planned_for xs o b w ≡ Ok p → Tallied w xs p
+pub tallied : (xs : List ℕ) (o b w : ℕ) (p : ManagedPlan) → planned_for xs o b w ≡ Ok p → Tallied xs w p
 tallied xs o b w p e =
     let went = (accepted xs o b w p e).1 in
     grind (

@@ -139,7 +139,7 @@ pub record OneBlock (offset_size : ℕ) (sizes : List ℕ) (plan : ManagedPlan) 
 
 -- a root of some rows has the fewest, one of none is the one placed block, and that block is such a
 -- root
-pub record RootFits (offset_size : ℕ) (sizes : List ℕ) (plan : ManagedPlan) : Type 0 where
+pub record RootFits (sizes : List ℕ) (offset_size : ℕ) (plan : ManagedPlan) : Type 0 where
   pub rows_are_fewest : 0 < plan.root_rows → FewestRows offset_size sizes plan
   pub no_rows_one_block : plan.root_rows ≡ 0 → OneBlock offset_size sizes plan
   pub one_block_no_rows : plan_starts fixed offset_size sizes ≡ 0 ∷ [] → plan.root_rows ≡ 0
@@ -151,7 +151,7 @@ sizes_at t (b ∷ bs) = (slot_at t b).size + sizes_at t bs
 
 -- every object has an offset, and the plan says how many blocks are placed and how large they are
 -- together
-pub record Tallied (offset_size : ℕ) (sizes : List ℕ) (plan : ManagedPlan) : Type 0 where
+pub record Tallied (sizes : List ℕ) (offset_size : ℕ) (plan : ManagedPlan) : Type 0 where
   pub offsets : length (plan_offsets fixed offset_size sizes) ≡ length sizes
   pub blocks : plan.block_count ≡ length (plan_starts fixed offset_size sizes)
   pub allocated : plan.allocated_space ≡ sizes_at fixed (plan_starts fixed offset_size sizes)

@@ -28,8 +28,9 @@ use table::block_sizes::{direct_block_header, indirect_block_size};
 use table::capacities::{capacity_sum, rows_capacity};
 use table::{STARTING_BLOCK_SIZE, row_offset};
 
-/// What planning says of a heap, in bytes but for two counts. The last four are fields of the heap header (HDF5 File
-/// Format Specification 3.0, III.G, 'Fractal Heap Header').
+/// What planning says of a heap, in bytes but for two counts, by the original's names; block count and root place are
+/// ours. The last four are fields of the heap header (HDF5 File Format Specification 3.0, III.G, 'Fractal Heap
+/// Header').
 #[derive(Clone, Copy, Debug, PartialEq, Eq)]
 pub struct ManagedPlan {
     /// How many direct blocks are placed.
@@ -112,7 +113,7 @@ pub fn write_lists(sizes: &[u64], offsets: &mut [u64], blocks: &mut [u64], offse
     if sizes.is_empty() {
         blocks[0] = 0;
     }
-    // Where the heap space ended, the lists would hold what was placed before; an accepted plan has no end.
+    // The heap space does not end at sizes that planning accepted, so there is no index to hand on.
     let _ = Planner::new(offset_size).extend::<Written>(sizes, offsets, blocks);
 }
 
@@ -150,8 +151,8 @@ impl ManagedPlan {
         ensures blocks_after { blocks.new
             ≡ list_after result (plan_starts fixed offset_size sizes.now) blocks.old }
         ensures kept { IfOk result (λ plan. PlanKept sizes.now offset_size plan) }
-        ensures root { IfOk result (λ plan. RootFits offset_size sizes.now plan) }
-        ensures tallied { IfOk result (λ plan. Tallied offset_size sizes.now plan) }
+        ensures root { IfOk result (λ plan. RootFits sizes.now offset_size plan) }
+        ensures tallied { IfOk result (λ plan. Tallied sizes.now offset_size plan) }
     {
         let width = offset_width(offset_size)?;
         let plan = planned_for(sizes, offsets.len(), blocks.len(), width)?;

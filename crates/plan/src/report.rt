@@ -15,16 +15,16 @@ pub fn put_planned(totals: &mut [u64], answer: Result<ManagedPlan, FormatError>)
     ensures totals_after { totals.new ≡ planned_totals totals.old answer }
 {
     match answer {
-        Ok(p) => {
+        Ok(plan) => {
             totals[..8].copy_from_slice(&[
-                p.block_count,
-                p.region_size,
-                p.root_rows,
-                p.root_place,
-                p.managed_space,
-                p.allocated_space,
-                p.free_space,
-                p.allocation_iterator,
+                plan.block_count,
+                plan.region_size,
+                plan.root_rows,
+                plan.root_place,
+                plan.managed_space,
+                plan.allocated_space,
+                plan.free_space,
+                plan.allocation_iterator,
             ]);
             0
         }

@@ -83,7 +83,7 @@ impl Planner {
             ≡ Some (self.new.state, offset)) }
         ensures ends { IfNone result
             (step_of fixed self.old.offset_size self.old.state size ≡ None) }
-        ensures kept { IfNone result (self.new ≡ self.old) }
+        ensures unchanged { IfNone result (self.new ≡ self.old) }
     {
         let offset = self.state.start + self.state.fill;
         let end = self.state.fill + size;
@@ -110,7 +110,7 @@ impl Planner {
             ≡ Some (self.new.state, offset)) }
         ensures ends { IfNone result
             (step_of fixed self.old.offset_size self.old.state size ≡ None) }
-        ensures kept { IfNone result (self.new ≡ self.old) }
+        ensures unchanged { IfNone result (self.new ≡ self.old) }
     {
         let header = direct_block_header(self.offset_size);
         let end = self.state.start + self.state.size;

@@ -32,7 +32,7 @@ module _ (xs os left : List ℕ) (i o b w : ℕ) (p : ManagedPlan) (e : planned_
   -- where planning accepts the ID writer decides
   pub decided : (r : Result (Unit {0}) FormatError) → r ≡ id_checked fixed (get_or left i 0) (get_or xs i 0) 8
       → early_id xs i o b w ≡ (r >>= λ _. Ok (managed_id fixed (get_or left i 0) (get_or xs i 0)))
-  unfolding early_id id_length offset_bytes
+  unfolding early_id offset_bytes
   decided r d =
       rw e
       (ap (λ (x : ℕ). id_checked fixed x (get_or xs i 0) 8 >>= λ _. Ok (managed_id fixed x (get_or xs i 0))) (sym offset-is)

@@ -65,7 +65,7 @@ module _ {xs js os bs F : List ℕ} {site : Site} {p : ManagedPlan} (A : Accepte
 
     -- it is given this ID
     id-given : {o b : ℕ} → o ≡ length os → b ≡ length bs → early_id (take k xs) i o b w ≡ Ok given
-    unfolding early_id id_length offset_bytes
+    unfolding early_id offset_bytes
     id-given u v =
         (λ j. early_id (take k xs) i (u j) (v j) w)
         ∙ rw ((front-parts-fit xs (length os) (length bs) w p plans k).accepted, accepted-id)

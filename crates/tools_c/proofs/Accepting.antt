@@ -30,7 +30,6 @@ none (HeapIdTooLarge offset size) h = cc
 -- what holds of an accepted plan, where the number is 0
 pub accepted : (totals : List ℕ) (r : Result ManagedPlan FormatError) (P : ManagedPlan → Type 0) (Q : Type 0) → plan_number totals r ≡ 0
     → IfOk r P → ((p : ManagedPlan) → P p → Q) → Q
-unfolding plan_number
 accepted totals r P Q e h use-it = by r (nat_lt (length totals) 8) e h
   where
     by : (r : Result ManagedPlan FormatError) (short : Bool) → (if short then 13 else planned_number r) ≡ 0 → IfOk r P → Q

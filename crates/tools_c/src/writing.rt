@@ -22,7 +22,6 @@ use region_blocks::Site;
 
 /// Plans, and puts the plan's eight numbers, or a refusal's two values, into the first places of `totals`; a list
 /// shorter than 8 places gives 13 before all else.
-#[tactic(auto, unfolding(plan::specs::Report::plan_number, plan::specs::Report::plan_totals))]
 #[unsafe(no_mangle)]
 pub extern "C" fn tools_plan(
     sizes: &[u64],
@@ -52,7 +51,6 @@ pub extern "C" fn tools_plan(
 
 /// Plans and writes, and puts the plan's eight numbers, or a refusal's two values, into the first places of `totals`; a
 /// list shorter than 8 places gives 13 before all else.
-#[tactic(auto, unfolding(plan::specs::Report::plan_number, plan::specs::Report::plan_totals))]
 #[unsafe(no_mangle)]
 pub extern "C" fn tools_serialize(
     sizes: &[u64],

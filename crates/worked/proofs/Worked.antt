@@ -19,7 +19,7 @@ use Rattle.plan.specs.declared.ManagedPlan.{ManagedPlan}
 use Rattle.std.specs.Prelude.{Ok}
 use Rattle.plan.specs.End.{end_state, rows_of_root}
 use Rattle.plan.specs.Answer.{totals, planned_for}
-use Rattle.plan.specs.Checks.{sizes_checked, places_checked, width_checked, input_checked}
+use Rattle.plan.specs.Checks.{sizes_checked, input_checked}
 use Rattle.fields.specs.LittleEndian.{le, value, le_at}
 use lib.Count.{count_leading_zeros}
 use Rattle.reading.specs.Rows.{block_size, direct_rows, size_to_rows, heap_size, slot_size}
@@ -72,7 +72,7 @@ third-missed : plan_starts fixed 8 (1002 ∷ 1002 ∷ 0 ∷ []) ≡ 0 ∷ 1024 �
 third-missed starts is = missing 8 (1002 ∷ 1002 ∷ 0 ∷ []) (0 ∷ 1024 ∷ []) starts (omega arith) 2 2048 is (omega arith) refl after_two (omega arith)
 
 pub worked : All cases
-unfolding add32 mixed_groups groups_of begun body tail_of ended hashlittle legal saturated le value le_at count_leading_zeros log2 block_size direct_rows size_to_rows heap_size slot_size len_ensured row_bits row_offset row_in row_of max_rows covering_in covering slot_start slot_bits_in slot_bits slot_at entered_bytes_in entered_bytes offset_bytes direct_header max_managed indirect_size sum block_capacity capacities capacity open_in open_at step_of run_from offsets_from starts_from run plan_offsets plan_starts end_state rows_of_root totals sizes_checked places_checked width_checked input_checked planned_for
+unfolding add32 mixed_groups groups_of begun body tail_of ended hashlittle legal saturated le value le_at count_leading_zeros log2 block_size direct_rows size_to_rows heap_size slot_size len_ensured row_bits row_offset row_in row_of max_rows covering_in covering slot_start slot_bits_in slot_bits slot_at entered_bytes_in entered_bytes offset_bytes direct_header max_managed indirect_size sum block_capacity capacities capacity open_in open_at step_of run_from offsets_from starts_from run plan_offsets plan_starts end_state rows_of_root totals sizes_checked input_checked planned_for
 worked =
     both (refl, refl, refl, planned _ _ _ refl)
     (both (refl, refl, refl, planned _ _ _ refl)
