@@ -9,10 +9,14 @@ use Rattle.region_indirects.specs.Walk.{all_slots, block}
 -- the indirect blocks of the plan p of the sizes xs, the first at the address `first`, where the direct blocks
 -- begin at the address `directs`: how long those before the root are, and all of them, the address behind the
 -- direct blocks, and no direct block without an entry
-pub record IndirectPlanned (w : ℕ) (xs : List ℕ) (p : ManagedPlan) (header first directs : ℕ) : Type 0 where
-  pub children : length (all_slots fixed w header p.root_rows 0 (plan_starts fixed w xs) first directs).bytes ≡ p.root_place
-  pub bytes : length (block fixed w header p.root_rows 0 (plan_starts fixed w xs) first directs).bytes ≡ p.root_place + indirect_size fixed w p.root_rows
-  pub next : (block fixed w header p.root_rows 0 (plan_starts fixed w xs) first directs).next ≡ directs + p.allocated_space
+pub record IndirectPlanned (w : ℕ) (xs : List ℕ) (p : ManagedPlan) (header first directs : ℕ)
+    : Type 0 where
+  pub children : length (all_slots fixed w header p.root_rows 0 (plan_starts fixed w xs) first directs).bytes
+      ≡ p.root_place
+  pub bytes : length (block fixed w header p.root_rows 0 (plan_starts fixed w xs) first directs).bytes
+      ≡ p.root_place + indirect_size fixed w p.root_rows
+  pub next : (block fixed w header p.root_rows 0 (plan_starts fixed w xs) first directs).next
+      ≡ directs + p.allocated_space
   pub rest : (block fixed w header p.root_rows 0 (plan_starts fixed w xs) first directs).rest ≡ []
 
 -- the region of a root without rows is the one block
