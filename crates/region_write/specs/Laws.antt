@@ -1,5 +1,6 @@
 -- The laws of a region. Those of a plan hold for objects of any bytes and at any addresses.
-use Rattle.std.specs.Prelude.{ℕ, ◌+◌, ◌-◌, ◌*◌, ◌^◌, ◌≤◌, ◌<◌, ◌≡◌, false, ◌==◌, if◌then◌else◌, List, ◌++◌, length, take, drop, replicate, slice_index, Ok}
+use Rattle.std.specs.Prelude.{ℕ, ◌+◌, ◌-◌, ◌*◌, ◌^◌, ◌≤◌, ◌<◌, ◌≡◌, false, ◌==◌, if◌then◌else◌, List, ◌++◌, length}
+use Rattle.std.specs.Prelude.{take, drop, replicate, slice_index, Ok}
 use Rattle.numbers.specs.Sums.{sum}
 use Rattle.table.specs.Table.{Table, fixed, row_bits}
 use Rattle.table.specs.Slots.{slot_at}
@@ -21,7 +22,8 @@ use Rattle.region_write.specs.Planned.{IndirectPlanned, BareRegion}
 abbrev pub RegionsFill : Type 0
 RegionsFill =
     (xs : List ℕ) (o b : ℕ) (site : Site) (p : ManagedPlan)
-    → planned_for xs o b site.offset_size ≡ Ok p → (js : List ℕ) → length (region site p.root_rows xs js) ≡ p.region_size
+    → planned_for xs o b site.offset_size ≡ Ok p → (js : List ℕ)
+    → length (region site p.root_rows xs js) ≡ p.region_size
 
 -- the root's bytes begin at the planned place
 abbrev pub RootsStand : Type 0
