@@ -2,7 +2,9 @@
 use Rattle.std.specs.Prelude.{ℕ, ◌+◌, ◌≡◌, ◌≤◌, ◌<◌, ◌==◌, nat_le, nat_lt, Result}
 use Rattle.refusals.specs.Steps.{◌>>=◌, required}
 use Rattle.refusals.specs.declared.FormatError.{FormatError}
-use Rattle.refusals.specs.declared.FormatError.TheVariants.{ObjectBytesMismatch, HeaderAddressTooLarge, RegionAddressTooLarge}
+use Rattle.refusals.specs.declared.FormatError.TheVariants.{ObjectBytesMismatch}
+use Rattle.refusals.specs.declared.FormatError.TheVariants.{HeaderAddressTooLarge}
+use Rattle.refusals.specs.declared.FormatError.TheVariants.{RegionAddressTooLarge}
 use Rattle.fields.specs.Undefined.{undefined_address}
 use Rattle.plan.specs.Checks.{places_checked}
 use Rattle.region_blocks.specs.declared.Site.{Site}
@@ -20,8 +22,8 @@ header_address_checked w a = required (nat_lt a (undefined_address w)) (HeaderAd
 unfoldable pub region_address_checked : ℕ → ℕ → ℕ → Result (Unit {0}) FormatError
 region_address_checked w a n = required (nat_le (a + n) (undefined_address w)) (RegionAddressTooLarge a n)
 
--- objects whose sizes have the sum n, in a region of so many bytes, at a site, with what is lent: 14, 13 region, 15
--- header, 15 region
+-- objects whose sizes have the sum n, in a region of so many bytes, at a site, with what is lent:
+-- 14, 13 region, 15 header, 15 region
 unfoldable pub output_checked : Site → Lent → ℕ → ℕ → Result (Unit {0}) FormatError
 output_checked site lent n size = do
   _ ← bytes_checked n lent.object_bytes

@@ -23,7 +23,7 @@ pub struct Lent {
     pub region_bytes: usize,
 }
 
-// The sum of sizes that a plan holds.
+// The sum of sizes that a plan holds; so it does not wrap.
 #[tactic(auto, using(crate::proofs::Summing::sum_std))]
 fn sum_sizes(sizes: &[u64]) -> u64
     requires { sum sizes.now < 2 ^ 64 }

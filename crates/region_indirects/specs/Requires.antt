@@ -1,5 +1,7 @@
--- What the walks ask of their arguments, so that they stay in the region and within 64 bits, and what they give.
-use Rattle.std.specs.Prelude.{ℕ, ◌+◌, ◌-◌, ◌^◌, ◌≤◌, ◌<◌, ◌≡◌, if◌then◌else◌, List, [], ◌++◌, length, drop}
+-- What the walks ask of their arguments, so that they stay in the region and within 64 bits, and
+-- what they give.
+use Rattle.std.specs.Prelude.{ℕ, ◌+◌, ◌-◌, ◌^◌, ◌≤◌, ◌<◌, ◌≡◌, if◌then◌else◌, List, [], ◌++◌}
+use Rattle.std.specs.Prelude.{length, drop}
 use Rattle.std.specs.Prelude.{replicate, nat_lt, Option, Some, None}
 use Rattle.fields.specs.LittleEndian.{le}
 use Rattle.table.specs.Table.{fixed}
@@ -63,13 +65,14 @@ entry_bytes w (Some address) = le w address
 entry_bytes w None = replicate w 0xFF
 
 -- an outcome o was written from where `out` stood, and e is its entry
-pub record Wrote (walk : Walk) (out : Output) (o : Walked) (e : Option ℕ) (out' : Output) : Type 0 where
+pub record Wrote (walk : Walk) (out : Output) (o : Walked) (e : Option ℕ) (out' : Output)
+    : Type 0 where
   pub bytes : out'.region.now ≡ stored out.region.now out.cursor.place o.bytes
   pub entry : entry_bytes walk.site.offset_size e ≡ o.entries
   pub moved : Moved walk out.cursor o out'.cursor
 
--- the outcome o of some slots was written: their blocks, and then their entries, `from` bytes into the
--- block behind them
+-- the outcome o of some slots was written: their blocks, and then their entries, `from` bytes into
+-- the block behind them
 pub record WroteSlots (walk : Walk) (out : Output) (o : Walked) (from : ℕ) (out' : Output)
     : Type 0 where
   pub bytes : out'.region.now
@@ -83,11 +86,12 @@ pub record BlockFits (walk : Walk) (out : Output) (n at : ℕ) : Type 0 where
   pub fits : Fits walk out (block_of walk n at out.cursor) 0
 
 -- it was written, with all below it, at this address
-pub record BlockWritten (walk : Walk) (out : Output) (n at address : ℕ) (out' : Output) : Type 0 where
+pub record BlockWritten (walk : Walk) (out : Output) (n at address : ℕ) (out' : Output)
+    : Type 0 where
   pub wrote : Wrote walk out (block_of walk n at out.cursor) (Some address) out'
 
--- the blocks of the last slots of a block of n rows fit, and behind these their entries, `from` bytes
--- into a block
+-- the blocks of the last slots of a block of n rows fit, and behind these their entries, `from`
+-- bytes into a block
 pub record SlotsFit (walk : Walk) (out : Output) (n : ℕ) (s : Slots) (from : ℕ) : Type 0 where
   pub fits : Fits walk out (slots_of walk n s out.cursor)
       (from + length (slots_of walk n s out.cursor).entries)

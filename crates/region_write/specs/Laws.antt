@@ -1,5 +1,6 @@
 -- The laws of a region. Those of a plan hold for objects of any bytes and at any addresses.
-use Rattle.std.specs.Prelude.{ℕ, ◌+◌, ◌-◌, ◌*◌, ◌^◌, ◌≤◌, ◌<◌, ◌≡◌, false, ◌==◌, if◌then◌else◌, List, ◌++◌, length}
+use Rattle.std.specs.Prelude.{ℕ, ◌+◌, ◌-◌, ◌*◌, ◌^◌, ◌≤◌, ◌<◌, ◌≡◌, false, ◌==◌, if◌then◌else◌}
+use Rattle.std.specs.Prelude.{List, ◌++◌, length}
 use Rattle.std.specs.Prelude.{take, drop, replicate, slice_index, Ok}
 use Rattle.numbers.specs.Sums.{sum}
 use Rattle.table.specs.Table.{Table, fixed, row_bits}
@@ -33,14 +34,15 @@ RootsStand =
     → let root = root_bytes site p.root_rows xs js in
     take (length root) (drop p.root_place (region site p.root_rows xs js)) ≡ root
 
--- the indirect blocks are as long as planned, those before the root too, and lead to all direct blocks
+-- the indirect blocks are as long as planned, those before the root too, and lead to all direct
+-- blocks
 abbrev pub IndirectsPlanned : Type 0
 IndirectsPlanned =
     (xs : List ℕ) (o b w : ℕ) (p : ManagedPlan) → planned_for xs o b w ≡ Ok p → 0 < p.root_rows
     → (header first direct : ℕ) → IndirectPlanned w xs p header first direct
 
--- the planned size is that of the indirect blocks before the root, of the root, and of the direct blocks; or it is that
--- of the one direct block
+-- the planned size is that of the indirect blocks before the root, of the root, and of the direct
+-- blocks; or it is that of the one direct block
 pub record RegionSummed (w : ℕ) (xs : List ℕ) (p : ManagedPlan) : Type 0 where
   pub rows : 0 < p.root_rows
       → p.region_size ≡ p.root_place + indirect_size fixed w p.root_rows + p.allocated_space
@@ -59,8 +61,9 @@ DirectsFill =
     → length (directs fixed w header (plan_offsets fixed w xs) xs js (plan_starts fixed w xs))
     ≡ (if s.count == 0 then 1024 else s.allocated)
 
--- the direct slot of z bytes at c that holds the offset of an object has the object's bytes as far from its start as
--- the offset is; they are the part of the joined bytes that begins at the sum of the sizes before it
+-- the direct slot of z bytes at c that holds the offset of an object has the object's bytes as far
+-- from its start as the offset is; they are the part of the joined bytes that begins at the sum of
+-- the sizes before it
 abbrev pub ObjectsLie : Type 0
 ObjectsLie =
     (t : Table) → t.start_bits ≤ t.direct_bits → t.start_bits ≤ t.heap_bits
@@ -76,7 +79,8 @@ ObjectsLie =
 
 -- ---- of a walk
 
--- k slots of a row before whose end no block begins may be passed at once: they are undefined addresses
+-- k slots of a row before whose end no block begins may be passed at once: they are undefined
+-- addresses
 abbrev pub RowsPassed : Type 0
 RowsPassed =
     (t : Table) (w header : ℕ) (inner : ℕ → WalkedFrom) (k r : ℕ) (rs : List ℕ)
