@@ -1,5 +1,5 @@
 -- The indirect blocks that the walk yields take as many bytes as are counted while direct blocks open.
-use Rattle.std.proofs.Common.{◌⊎◌, inl, inr, ℕ, zero, suc, ◌+◌, ◌-◌, ◌*◌, ◌/◌, ◌^◌, ◌≤◌, ◌<◌, ◌≡◌, refl, sym, ap, ◌∙◌}
+use Rattle.std.proofs.Common.{le_refl, ◌⊎◌, inl, inr, ℕ, zero, suc, ◌+◌, ◌-◌, ◌*◌, ◌/◌, ◌^◌, ◌≤◌, ◌<◌, ◌≡◌, refl, sym, ap, ◌∙◌}
 use Rattle.std.proofs.Common.{subst, List, [], ◌∷◌, ◌++◌, arith, length, length-append, pow_pos}
 use Rattle.std.proofs.Math.Nat.{sub-zero}
 use Rattle.std.proofs.lemmas.Bool.{cases_lt}
@@ -84,28 +84,18 @@ pub record Sized (t : Table) (w f at e : ℕ) (o : Walked) (ss : List ℕ) (end 
 sized-none : {t : Table} {w f at e end : ℕ} {o : Walked} {ss : List ℕ} → o.bytes ≡ [] → before end ss ≡ [] → e ≤ end
     → Sized t w f at e o ss end
 unfolding counted last_end
-sized-none {t} {w} {f} {at} {e} q b l =
-    record {
-      bytes-are = ap length q ∙ sym (ap (counted t w f at e) b);
-      ends =
-          (let z = ap (last_end t e) b in omega arith);
-    }
+sized-none q b l = grind arith
 
 sized-both : {t : Table} {w f at e lo hi : ℕ} {c o : Walked} {ss : List ℕ} → lo ≤ hi → c.rest ≡ from lo ss
     → Sized t w f at e c ss lo
     → Sized t w f at (last_end t e (before lo ss)) o c.rest hi → Sized t w f at e (both c o) ss hi
 unfolding both
-sized-both {t} {w} {f} {at} {e} {lo} {hi} {c} {o} {ss} l q C O =
-    let d : ℕ = last_end t e (before lo ss) in
-    let b = before-later lo hi ss l in
-    let m = ap (λ (v : List ℕ). counted t w f at d (before hi v)) q in
-    let n = ap (λ (v : List ℕ). last_end t d (before hi v)) q in
-    let k = ap (counted t w f at e) b ∙ counted-append t w f at e (before lo ss) (before hi (from lo ss)) in
-    let j = ap (last_end t e) b ∙ end-append t e (before lo ss) (before hi (from lo ss)) in
-    let x = C.bytes-are in
-    let y = O.bytes-are in
-    let z = O.ends in
-    record { bytes-are = length-append c.bytes o.bytes ∙ (omega arith); ends = omega arith }
+sized-both {t} {w} {f} {at} {e} {lo} {hi} {ss = ss} l q C O =
+    let front = before lo ss in
+    let back = before hi (from lo ss) in
+    let counts = counted-append t w f at e front back in
+    let end = end-append t e front back in
+    grind (arith, before-later lo hi ss l, length-append {A = ℕ})
 
 module _ (t : Table) (w f : ℕ) {n base r at : ℕ} (C : SlotAt t n base r at) (d : t.direct_bits < row_bits t r) where
   -- the direct blocks in an indirect slot after the first
@@ -114,18 +104,9 @@ module _ (t : Table) (w f : ℕ) {n base r at : ℕ} (C : SlotAt t n base r at) 
       ≡ counted t w f at e (before (at + 2 ^ row_bits t r) ss)
   unfolding counted before
   later l none = refl
-  later {e} l (more {s = s} {ss = ss} v S P) = go (cases_lt s end) (later (omega arith) P)
-    where
-      end : ℕ
-      end = at + 2 ^ row_bits t r
-
-      next : ℕ
-      next = s + (slot_at t s).size
-
-      go : (s < end) ⊎ (end ≤ s) → counted t w (suc f) base next (before end ss) ≡ counted t w f at next (before end ss)
-          → counted t w (suc f) base e (before end (s ∷ ss)) ≡ counted t w f at e (before end (s ∷ ss))
-      go (inl i) ih = rw (before-yes s ss end i) (omega (arith, entered-old t w s C (omega arith) i S.inside f e d l))
-      go (inr i) ih = rw (before-no s ss end i)
+  later {e} l (more {s = s} v S P) =
+      let old = λ (i : s < at + 2 ^ row_bits t r). entered-old t w s C (omega arith) i S.inside f e d l in
+      grind (arith, nat_tests, later {e = s + (slot_at t s).size} (omega arith) P)
 
   -- all of them: the first brings the block there
   first-and-later : (e s : ℕ) (ss : List ℕ) → e ≤ at → s < at + 2 ^ row_bits t r → Placed t at (s ∷ ss)
@@ -163,28 +144,19 @@ module _ (t : Table) (g : t.start_bits ≤ t.direct_bits) (wd : t.width_bits + t
             → Sized t w f base e (slot t w header (smaller t w header n) r at ss pos next) ss end
         go f m (empty b _ o) P = rw o (sized-none refl b (omega arith))
         go f m (placed {s = s} {ss = ss} d a z R o) (more v S P) =
-            let p = pow_pos (row_bits t r) in
-            let b = before-yes s ss end (omega arith) ∙ ap (λ (y : List ℕ). s ∷ y) (before-none end (omega arith) R) in
-            let x = entered-direct t w s C v (omega arith) S.inside f e d in
-            let h = ap (counted t w f base e) b in
-            let j = ap (last_end t e) b in
-            rw o (record {
-              bytes-are = (let y : 0 ≡ counted t w f base e (before end (s ∷ ss)) = omega arith in y);
-              ends =
-                  omega arith;
-            })
-        go zero m (deeper d hi o) P = absurd (let l = C.row_in in let z = first-row t r g (omega arith) in omega arith)
+            let begun : s < end = omega (arith, pow_pos (row_bits t r)) in
+            let none = before-none end (le_refl end) R in
+            let entered = entered-direct t w s C v begun S.inside f e d in
+            grind (arith, before-yes s ss end begun)
+        go zero m (deeper d hi o) P = absurd (omega (arith, C.row_in, first-row t r g (omega (arith, C.row_in))))
         go (suc f) m (deeper {s = s} {ss = ss} d hi o) P =
             let j : ℕ = r - t.width_bits in
-            let l = C.row_in in
-            let Z = subst
-            (λ (y : ℕ). Sized t w f at e (all_slots t w header j at (s ∷ ss) pos next) (s ∷ ss) (at + y))
-            (inner-span t g wd r d)
-            (blocks j (omega arith) f at e (s ∷ ss) pos next (omega arith) (inner_block t g wd B C d) P k) in
-            let x = Z.bytes-are in
-            let y = block-length t w header j at (s ∷ ss) pos next in
-            let z = first-and-later t w f C d e s ss k hi P in
-            rw o (record { bytes-are = omega arith; ends = Z.ends })
+            let row_in = C.row_in in
+            let inner = blocks j (omega arith) f at e (s ∷ ss) pos next (omega arith) (inner_block t g wd B C d) P k in
+            let long = block-length t w header j at (s ∷ ss) pos next in
+            let counts = first-and-later t w f C d e s ss k hi P in
+            let span = inner-span t g wd r d in
+            grind arith
 
     slots-sized : {at e : ℕ} {rs ss : List ℕ} (pos next : ℕ) → Ahead t n base at rs → Placed t at ss → e ≤ at
         → Sized t w f base e (slots t w header (smaller t w header n) rs at ss pos next) ss (base + row_offset t n)

@@ -1,5 +1,6 @@
 -- The slots of an indirect block, by row and column, at any table.
-use Rattle.std.proofs.Common.{ℕ, zero, suc, ◌+◌, ◌-◌, ◌*◌, ◌^◌, ◌≤◌, ◌<◌, ◌≡◌, sym, ap, subst, subst₂, List, [], ◌∷◌}
+use Rattle.std.proofs.lemmas.Nat.{rows}
+use Rattle.std.proofs.Common.{add-zero, ℕ, zero, suc, ◌+◌, ◌-◌, ◌*◌, ◌^◌, ◌≤◌, ◌<◌, ◌≡◌, sym, ap, subst, subst₂, List, [], ◌∷◌}
 use Rattle.std.proofs.Common.{◌++◌, arith, mul-le-mul_right, replicate, pow_pos}
 use Rattle.std.proofs.Math.Nat.{sub-zero}
 use Rattle.table.specs.Table.{Table, row_bits, row_offset}
@@ -44,17 +45,17 @@ module _ (t : Table) where
   row-ahead : (n base r m c at : ℕ) (rs : List ℕ) → r < n → c + m ≡ 2 ^ t.width_bits → at ≡ base + cell t r c
       → Ahead t n base (base + row_offset t (suc r)) rs → Ahead t n base at (replicate m r ++ rs)
   row-ahead n base r zero c at rs l e q A =
-      let k : c * 2 ^ row_bits t r ≡ 2 ^ t.width_bits * 2 ^ row_bits t r =
-      ap (λ (j : ℕ). j * 2 ^ row_bits t r) (let z : c ≡ 2 ^ t.width_bits = omega arith in z) in
-      subst (λ (j : ℕ). Ahead t n base j rs)
-      (let z : base + row_offset t (suc r) ≡ at = omega (arith, (row t r).ends) in z) A
+      let all : c ≡ 2 ^ t.width_bits = omega arith in
+      let wide = ap (λ j. j * 2 ^ row_bits t r) all in
+      let next : base + row_offset t (suc r) ≡ at = omega (arith, (row t r).ends) in
+      rw next at A
   row-ahead n base r (suc m) c at rs l e q A =
       slot_of (record { row_in = l; col = c; col-in = omega arith; is = q })
       (row-ahead n base r m (suc c) (at + 2 ^ row_bits t r) rs l (omega arith) (omega arith) A)
 
   rows-ahead : (n base m r : ℕ) → r + m ≡ n → Ahead t n base (base + row_offset t r) (rows_of_slots t m r)
   unfolding rows_of_slots
-  rows-ahead n base zero r e = done (ap (λ (j : ℕ). base + row_offset t j) (let z : r ≡ n = omega arith in z))
+  rows-ahead n base zero r e = let all : r ≡ n = omega arith in done (ap (λ j. base + row_offset t j) all)
   rows-ahead n base (suc m) r e =
       row-ahead n base r (2 ^ t.width_bits) 0 (base + row_offset t r) (rows_of_slots t m (suc r)) (omega arith)
       (omega arith) (omega arith) (rows-ahead n base m (suc r) (omega arith))
@@ -63,13 +64,11 @@ module _ (t : Table) where
   pub all-ahead : (n base : ℕ) → Ahead t n base base (rows_of_slots t n 0)
   unfolding row_offset
   all-ahead n base =
-      subst (λ (j : ℕ). Ahead t n base j (rows_of_slots t n 0)) (let z : base + 0 ≡ base = omega arith in z)
-      (rows-ahead n base n 0 (omega arith))
+      rw add-zero at (rows-ahead n base n 0 (omega arith))
 
   -- an offset lies in one slot only
   col-one : (b c d y : ℕ) → c * b ≤ y → y < d * b + b → c ≤ d
-  col-one b c d y l u = let no : ¬ (d < c) = λ g. (let k : suc d * b ≤ c * b = mul-le-mul_right b g in omega arith) in
-      omega arith
+  col-one b c d y l u = grind (arith, rows)
 
   same-cell : (r c q d y : ℕ) → c < 2 ^ t.width_bits → d < 2 ^ t.width_bits → cell t r c ≤ y
       → y < cell t r c + 2 ^ row_bits t r → cell t q d ≤ y → y < cell t q d + 2 ^ row_bits t q → (r ≡ q) × (c ≡ d)

@@ -1,5 +1,5 @@
 -- The walk over indirect blocks: which way a slot goes, and which direct blocks are behind it.
-use Rattle.std.proofs.Common.{◌⊎◌, inl, inr, ℕ, zero, suc, ◌+◌, ◌-◌, ◌^◌, ◌≤◌, ◌<◌, ◌≡◌, refl, sym, ap, ◌∙◌, subst}
+use Rattle.std.proofs.Common.{le_refl, ◌⊎◌, inl, inr, ℕ, zero, suc, ◌+◌, ◌-◌, ◌^◌, ◌≤◌, ◌<◌, ◌≡◌, refl, sym, ap, ◌∙◌, subst}
 use Rattle.std.proofs.Common.{⊎_elim, List, [], ◌∷◌, arith, eq-or-lt_of_le, pow_pos}
 use Rattle.std.proofs.lemmas.Bool.{cases_lt}
 use Rattle.std.proofs.lemmas.Bool.Decides.{nat_tests}
@@ -89,18 +89,13 @@ cut-placed {t} {end = end} C P = subst (Placed t end) (sym C.rest-is) (from-plac
 cut-nothing : {t : Table} {at : ℕ} {ss : List ℕ} (next : ℕ) → Placed t at ss → Cut t (nothing ss next) ss next at
 unfolding nothing sizes_at
 cut-nothing {t} {at} {ss} next P =
-    let z = ap (sizes_at t) (before-none at (omega arith) P) in
-    record { rest-is = sym (from_all at (omega arith) P); next-is = omega arith }
+    grind (arith, before-none at (le_refl at) P, from_all at (le_refl at) P)
 
 -- a walk after another
 cut-then : {t : Table} {c o : Walked} {ss : List ℕ} {next lo hi : ℕ} → lo ≤ hi → Cut t c ss next lo
     → Cut t o c.rest c.next hi → Cut t o ss next hi
 cut-then {t} {ss = ss} {lo = lo} {hi = hi} l C O =
-    let a = C.next-is in
-    let b = O.next-is in
-    let d = ap (λ (v : List ℕ). sizes_at t (before hi v)) C.rest-is in
-    let f = ap (sizes_at t) (before-later lo hi ss l) ∙ sizes-append t (before lo ss) (before hi (from lo ss)) in
-    record { rest-is = O.rest-is ∙ ap (from hi) C.rest-is ∙ sym (from-later lo hi ss l); next-is = omega arith }
+    grind (arith, before-later lo hi ss l, from-later lo hi ss l, sizes-append t (before lo ss) (before hi (from lo ss)))
 
 module _ (t : Table) (g : t.start_bits ≤ t.direct_bits) (wd : t.width_bits + t.start_bits ≤ suc t.direct_bits)
     (w header : ℕ) where
@@ -119,19 +114,16 @@ module _ (t : Table) (g : t.start_bits ≤ t.direct_bits) (wd : t.width_bits + t
 
         go : {ss : List ℕ} → Way t w header n r at pos next ss → Placed t at ss
             → Cut t (slot t w header (smaller t w header n) r at ss pos next) ss next end
-        go (empty b f q) P = let z = ap (sizes_at t) b in rw q (record { rest-is = sym f; next-is = omega arith })
+        go (empty b f q) P = grind arith
         go (placed {s = s} {ss = ss} d a z R q) P =
-            let p = pow_pos (row_bits t r) in
-            let k = ap (sizes_at t)
-            (before-yes s ss end (omega arith) ∙ ap (λ (v : List ℕ). s ∷ v) (before-none end (omega arith) R)) in
-            rw q (record
-            { rest-is = sym (from-yes s ss end (omega arith) ∙ from_all end (omega arith) R); next-is = omega arith })
+            let begun : s < end = omega (arith, pow_pos (row_bits t r)) in
+            let none = before-none end (le_refl end) R in
+            let all = from_all end (le_refl end) R in
+            grind (arith, before-yes s ss end begun, from-yes s ss end begun)
         go (deeper {s = s} {ss = ss} d hi q) P =
-            let l = C.row_in in
-            rw q (subst
-            (λ (y : ℕ). Cut t (block t w header (r - t.width_bits) at (s ∷ ss) pos next) (s ∷ ss) next (at + y))
-            (inner-span t g wd r d)
-            (blocks (r - t.width_bits) (omega arith) at (s ∷ ss) pos next (inner_block t g wd B C d) P))
+            let row_in = C.row_in in
+            let inner = blocks (r - t.width_bits) (omega arith) at (s ∷ ss) pos next (inner_block t g wd B C d) P in
+            rw q (rw (inner-span t g wd r d) at inner)
 
     slots-cut-from : {at : ℕ} {rs ss : List ℕ} → Ahead t n base at rs → (pos next : ℕ) → Placed t at ss
         → Cut t (slots t w header (smaller t w header n) rs at ss pos next) ss next (base + row_offset t n)
