@@ -1,8 +1,7 @@
 -- The indirect blocks that the walk yields take as many bytes as are counted while direct blocks open.
-use Rattle.std.proofs.Common.{le_refl, ◌⊎◌, inl, inr, ℕ, zero, suc, ◌+◌, ◌-◌, ◌*◌, ◌/◌, ◌^◌, ◌≤◌, ◌<◌, ◌≡◌, refl, sym, ap, ◌∙◌}
-use Rattle.std.proofs.Common.{subst, List, [], ◌∷◌, ◌++◌, arith, length, length-append, pow_pos}
+use Rattle.std.proofs.Common.{le_refl, ℕ, zero, suc, ◌+◌, ◌-◌, ◌*◌, ◌/◌, ◌^◌, ◌≤◌, ◌<◌, ◌≡◌, refl, ap, ◌∙◌}
+use Rattle.std.proofs.Common.{List, [], ◌∷◌, ◌++◌, arith, length, length-append, pow_pos}
 use Rattle.std.proofs.Math.Nat.{sub-zero}
-use Rattle.std.proofs.lemmas.Bool.{cases_lt}
 use Rattle.std.proofs.lemmas.Bool.Decides.{nat_tests}
 use Rattle.table.specs.Table.{Table, row_bits, row_offset, row_of}
 use Rattle.table.specs.Slots.{slot_at, slot_start, entered_bytes_in, entered_bytes}
@@ -13,7 +12,7 @@ use Rattle.plan.specs.Plans.{sizes_at}
 use Rattle.region_indirects.specs.Walk.{Walked, unplaced, direct, nothing, both, slot, slots, smaller, all_slots, block}
 use Rattle.region_write.proofs.Geometry.{cell-end, SlotAt, Ahead, done, slot_of, slot-end, all-ahead, BlockAt}
 use Rattle.region_write.proofs.Geometry.{inner-span, root-block, inner_block}
-use Rattle.region_write.proofs.Starts.{Placed, none, more, before, from, last_end, before-yes, before-no, before-none}
+use Rattle.region_write.proofs.Starts.{Placed, none, more, before, from, last_end, before-yes, before-none}
 use Rattle.region_write.proofs.Starts.{before-later, end-append, before-whole, from-none}
 use Rattle.region_write.proofs.Lengths.{block-length}
 use Rattle.region_write.proofs.Walking.{by-smaller, Way, empty, placed, deeper, way, cut-placed, slot-cut, block-cut}

@@ -1,6 +1,7 @@
 -- The slots of an indirect block, by row and column, at any table.
 use Rattle.std.proofs.lemmas.Nat.{rows}
-use Rattle.std.proofs.Common.{add-zero, ℕ, zero, suc, ◌+◌, ◌-◌, ◌*◌, ◌^◌, ◌≤◌, ◌<◌, ◌≡◌, sym, ap, subst, subst₂, List, [], ◌∷◌}
+use Rattle.std.proofs.Common.{add-zero, ℕ, zero, suc, ◌+◌, ◌-◌, ◌*◌, ◌^◌, ◌≤◌, ◌<◌, ◌≡◌, sym, ap, subst, subst₂, List}
+use Rattle.std.proofs.Common.{[], ◌∷◌}
 use Rattle.std.proofs.Common.{◌++◌, arith, mul-le-mul_right, replicate, pow_pos}
 use Rattle.std.proofs.Math.Nat.{sub-zero}
 use Rattle.table.specs.Table.{Table, row_bits, row_offset}

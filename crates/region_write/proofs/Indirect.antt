@@ -37,29 +37,16 @@ module _ {t : Table} {w : ℕ} where
   laid_end : {s s' : State} {xs os bs : List ℕ} → Laid t w s xs os bs s' → last_end t (block_end s) bs ≡ block_end s'
   unfolding last_end
   laid_end end = refl
-  laid_end {s} (same {s₁ = s₁} {bs = bs} P n L) =
-      let a = n.start_is in
-      let b = n.size_is in
-      ap (λ (y : ℕ). last_end t y bs) (let z : block_end s ≡ block_end s₁ = omega arith in z) ∙ laid_end L
-  laid_end (new {s₁ = s₁} {bs = bs} P n L) = ap (λ (y : ℕ). last_end t (s₁.start + y) bs) (sym n.size_is) ∙ laid_end L
+  laid_end (same P n L) = grind (arith, laid_end L, n.start_is, n.size_is)
+  laid_end (new P n L) = grind (arith, laid_end L, n.size_is)
 
   -- the bytes of the indirect blocks add up
   laid-opened : {s s' : State} {xs os bs : List ℕ} → Laid t w s xs os bs s'
       → s'.indirect ≡ s.indirect + opened_by t w (block_end s) bs
   unfolding opened_by
   laid-opened {s} end = omega arith
-  laid-opened {s} (same {s₁ = s₁} {bs = bs} P n L) =
-      let a = n.start_is in
-      let b = n.size_is in
-      let c = n.indirect-is in
-      let d = ap (λ (y : ℕ). opened_by t w y bs) (let z : block_end s₁ ≡ block_end s = omega arith in z) in
-      let e = laid-opened L in
-      omega arith
-  laid-opened (new {s₁ = s₁} {bs = bs} P n L) =
-      let c = n.indirect-is in
-      let d = ap (λ (y : ℕ). opened_by t w (s₁.start + y) bs) n.size_is in
-      let e = laid-opened L in
-      omega arith
+  laid-opened (same P n L) = grind (arith, laid-opened L, n.start_is, n.size_is, n.indirect-is)
+  laid-opened (new P n L) = grind (arith, laid-opened L, n.size_is, n.indirect-is)
 
 -- ---- the totals
 

@@ -12,7 +12,6 @@ use Rattle.plan.specs.Answer.{planned_for}
 use Rattle.plan.proofs.Answering.{accepted}
 use Rattle.plan.proofs.Tally.{counted, tallied}
 use Rattle.region_blocks.specs.Site.{site_of}
-use Rattle.region_indirects.specs.Walk.{all_slots}
 use Rattle.region_directs.specs.Directs.{directs}
 use Rattle.region_directs.proofs.Lengths.{directs-length}
 use Rattle.region_write.specs.Region.{indirects, indirect_bytes, region, root_bytes}
@@ -71,19 +70,16 @@ module _ (xs : List ℕ) (o b w : ℕ) (p : ManagedPlan) (e : planned_for xs o b
         ∙ (let a = indirects-planned header address d in let c = directs-planned header js in omega arith)
 
     -- and the root's bytes begin at the planned place
-    pub root-place : take (length (root_bytes (site_of w header address) n xs js))
-        (drop p.root_place (region (site_of w header address) n xs js)) ≡ root_bytes (site_of w header address) n xs js
+    pub root-place : let site = site_of w header address in
+        let root = root_bytes site n xs js in
+        take (length root) (drop p.root_place (region site n xs js)) ≡ root
     root-place = go n refl
       where
-        go : (m : ℕ) → n ≡ m
-            → take (length (root_bytes (site_of w header address) n xs js))
-            (drop p.root_place (region (site_of w header address) n xs js))
-            ≡ root_bytes (site_of w header address) n xs js
-        go zero z = rw (z, (bare-planned xs o b w p e z).place) (root-bare w header address xs js)
+        go : (m : ℕ) → n ≡ m → let site = site_of w header address in
+            let root = root_bytes site n xs js in
+            take (length root) (drop p.root_place (region site n xs js)) ≡ root
+        go zero z = rw (z, (bare-planned xs o b w p e z).place) (root-bare (site_of w header address) xs js)
         go (suc m) z =
-            let l : 0 < n = omega arith in
-            let d : ℕ = address + indirect_bytes w header n ss in
-            let c : length
-            (all_slots fixed w header (suc m) 0 ss address (address + indirect_bytes w header (suc m) ss)).bytes
-            ≡ p.root_place = rw z at (indirect-planned xs o b w p e l header address d).children in
-            rw z (root-rows w header address m xs js p.root_place c)
+            let direct : ℕ = address + indirect_bytes w header n ss in
+            let children = rw z at (indirect-planned xs o b w p e (omega arith) header address direct).children in
+            rw z (root-rows (site_of w header address) m xs js p.root_place children)

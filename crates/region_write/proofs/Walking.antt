@@ -1,5 +1,5 @@
 -- The walk over indirect blocks: which way a slot goes, and which direct blocks are behind it.
-use Rattle.std.proofs.Common.{le_refl, ◌⊎◌, inl, inr, ℕ, zero, suc, ◌+◌, ◌-◌, ◌^◌, ◌≤◌, ◌<◌, ◌≡◌, refl, sym, ap, ◌∙◌, subst}
+use Rattle.std.proofs.Common.{le_refl, ◌⊎◌, inl, inr, ℕ, zero, suc, ◌+◌, ◌-◌, ◌^◌, ◌≤◌, ◌<◌, ◌≡◌, refl, sym, ◌∙◌, subst}
 use Rattle.std.proofs.Common.{⊎_elim, List, [], ◌∷◌, arith, eq-or-lt_of_le, pow_pos}
 use Rattle.std.proofs.lemmas.Bool.{cases_lt}
 use Rattle.std.proofs.lemmas.Bool.Decides.{nat_tests}
@@ -95,7 +95,13 @@ cut-nothing {t} {at} {ss} next P =
 cut-then : {t : Table} {c o : Walked} {ss : List ℕ} {next lo hi : ℕ} → lo ≤ hi → Cut t c ss next lo
     → Cut t o c.rest c.next hi → Cut t o ss next hi
 cut-then {t} {ss = ss} {lo = lo} {hi = hi} l C O =
-    grind (arith, before-later lo hi ss l, from-later lo hi ss l, sizes-append t (before lo ss) (before hi (from lo ss)))
+    grind (
+      arith,
+      before-later lo hi ss l,
+      from-later lo hi ss l,
+      sizes-append t (before lo ss)
+          (before hi (from lo ss)),
+    )
 
 module _ (t : Table) (g : t.start_bits ≤ t.direct_bits) (wd : t.width_bits + t.start_bits ≤ suc t.direct_bits)
     (w header : ℕ) where
