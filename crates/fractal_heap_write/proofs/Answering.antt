@@ -13,7 +13,7 @@ use Rattle.plan.specs.declared.ManagedPlan.{ManagedPlan}
 use Rattle.plan.specs.Answer.{planned_for}
 use Rattle.plan.proofs.Answering.{accepted}
 use Rattle.plan.proofs.Laying.{used-sum, still-ok, ran-ok, ran-laid}
-use Rattle.fractal_heap_write.specs.Checks.{Fit, bytes_checked, header_address_checked, region_address_checked}
+use Rattle.fractal_heap_write.specs.Checks.{Fit}
 use Rattle.fractal_heap_write.specs.Checks.{output_checked}
 use Rattle.region_blocks.specs.declared.Site.{Site}
 use Rattle.fractal_heap_write.specs.declared.checks.Lent.{Lent}
@@ -27,11 +27,10 @@ module _ (xs : List ℕ) (lent : Lent) (site : Site) where
   -- what is accepted was planned, and passed the tests
   pub written : (p : ManagedPlan) → serialized_for xs lent site ≡ Ok p
       → (asked ≡ Ok p) × (output_checked site lent (sum xs) p.region_size ≡ Ok tt)
-  unfolding serialized_for
   written p e = grind (arith, common_steps)
 
 pub fit : (site : Site) (lent : Lent) (n size : ℕ) → output_checked site lent n size ≡ Ok tt → Fit site lent n size
-unfolding output_checked bytes_checked places_checked header_address_checked region_address_checked
+unfolding places_checked
 fit site lent n size e = grind (arith, nat_tests)
 
 -- an address of a legal width has 64 bits

@@ -1,5 +1,6 @@
 -- What is known where the writer accepts: the plan and its region fit into what is lent.
-use Rattle.std.proofs.Common.{inl, inr, ℕ, suc, ◌+◌, ◌-◌, ◌^◌, ◌≤◌, max, ◌≡◌, refl, sym, ap, ◌∙◌, subst, ⊎_elim, List, ◌++◌}
+use Rattle.std.proofs.Common.{inl, inr, ℕ, suc, ◌+◌, ◌-◌, ◌^◌, ◌≤◌, max, ◌≡◌, refl, sym, ap, ◌∙◌, subst, ⊎_elim, List}
+use Rattle.std.proofs.Common.{◌++◌}
 use Rattle.std.proofs.Common.{arith, length, take, drop, length-append, pow_mono, take_at, length-take-le}
 use Rattle.std.proofs.lemmas.Bool.{cases_lt}
 use Rattle.fields.specs.LittleEndian.{put}
@@ -29,7 +30,7 @@ rows_few : (n : ℕ) → row_offset fixed (suc n) ≤ 2 ^ 40 → suc n ≤ 29
 unfolding row_offset
 rows_few n l =
     elim (cases_lt 28 n) [
-      | inl many ↦ (let far : 2 ^ 41 ≤ 2 ^ (12 + n) = pow_mono {i = 41} {j = 12 + n} (omega arith) in absurd (omega arith))
+      | inl many ↦ absurd (omega (arith, pow_mono {i = 41} {j = 12 + n} (omega arith)))
       | inr few ↦ omega arith
     ]
 
