@@ -1,7 +1,8 @@
 -- The writer's answer, case by case, and what its tests let pass.
-use Rattle.std.proofs.Common.{ℕ, ◌*◌, ◌^◌, ◌≤◌, ◌<◌, ◌≡◌, refl, sym, ap, ◌∙◌, true, List, arith, pow_mono, Result, Ok, Err}
+use Rattle.std.proofs.Common.{ℕ, ◌*◌, ◌^◌, ◌≤◌, ◌<◌, ◌≡◌, true, List, arith, pow_mono, pow_pos}
+use Rattle.std.proofs.Common.{Result, Ok}
+use Rattle.std.proofs.lemmas.Grind.{common_steps}
 use Rattle.std.proofs.lemmas.Bool.Decides.{nat_tests}
-use Rattle.refusals.specs.Steps.{◌>>=◌}
 use Rattle.refusals.specs.declared.FormatError.{FormatError}
 use Rattle.fields.specs.Widths.{legal}
 use Rattle.fields.proofs.Widths.{legal-small}
@@ -11,7 +12,8 @@ use Rattle.plan.specs.declared.ManagedPlan.{ManagedPlan}
 use Rattle.plan.specs.Answer.{planned_for}
 use Rattle.plan.proofs.Answering.{accepted}
 use Rattle.plan.proofs.Laying.{used-sum, still-ok, ran-ok, ran-laid}
-use Rattle.fractal_heap_write.specs.Checks.{Fit, bytes_checked, header_address_checked, region_address_checked, output_checked}
+use Rattle.fractal_heap_write.specs.Checks.{Fit}
+use Rattle.fractal_heap_write.specs.Checks.{output_checked}
 use Rattle.region_blocks.specs.declared.Site.{Site}
 use Rattle.fractal_heap_write.specs.declared.checks.Lent.{Lent}
 use Rattle.fractal_heap_write.specs.Answer.{serialized_for}
@@ -24,23 +26,9 @@ module _ (xs : List ℕ) (lent : Lent) (site : Site) where
   -- what is accepted was planned, and passed the tests
   pub written : (p : ManagedPlan) → serialized_for xs lent site ≡ Ok p
       → (asked ≡ Ok p) × (output_checked site lent (sum xs) p.region_size ≡ Ok tt)
-  unfolding serialized_for
-  written p e = go asked refl e
-    where
-      tests : (q : ManagedPlan) → (c : Result (Unit {0}) FormatError) → output_checked site lent (sum xs) q.region_size ≡ c → asked ≡ Ok q → (c >>= λ _. Ok q) ≡ Ok p
-          → (asked ≡ Ok p) × (output_checked site lent (sum xs) p.region_size ≡ Ok tt)
-      tests q (Ok tt) f g h =
-          let z : q ≡ p = cc in
-          (g ∙ ap (λ (y : ManagedPlan). Ok y) z, ap (λ (y : ManagedPlan). output_checked site lent (sum xs) y.region_size) (sym z) ∙ f)
-      tests q (Err e) f g h = absurd cc
-
-      go : (a : Result ManagedPlan FormatError) → asked ≡ a → (a >>= λ q. output_checked site lent (sum xs) q.region_size >>= λ _. Ok q) ≡ Ok p
-          → (asked ≡ Ok p) × (output_checked site lent (sum xs) p.region_size ≡ Ok tt)
-      go (Ok q) g h = tests q (output_checked site lent (sum xs) q.region_size) refl g h
-      go (Err e) g h = absurd cc
+  written p e = grind (arith, common_steps)
 
 pub fit : (site : Site) (lent : Lent) (n size : ℕ) → output_checked site lent n size ≡ Ok tt → Fit site lent n size
-unfolding output_checked bytes_checked header_address_checked region_address_checked
 fit site lent n size e = grind (arith, nat_tests)
 
 -- an address of a legal width has 64 bits
@@ -48,7 +36,7 @@ pub below-undefined : (w a : ℕ) → legal w ≡ true → a ≤ undefined_addre
 below-undefined w a l h =
     let n = legal-small w l in
     let m : 2 ^ (8 * w) ≤ 2 ^ 64 = pow_mono {i = 8 * w} {j = 64} (omega arith) in
-    let p = lib.Pow.pow_pos (8 * w) in
+    let some = pow_pos (8 * w) in
     omega arith
 
 -- the sizes of a plan add up to less than the heap space

@@ -1,6 +1,8 @@
 -- What is known where the writer accepts: the plan and its region fit into what is lent.
-use Rattle.std.proofs.Common.{ℕ, suc, ◌+◌, ◌-◌, ◌^◌, ◌≤◌, max, ◌≡◌, refl, sym, ap, ◌∙◌, subst, ⊎_elim, List, ◌++◌, arith, length, take, drop, length-append, pow_mono, take_at, length-take-le}
-use Rattle.std.proofs.Math.Decide.{dec_le}
+use Rattle.std.proofs.Common.{inl, inr, ℕ, suc, ◌+◌, ◌-◌, ◌^◌, ◌≤◌, max, ◌≡◌, refl, sym, ap, ◌∙◌, subst, ⊎_elim, List}
+use Rattle.std.proofs.Common.{◌++◌}
+use Rattle.std.proofs.Common.{arith, length, take, drop, length-append, pow_mono, take_at, length-take-le}
+use Rattle.std.proofs.lemmas.Bool.{cases_lt}
 use Rattle.fields.specs.LittleEndian.{put}
 use Rattle.fields.proofs.LittleEndian.{put_front}
 use Rattle.fields.proofs.Widths.{legal-small}
@@ -26,11 +28,11 @@ use Rattle.fractal_heap_write.proofs.Answering.{below-undefined}
 -- as many rows as the heap space has
 rows_few : (n : ℕ) → row_offset fixed (suc n) ≤ 2 ^ 40 → suc n ≤ 29
 unfolding row_offset
-rows_few n l = go (dec_le 29 n)
-  where
-    go : Dec (29 ≤ n) → suc n ≤ 29
-    go (yes u) = let m : 2 ^ 41 ≤ 2 ^ (12 + n) = pow_mono {i = 41} {j = 12 + n} (omega arith) in absurd (omega arith)
-    go (no u) = omega arith
+rows_few n l =
+    elim (cases_lt 28 n) [
+      | inl many ↦ absurd (omega (arith, pow_mono {i = 41} {j = 12 + n} (omega arith)))
+      | inr few ↦ omega arith
+    ]
 
 front_of : (new old : List ℕ) → take (length new) (put old 0 new) ≡ new
 front_of new old = ap (take (length new)) (put_front old new) ∙ take_at new (drop (length new) old) (length new) refl
@@ -64,7 +66,8 @@ module _ {xs : List ℕ} {lent : Lent} {site : Site} {p : ManagedPlan} (A : Acce
   region_fits = A.fit.room
 
   pub space_within : p.allocated_space ≤ p.region_size
-  space_within = let z = indirect-bytes xs lent.offset_places lent.block_places site.offset_size p A.planned 0 in omega arith
+  space_within = let z = indirect-bytes xs lent.offset_places lent.block_places site.offset_size p A.planned 0 in
+      omega arith
 
   few : p.root_rows ≤ 29
   few = ⊎_elim
@@ -85,7 +88,8 @@ module _ {xs : List ℕ} {lent : Lent} {site : Site} {p : ManagedPlan} (A : Acce
     starts-there : take p.block_count bs' ≡ plan_starts fixed site.offset_size xs
     starts-there =
         ap (take p.block_count) f
-        ∙ ap (λ (n : ℕ). take n (put bs 0 (plan_starts fixed site.offset_size xs))) (tallied xs lent.offset_places lent.block_places site.offset_size p A.planned).blocks
+        ∙ ap (λ (n : ℕ). take n (put bs 0 (plan_starts fixed site.offset_size xs)))
+        (tallied xs lent.offset_places lent.block_places site.offset_size p A.planned).blocks
         ∙ front_of (plan_starts fixed site.offset_size xs) bs
 
   -- ---- the region in what is lent
@@ -108,10 +112,14 @@ module _ {xs : List ℕ} {lent : Lent} {site : Site} {p : ManagedPlan} (A : Acce
           room = omega arith;
           behind = omega arith;
           addresses = omega arith;
-          direct = λ l. (let m = (indirect-planned xs lent.offset_places lent.block_places w p A.planned l h a (a + size)).next in omega arith);
+          direct =
+              λ l. (let m =
+              (indirect-planned xs lent.offset_places lent.block_places w p A.planned l h a (a + size)).next in
+              omega arith);
         }
 
-    starts-writable : (js : List ℕ) → sum xs ≡ length js → Writable site xs (plan_starts fixed site.offset_size xs) js r p.root_rows size
+    starts-writable : (js : List ℕ) → sum xs ≡ length js
+        → Writable site xs (plan_starts fixed site.offset_size xs) js r p.root_rows size
     starts-writable js j =
         let w = site.offset_size in
         let h = site.heap_header_address in
@@ -129,17 +137,21 @@ module _ {xs : List ℕ} {lent : Lent} {site : Site} {p : ManagedPlan} (A : Acce
           fills = long ∙ sym (region-length xs lent.offset_places lent.block_places w p A.planned h a js);
         }
 
-  pub writable : (js r bs bs' : List ℕ) → lent.object_bytes ≡ length js → lent.region_bytes ≡ length r → bs' ≡ put bs 0 (plan_starts fixed site.offset_size xs)
+  pub writable : (js r bs bs' : List ℕ) → lent.object_bytes ≡ length js → lent.region_bytes ≡ length r
+      → bs' ≡ put bs 0 (plan_starts fixed site.offset_size xs)
       → Writable site xs (take p.block_count bs') js (take p.region_size r) p.root_rows size
   writable js r bs bs' j l f =
       let n : p.region_size ≤ length r = omega (arith, region_fits) in
-      subst (λ (y : List ℕ). Writable site xs y js (take p.region_size r) p.root_rows size) (sym (starts-there bs bs' f))
+      subst (λ (y : List ℕ). Writable site xs y js (take p.region_size r) p.root_rows size)
+      (sym (starts-there bs bs' f))
       (starts-writable (take p.region_size r) (length-take-le p.region_size r n) js (A.fit.bytes ∙ j))
 
   -- the bytes behind the region are as they were
-  pub behind-kept : (js r l : List ℕ) → l ≡ region site p.root_rows xs js → l ++ drop p.region_size r ≡ put r 0 (region site p.root_rows xs js)
+  pub behind-kept : (js r l : List ℕ) → l ≡ region site p.root_rows xs js
+      → l ++ drop p.region_size r ≡ put r 0 (region site p.root_rows xs js)
   behind-kept js r l f =
       ap (λ (y : List ℕ). y ++ drop p.region_size r) f
       ∙ ap (λ (n : ℕ). region site p.root_rows xs js ++ drop n r)
-      (sym (region-length xs lent.offset_places lent.block_places site.offset_size p A.planned site.heap_header_address site.region_address js))
+      (sym (region-length xs lent.offset_places lent.block_places site.offset_size p A.planned
+      site.heap_header_address site.region_address js))
       ∙ sym (put_front r (region site p.root_rows xs js))

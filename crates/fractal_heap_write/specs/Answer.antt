@@ -9,8 +9,9 @@ use Rattle.region_blocks.specs.declared.Site.{Site}
 use Rattle.fractal_heap_write.specs.declared.checks.Lent.{Lent}
 use Rattle.fractal_heap_write.specs.Checks.{Fit, output_checked}
 
--- the answer for the sizes xs, what is lent and the site: planning's refusals, then those of writing
-unfoldable pub serialized_for : List ℕ → Lent → Site → Result ManagedPlan FormatError
+-- the answer for the sizes xs, what is lent and the site: planning's refusals, then those of
+-- writing
+abbrev pub serialized_for : (xs : List ℕ) (lent : Lent) (site : Site) → Result ManagedPlan FormatError
 serialized_for xs lent site = do
   plan ← planned_for xs lent.offset_places lent.block_places site.offset_size
   _ ← output_checked site lent (sum xs) plan.region_size

@@ -2,27 +2,31 @@
 use Rattle.std.specs.Prelude.{ℕ, ◌+◌, ◌≡◌, ◌≤◌, ◌<◌, ◌==◌, nat_le, nat_lt, Result}
 use Rattle.refusals.specs.Steps.{◌>>=◌, required}
 use Rattle.refusals.specs.declared.FormatError.{FormatError}
-use Rattle.refusals.specs.declared.FormatError.TheVariants.{ObjectBytesMismatch, HeaderAddressTooLarge, RegionAddressTooLarge}
+use Rattle.refusals.specs.declared.FormatError.TheVariants.{ObjectBytesMismatch}
+use Rattle.refusals.specs.declared.FormatError.TheVariants.{HeaderAddressTooLarge}
+use Rattle.refusals.specs.declared.FormatError.TheVariants.{RegionAddressTooLarge}
 use Rattle.fields.specs.Undefined.{undefined_address}
 use Rattle.plan.specs.Checks.{places_checked}
 use Rattle.region_blocks.specs.declared.Site.{Site}
 use Rattle.fractal_heap_write.specs.declared.checks.Lent.{Lent}
 
--- m bytes of objects whose sizes have the sum n: else 14
-unfoldable pub bytes_checked : ℕ → ℕ → Result (Unit {0}) FormatError
-bytes_checked n m = required (n == m) (ObjectBytesMismatch n m)
+-- as many bytes of objects are given as their sizes need: else 14
+abbrev pub bytes_checked : (needed given : ℕ) → Result (Unit {0}) FormatError
+bytes_checked needed given = required (needed == given) (ObjectBytesMismatch needed given)
 
 -- the address of the heap's header is a defined one: else 15
-unfoldable pub header_address_checked : ℕ → ℕ → Result (Unit {0}) FormatError
-header_address_checked w a = required (nat_lt a (undefined_address w)) (HeaderAddressTooLarge a)
+abbrev pub header_address_checked : (w address : ℕ) → Result (Unit {0}) FormatError
+header_address_checked w address =
+    required (nat_lt address (undefined_address w)) (HeaderAddressTooLarge address)
 
--- a region of n bytes ends at or before the undefined address: else 15
-unfoldable pub region_address_checked : ℕ → ℕ → ℕ → Result (Unit {0}) FormatError
-region_address_checked w a n = required (nat_le (a + n) (undefined_address w)) (RegionAddressTooLarge a n)
+-- a region ends at or before the undefined address: else 15
+abbrev pub region_address_checked : (w address size : ℕ) → Result (Unit {0}) FormatError
+region_address_checked w address size =
+    required (nat_le (address + size) (undefined_address w)) (RegionAddressTooLarge address size)
 
--- objects whose sizes have the sum n, in a region of so many bytes, at a site, with what is lent: 14, 13 region, 15
--- header, 15 region
-unfoldable pub output_checked : Site → Lent → ℕ → ℕ → Result (Unit {0}) FormatError
+-- objects whose sizes have the sum n, in a region of so many bytes, at a site, with what is lent:
+-- 14, 13 region, 15 header, 15 region
+abbrev pub output_checked : (site : Site) (lent : Lent) (n size : ℕ) → Result (Unit {0}) FormatError
 output_checked site lent n size = do
   _ ← bytes_checked n lent.object_bytes
   _ ← places_checked size lent.region_bytes

@@ -23,7 +23,7 @@ pub struct Lent {
     pub region_bytes: usize,
 }
 
-// The sum of sizes that a plan holds.
+// The sum of sizes that a plan holds; so it does not wrap.
 #[tactic(auto, using(crate::proofs::Summing::sum_std))]
 fn sum_sizes(sizes: &[u64]) -> u64
     requires { sum sizes.now < 2 ^ 64 }
@@ -33,7 +33,6 @@ fn sum_sizes(sizes: &[u64]) -> u64
 }
 
 // Tests that as many bytes of objects are given as their sizes need: else 14.
-#[tactic(auto, unfolding(crate::specs::Checks::bytes_checked))]
 fn check_bytes(needed: u64, given: u64) -> Result<(), FormatError>
     ensures value { result ≡ bytes_checked needed given }
     ensures same { OnOk result (needed ≡ given) }
@@ -45,7 +44,6 @@ fn check_bytes(needed: u64, given: u64) -> Result<(), FormatError>
 }
 
 // Tests that the heap's header stands below the undefined address: else 15.
-#[tactic(auto, unfolding(crate::specs::Checks::header_address_checked))]
 fn check_header_address(address: u64, width: Width) -> Result<(), FormatError>
     ensures value { result ≡ header_address_checked (byte_count width) address }
     ensures defined { OnOk result (address < undefined_address (byte_count width)) }
@@ -58,7 +56,6 @@ fn check_header_address(address: u64, width: Width) -> Result<(), FormatError>
 
 // Tests that a region of `size` bytes ends at or before the undefined address: else 15. No sum is formed that could
 // wrap.
-#[tactic(auto, unfolding(crate::specs::Checks::region_address_checked))]
 fn check_region_address(address: u64, size: u64, width: Width) -> Result<(), FormatError>
     ensures value { result ≡ region_address_checked (byte_count width) address size }
     ensures end { OnOk result (address + size ≤ undefined_address (byte_count width)) }
@@ -73,7 +70,7 @@ fn check_region_address(address: u64, size: u64, width: Width) -> Result<(), For
 /// The plan of objects of these sizes, if all tests pass for what is lent and the site of the region: first those of
 /// planning (2, 13 for the offsets, 13 for the blocks, 11, 12), then 14, 13 for the region, 15 for the header, 15 for
 /// the region.
-#[tactic(auto, unfolding(crate::specs::Answer::serialized_for, crate::specs::Checks::output_checked, plan::specs::Answer::planned_for, plan::specs::Checks::input_checked), using(crate::proofs::Answering::planned_sum))]
+#[tactic(auto, unfolding(plan::specs::Answer::planned_for, plan::specs::Checks::input_checked), using(crate::proofs::Answering::planned_sum))]
 pub fn serialized_for(sizes: &[u64], lent: Lent, site: Site) -> Result<ManagedPlan, FormatError>
     ensures answer { result ≡ serialized_for sizes.now lent site }
     ensures accepted { IfOk result (λ plan. Accepted sizes.now lent site plan) }

@@ -14,13 +14,15 @@ use Rattle.region_blocks.specs.Blocks.{block_head, indirect_block}
 use Rattle.region_blocks.proofs.Lengths.{indirect-head-length, indirect-length}
 use Rattle.region_indirects.specs.declared.cursor.Slots.{Slots}
 use Rattle.region_indirects.specs.Slots.{block_slots, next_rows, next_slots}
-use Rattle.region_indirects.specs.Walk.{Walked, WalkedFrom, begins_before, rows_of_slots, unplaced, direct, nothing, both}
+use Rattle.region_indirects.specs.Walk.{Walked, WalkedFrom, begins_before, rows_of_slots, unplaced, direct, nothing}
+use Rattle.region_indirects.specs.Walk.{both}
 use Rattle.region_indirects.specs.Walk.{slot, slots, finished, smaller, all_slots, block}
 use Rattle.region_indirects.specs.Requires.{rows_left}
 
 -- ---- the next placed block
 
-pub begins_some : (ss : List ℕ) (i end : ℕ) → i < length ss → nat_lt (slice_index ss i) end ≡ begins_before (drop i ss) end
+pub begins_some : (ss : List ℕ) (i end : ℕ) → i < length ss
+    → nat_lt (slice_index ss i) end ≡ begins_before (drop i ss) end
 unfolding begins_before
 begins_some ss i end h = rw (drop_more ss i 0 h)
 
@@ -31,13 +33,16 @@ begins_none ss i end h = rw (drop_all i ss h)
 -- ---- the definition's equations, at any table
 
 module _ (t : Table) (w header : ℕ) where
-  module _ (inner : ℕ → WalkedFrom) (r at : ℕ) (ss : List ℕ) (pos next : ℕ) {size : ℕ} (sz : size ≡ 2 ^ row_bits t r) where
-    pub slot-unplaced : begins_before ss (at + size) ≡ false → slot t w header inner r at ss pos next ≡ unplaced w ss next
+  module _ (inner : ℕ → WalkedFrom) (r at : ℕ) (ss : List ℕ) (pos next : ℕ) {size : ℕ}
+      (sz : size ≡ 2 ^ row_bits t r) where
+    pub slot-unplaced : begins_before ss (at + size) ≡ false
+        → slot t w header inner r at ss pos next ≡ unplaced w ss next
     unfolding slot
     slot-unplaced b = grind arith
 
     module _ (b : begins_before ss (at + size) ≡ true) where
-      pub slot-direct : nat_le (row_bits t r) t.direct_bits ≡ true → slot t w header inner r at ss pos next ≡ direct w size ss next
+      pub slot-direct : nat_le (row_bits t r) t.direct_bits ≡ true
+          → slot t w header inner r at ss pos next ≡ direct w size ss next
       unfolding slot
       slot-direct d = grind arith
 
@@ -57,7 +62,8 @@ module _ (t : Table) (w header : ℕ) where
   slot-any : (n r : ℕ) → r < n → (at : ℕ) (ss : List ℕ) (pos next : ℕ)
       → slot t w header (smaller t w header n) r at ss pos next ≡ slot t w header (block t w header) r at ss pos next
   unfolding slot
-  slot-any n r h at ss pos next = let same = smaller-block n (r - t.width_bits) (omega arith) at ss pos next in grind arith
+  slot-any n r h at ss pos next = let same = smaller-block n (r - t.width_bits) (omega arith) at ss pos next in
+      grind arith
 
   pub slots-step : (n r : ℕ) (rs : List ℕ) → r < n → (at : ℕ) (ss : List ℕ) (pos next : ℕ) (c : Walked)
       → c ≡ slot t w header (block t w header) r at ss pos next
@@ -144,7 +150,8 @@ module _ (t : Table) (w header : ℕ) where
   -- a slot has one entry
   pub slot-entry : (n r at : ℕ) (ss : List ℕ) (pos next : ℕ)
       → length (slot t w header (smaller t w header n) r at ss pos next).entries ≡ w
-  slot-entry n r at ss pos next = omega (arith, (slot-sound (smaller t w header n) (smaller-sound n) r at ss pos next).wide)
+  slot-entry n r at ss pos next =
+      omega (arith, (slot-sound (smaller t w header n) (smaller-sound n) r at ss pos next).wide)
 
   length-rows : (m r : ℕ) → length (rows_of_slots t m r) ≡ m * 2 ^ t.width_bits
   unfolding rows_of_slots
@@ -179,7 +186,8 @@ rows_all zero off = refl
 rows_all (suc n) off = grind (arith, nat_tests)
 
 -- the rows from one on, where a row begins
-rows-from : (n row off : ℕ) → rows_of_slots fixed (n - row) row ≡ rows_left n (record { row = row; left = 4; offset = off })
+rows-from : (n row off : ℕ)
+    → rows_of_slots fixed (n - row) row ≡ rows_left n (record { row = row; left = 4; offset = off })
 unfolding rows_left rows_of_slots
 rows-from n row off =
     elim (cases_lt row n) [
@@ -188,7 +196,8 @@ rows-from n row off =
     ]
 
 -- the rest of a row, and the rows after it
-pub rows_row : (n : ℕ) (s : Slots) (off : ℕ) → s.row < n → rows_left n s ≡ replicate s.left s.row ++ rows_left n (next_rows s off)
+pub rows_row : (n : ℕ) (s : Slots) (off : ℕ) → s.row < n
+    → rows_left n s ≡ replicate s.left s.row ++ rows_left n (next_rows s off)
 unfolding rows_left
 rows_row n s off h = let rest = rows-from n (s.row + 1) off in grind (arith, nat_tests)
 
@@ -203,7 +212,8 @@ rows-next-at n row (suc (suc k)) off size h l =
     let more : replicate (suc (suc k) - 1) row ≡ row ∷ replicate k row = rw less in
     grind (arith, nat_tests)
 
-pub rows_next : (n : ℕ) (s : Slots) (size : ℕ) → s.row < n → 0 < s.left → rows_left n s ≡ s.row ∷ rows_left n (next_slots s size)
+pub rows_next : (n : ℕ) (s : Slots) (size : ℕ) → s.row < n → 0 < s.left
+    → rows_left n s ≡ s.row ∷ rows_left n (next_slots s size)
 rows_next n s size h l = rows-next-at n s.row s.left s.offset size h l
 
 -- ---- the bounds of the walks
@@ -214,7 +224,8 @@ pub record Numbers (s : Slots) (row left offset : ℕ) : Type 0 where
   pub left_is : s.left ≡ left
   pub offset_is : s.offset ≡ offset
 
-pub numbers : {s : Slots} {row left offset : ℕ} → s ≡ record { row = row; left = left; offset = offset } → Numbers s row left offset
+pub numbers : {s : Slots} {row left offset : ℕ} → s ≡ record { row = row; left = left; offset = offset }
+    → Numbers s row left offset
 numbers e = rw e (record { row_is = refl; left_is = refl; offset_is = refl })
 
 -- the next slot's row, and the slots that are left fall

@@ -1,5 +1,7 @@
--- What the walks ask of their arguments, so that they stay in the region and within 64 bits, and what they give.
-use Rattle.std.specs.Prelude.{ℕ, ◌+◌, ◌-◌, ◌^◌, ◌≤◌, ◌<◌, ◌≡◌, if◌then◌else◌, List, [], ◌++◌, length, drop}
+-- What the walks ask of their arguments, so that they stay in the region and within 64 bits, and
+-- what they give.
+use Rattle.std.specs.Prelude.{ℕ, ◌+◌, ◌-◌, ◌^◌, ◌≤◌, ◌<◌, ◌≡◌, if◌then◌else◌, List, [], ◌++◌}
+use Rattle.std.specs.Prelude.{length, drop}
 use Rattle.std.specs.Prelude.{replicate, nat_lt, Option, Some, None}
 use Rattle.fields.specs.LittleEndian.{le}
 use Rattle.table.specs.Table.{fixed}
@@ -13,7 +15,8 @@ use Rattle.region_indirects.specs.Walk.{Walked, rows_of_slots, slot, slots, smal
 -- the rows of these slots, the last of a block of n rows
 unfoldable pub rows_left : ℕ → Slots → List ℕ
 rows_left n s =
-    if nat_lt s.row n then replicate s.left s.row ++ rows_of_slots fixed (n - (s.row + 1)) (s.row + 1) else []
+    let next = s.row + 1 in
+    if nat_lt s.row n then replicate s.left s.row ++ rows_of_slots fixed (n - next) next else []
 
 -- the walks' outcomes, where the region's own bytes begin at the region's address
 
@@ -29,7 +32,8 @@ abbrev pub slots_of : Walk → ℕ → Slots → Cursor → Walked
 slots_of walk n s c =
     let site = walk.site in
     let w = site.offset_size in
-    slots fixed w site.heap_header_address (smaller fixed w site.heap_header_address n) (rows_left n s) s.offset
+    let header = site.heap_header_address in
+    slots fixed w header (smaller fixed w header n) (rows_left n s) s.offset
     (drop c.index walk.starts.now) (site.region_address + c.place) c.next
 
 -- of a slot of row `row` at a heap offset
@@ -61,13 +65,16 @@ entry_bytes w (Some address) = le w address
 entry_bytes w None = replicate w 0xFF
 
 -- an outcome o was written from where `out` stood, and e is its entry
-pub record Wrote (walk : Walk) (out : Output) (o : Walked) (e : Option ℕ) (out' : Output) : Type 0 where
+pub record Wrote (walk : Walk) (out : Output) (o : Walked) (e : Option ℕ) (out' : Output)
+    : Type 0 where
   pub bytes : out'.region.now ≡ stored out.region.now out.cursor.place o.bytes
   pub entry : entry_bytes walk.site.offset_size e ≡ o.entries
   pub moved : Moved walk out.cursor o out'.cursor
 
--- the outcome o of some slots was written: their blocks, and then their entries, `from` bytes into the block behind them
-pub record WroteSlots (walk : Walk) (out : Output) (o : Walked) (from : ℕ) (out' : Output) : Type 0 where
+-- the outcome o of some slots was written: their blocks, and then their entries, `from` bytes into
+-- the block behind them
+pub record WroteSlots (walk : Walk) (out : Output) (o : Walked) (from : ℕ) (out' : Output)
+    : Type 0 where
   pub bytes : out'.region.now
       ≡ stored (stored out.region.now out.cursor.place o.bytes) (out'.cursor.place + from) o.entries
   pub moved : Moved walk out.cursor o out'.cursor
@@ -79,15 +86,19 @@ pub record BlockFits (walk : Walk) (out : Output) (n at : ℕ) : Type 0 where
   pub fits : Fits walk out (block_of walk n at out.cursor) 0
 
 -- it was written, with all below it, at this address
-pub record BlockWritten (walk : Walk) (out : Output) (n at address : ℕ) (out' : Output) : Type 0 where
+pub record BlockWritten (walk : Walk) (out : Output) (n at address : ℕ) (out' : Output)
+    : Type 0 where
   pub wrote : Wrote walk out (block_of walk n at out.cursor) (Some address) out'
 
--- the blocks of the last slots of a block of n rows fit, and behind these their entries, `from` bytes into a block
+-- the blocks of the last slots of a block of n rows fit, and behind these their entries, `from`
+-- bytes into a block
 pub record SlotsFit (walk : Walk) (out : Output) (n : ℕ) (s : Slots) (from : ℕ) : Type 0 where
-  pub fits : Fits walk out (slots_of walk n s out.cursor) (from + length (slots_of walk n s out.cursor).entries)
+  pub fits : Fits walk out (slots_of walk n s out.cursor)
+      (from + length (slots_of walk n s out.cursor).entries)
 
 -- both were written
-pub record SlotsWritten (walk : Walk) (out : Output) (n : ℕ) (s : Slots) (from : ℕ) (out' : Output) : Type 0 where
+pub record SlotsWritten (walk : Walk) (out : Output) (n : ℕ) (s : Slots) (from : ℕ) (out' : Output)
+    : Type 0 where
   pub wrote : WroteSlots walk out (slots_of walk n s out.cursor) from out'
 
 -- the blocks of a slot of row `row` fit
@@ -95,5 +106,6 @@ pub record SlotFits (walk : Walk) (out : Output) (row at : ℕ) : Type 0 where
   pub fits : Fits walk out (slot_of walk row at out.cursor) 0
 
 -- they were written, and this is its entry
-pub record SlotWritten (walk : Walk) (out : Output) (row at : ℕ) (entry : Option ℕ) (out' : Output) : Type 0 where
+pub record SlotWritten (walk : Walk) (out : Output) (row at : ℕ) (entry : Option ℕ) (out' : Output)
+    : Type 0 where
   pub wrote : Wrote walk out (slot_of walk row at out.cursor) entry out'

@@ -4,8 +4,8 @@ ghost use Rattle.region_indirects.specs.Walk.{begins_before};
 
 use table::TABLE_WIDTH;
 
-/// The next placed direct block and its address, in the file and not from the region on, and the next free place in the
-/// region.
+/// The next placed direct block and its address, in the file and not from the region on, and the next free place in
+/// the region.
 #[derive(Clone, Copy)]
 pub struct Cursor {
     pub index: usize,

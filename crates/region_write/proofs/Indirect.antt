@@ -1,5 +1,6 @@
 -- The indirect blocks of a plan's region are as long as the plan says, and lead to all of its direct blocks.
-use Rattle.std.proofs.Common.{inl, inr, ℕ, ◌+◌, ◌≤◌, ◌<◌, ◌≡◌, refl, sym, ap, ◌∙◌, subst, List, [], ◌∷◌, arith, zero-add, Ok}
+use Rattle.std.proofs.Common.{inl, inr, ℕ, ◌+◌, ◌≤◌, ◌<◌, ◌≡◌, refl, sym, ap, ◌∙◌, subst, List, [], ◌∷◌, arith}
+use Rattle.std.proofs.Common.{zero-add, Ok}
 use Rattle.std.proofs.lemmas.Bool.{cases_eq}
 use Rattle.std.proofs.lemmas.Bool.Decides.{nat_tests}
 use Rattle.table.specs.Table.{Table, fixed, row_offset}
@@ -36,28 +37,16 @@ module _ {t : Table} {w : ℕ} where
   laid_end : {s s' : State} {xs os bs : List ℕ} → Laid t w s xs os bs s' → last_end t (block_end s) bs ≡ block_end s'
   unfolding last_end
   laid_end end = refl
-  laid_end {s} (same {s₁ = s₁} {bs = bs} P n L) =
-      let a = n.start_is in
-      let b = n.size_is in
-      ap (λ (y : ℕ). last_end t y bs) (let z : block_end s ≡ block_end s₁ = omega arith in z) ∙ laid_end L
-  laid_end (new {s₁ = s₁} {bs = bs} P n L) = ap (λ (y : ℕ). last_end t (s₁.start + y) bs) (sym n.size_is) ∙ laid_end L
+  laid_end (same P n L) = grind (arith, laid_end L, n.start_is, n.size_is)
+  laid_end (new P n L) = grind (arith, laid_end L, n.size_is)
 
   -- the bytes of the indirect blocks add up
-  laid-opened : {s s' : State} {xs os bs : List ℕ} → Laid t w s xs os bs s' → s'.indirect ≡ s.indirect + opened_by t w (block_end s) bs
+  laid-opened : {s s' : State} {xs os bs : List ℕ} → Laid t w s xs os bs s'
+      → s'.indirect ≡ s.indirect + opened_by t w (block_end s) bs
   unfolding opened_by
   laid-opened {s} end = omega arith
-  laid-opened {s} (same {s₁ = s₁} {bs = bs} P n L) =
-      let a = n.start_is in
-      let b = n.size_is in
-      let c = n.indirect-is in
-      let d = ap (λ (y : ℕ). opened_by t w y bs) (let z : block_end s₁ ≡ block_end s = omega arith in z) in
-      let e = laid-opened L in
-      omega arith
-  laid-opened (new {s₁ = s₁} {bs = bs} P n L) =
-      let c = n.indirect-is in
-      let d = ap (λ (y : ℕ). opened_by t w (s₁.start + y) bs) n.size_is in
-      let e = laid-opened L in
-      omega arith
+  laid-opened (same P n L) = grind (arith, laid-opened L, n.start_is, n.size_is, n.indirect-is)
+  laid-opened (new P n L) = grind (arith, laid-opened L, n.size_is, n.indirect-is)
 
 -- ---- the totals
 
@@ -87,9 +76,12 @@ pub record Rooted (w : ℕ) (xs : List ℕ) (p : ManagedPlan) : Type 0 where
   pub reaches : last_end fixed 0 (plan_starts fixed w xs) ≤ row_offset fixed p.root_rows
   pub opened : state.indirect ≡ opened_by fixed w 0 (plan_starts fixed w xs)
 
-module _ (w x : ℕ) (xs : List ℕ) (p : ManagedPlan) (s : State) (ran : run fixed w (x ∷ xs) ≡ Ok s) (is : p ≡ totals fixed w (end_state fixed w s)) (some : 0 < p.root_rows) where
+module _ (w x : ℕ) (xs : List ℕ) (p : ManagedPlan) (s : State) (ran : run fixed w (x ∷ xs) ≡ Ok s)
+    (is : p ≡ totals fixed w (end_state fixed w s)) (some : 0 < p.root_rows) where
   laid-all : Laid fixed w (initial fixed w) (x ∷ xs) (plan_offsets fixed w (x ∷ xs)) (plan_starts fixed w (x ∷ xs)) s
-  laid-all = subst (λ (bs : List ℕ). Laid fixed w (initial fixed w) (x ∷ xs) (plan_offsets fixed w (x ∷ xs)) bs s) (sym (starts-some w (x ∷ xs) (omega arith))) (ran-laid w (x ∷ xs) s ran)
+  laid-all =
+      subst (λ (bs : List ℕ). Laid fixed w (initial fixed w) (x ∷ xs) (plan_offsets fixed w (x ∷ xs)) bs s)
+      (sym (starts-some w (x ∷ xs) (omega arith))) (ran-laid w (x ∷ xs) s ran)
 
   is-closed : end_state fixed w s ≡ s
   unfolding end_state
@@ -98,12 +90,14 @@ module _ (w x : ℕ) (xs : List ℕ) (p : ManagedPlan) (s : State) (ran : run fi
   rows-reach : rows_of_root fixed (block_end s) ≡ p.root_rows → Reach (block_end s)
   rows-reach n =
       let l = slot-least fixed (omega arith) (blocks laid-all).block.slot in
-      reach (block_end s) (omega arith) (still-ok (ran-ok w) laid-all).heap (λ z. omega (arith, no_rows (block_end s) z))
+      reach (block_end s) (omega arith) (still-ok (ran-ok w) laid-all).heap
+      (λ z. omega (arith, no_rows (block_end s) z))
 
   rooted-some : Rooted w (x ∷ xs) p
   rooted-some =
       let are : p ≡ totals fixed w s = is ∙ ap (totals fixed w) is-closed in
-      let q = are ∙ totals-rows w s (λ bare. omega (arith, ap (λ (y : ManagedPlan). y.root_rows) (are ∙ totals-bare w s bare))) in
+      let q = are
+      ∙ totals-rows w s (λ bare. omega (arith, ap (λ (y : ManagedPlan). y.root_rows) (are ∙ totals-bare w s bare))) in
       let n : rows_of_root fixed (block_end s) ≡ p.root_rows = sym (ap (λ y. y.root_rows) q) in
       let R = rows-reach n in
       let reached = ap (row_offset fixed) n in
@@ -118,7 +112,8 @@ module _ (w x : ℕ) (xs : List ℕ) (p : ManagedPlan) (s : State) (ran : run fi
 
 pub rooted : (xs : List ℕ) (o b w : ℕ) (p : ManagedPlan) → planned_for xs o b w ≡ Ok p → 0 < p.root_rows → Rooted w xs p
 rooted [] o b w p e l = absurd (let z = one-block [] o b w p e (starts_none w) in omega arith)
-rooted (x ∷ xs) o b w p e l = let G = (accepted (x ∷ xs) o b w p e).1 in rooted-some w x xs p G.state G.ran G.totals-is l
+rooted (x ∷ xs) o b w p e l = let G = (accepted (x ∷ xs) o b w p e).1 in
+    rooted-some w x xs p G.state G.ran G.totals-is l
 
 -- ---- the theorems
 
@@ -128,8 +123,10 @@ module _ (xs : List ℕ) (o b w : ℕ) (p : ManagedPlan) (e : planned_for xs o b
   indirect-planned l header first directs =
       let R = rooted xs o b w p e l in
       let f = R.few in
-      let i : opened_by fixed w 0 (plan_starts fixed w xs) ≡ p.root_place = sym (ap (λ (y : ManagedPlan). y.root_place) R.totals-are ∙ R.opened) in
-      let W = whole fixed (omega arith) (omega arith) (omega arith) w header p.root_rows (plan_starts fixed w xs) first directs (omega arith) R.placed R.reaches in
+      let i : opened_by fixed w 0 (plan_starts fixed w xs) ≡ p.root_place =
+      sym (ap (λ (y : ManagedPlan). y.root_place) R.totals-are ∙ R.opened) in
+      let W = whole fixed (omega arith) (omega arith) (omega arith) w header p.root_rows
+      (plan_starts fixed w xs) first directs (omega arith) R.placed R.reaches in
       record {
         children = W.children-are ∙ i;
         bytes = W.bytes-are ∙ ap (λ (y : ℕ). y + indirect_size fixed w p.root_rows) i;
@@ -138,7 +135,8 @@ module _ (xs : List ℕ) (o b w : ℕ) (p : ManagedPlan) (e : planned_for xs o b
       }
 
   -- the region is the indirect blocks, the root the last of them, and the direct blocks
-  pub region-planned : 0 < p.root_rows → p.region_size ≡ p.root_place + indirect_size fixed w p.root_rows + p.allocated_space
+  pub region-planned : 0 < p.root_rows
+      → p.region_size ≡ p.root_place + indirect_size fixed w p.root_rows + p.allocated_space
   region-planned l =
       let q = (rooted xs o b w p e l).totals-are in
       let r = ap (λ (y : ManagedPlan). y.region_size) q in

@@ -8,7 +8,9 @@ use Rattle.region_indirects.specs.Walk.{finished, all_slots, block}
 use Rattle.region_indirects.proofs.Walking.{block-entries}
 
 -- a block stands after those in its slots
-pub block-length : (t : Table) (w header n at : ℕ) (ss : List ℕ) (pos next : ℕ) → length (block t w header n at ss pos next).bytes ≡ length (all_slots t w header n at ss pos next).bytes + indirect_size t w n
+pub block-length : (t : Table) (w header n at : ℕ) (ss : List ℕ) (pos next : ℕ)
+    → length (block t w header n at ss pos next).bytes
+    ≡ length (all_slots t w header n at ss pos next).bytes + indirect_size t w n
 unfolding block finished indirect_size
 block-length t w header n at ss pos next =
     let es : List ℕ = (all_slots t w header n at ss pos next).entries in

@@ -4,16 +4,30 @@ use Rattle.table.specs.Table.{fixed}
 use Rattle.table.specs.Sizes.{indirect_size}
 use Rattle.plan.specs.declared.ManagedPlan.{ManagedPlan}
 use Rattle.planner.specs.Steps.{plan_starts}
-use Rattle.region_indirects.specs.Walk.{all_slots, block}
+use Rattle.region_indirects.specs.Walk.{Walked, all_slots, block}
 
--- the indirect blocks of the plan p of the sizes xs, the first at the address `first`, where the direct blocks
--- begin at the address `directs`: how long those before the root are, and all of them, the address behind the
--- direct blocks, and no direct block without an entry
-pub record IndirectPlanned (w : ℕ) (xs : List ℕ) (p : ManagedPlan) (header first directs : ℕ) : Type 0 where
-  pub children : length (all_slots fixed w header p.root_rows 0 (plan_starts fixed w xs) first directs).bytes ≡ p.root_place
-  pub bytes : length (block fixed w header p.root_rows 0 (plan_starts fixed w xs) first directs).bytes ≡ p.root_place + indirect_size fixed w p.root_rows
-  pub next : (block fixed w header p.root_rows 0 (plan_starts fixed w xs) first directs).next ≡ directs + p.allocated_space
-  pub rest : (block fixed w header p.root_rows 0 (plan_starts fixed w xs) first directs).rest ≡ []
+-- the slots of the root of the plan p of the sizes xs, and the root, the first indirect block at the
+-- address `first`, where the direct blocks begin at the address `directs`
+abbrev pub slots_planned : (w : ℕ) (xs : List ℕ) (p : ManagedPlan) (header first directs : ℕ) → Walked
+slots_planned w xs p header first directs =
+    all_slots fixed w header p.root_rows 0 (plan_starts fixed w xs) first directs
+
+abbrev pub root_planned : (w : ℕ) (xs : List ℕ) (p : ManagedPlan) (header first directs : ℕ) → Walked
+root_planned w xs p header first directs =
+    block fixed w header p.root_rows 0 (plan_starts fixed w xs) first directs
+
+-- the indirect blocks of the plan p of the sizes xs, the first at the address `first`, where the
+-- direct blocks begin at the address `directs`: how long those before the root are, and all of
+-- them, the address behind the direct blocks, and no direct block without an entry
+pub record IndirectPlanned (w : ℕ) (xs : List ℕ) (p : ManagedPlan) (header first directs : ℕ)
+    : Type 0 where
+  pub children : length (slots_planned w xs p header first directs).bytes
+      ≡ p.root_place
+  pub bytes : length (root_planned w xs p header first directs).bytes
+      ≡ p.root_place + indirect_size fixed w p.root_rows
+  pub next : (root_planned w xs p header first directs).next
+      ≡ directs + p.allocated_space
+  pub rest : (root_planned w xs p header first directs).rest ≡ []
 
 -- the region of a root without rows is the one block
 pub record BareRegion (w : ℕ) (xs : List ℕ) (p : ManagedPlan) : Type 0 where

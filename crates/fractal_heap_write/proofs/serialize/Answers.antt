@@ -2,7 +2,8 @@
 use Rattle.std.proofs.Common.{arith, sym}
 use Rattle.std.proofs.Math.Seq.{length-take-le}
 use Rattle.plan.proofs.Kept.{plan-kept}
-use Rattle.fractal_heap_write.proofs.Serializing.{sizes-small, offsets_fit, blocks_fit, count_fits, space_within, writable, behind-kept}
+use Rattle.fractal_heap_write.proofs.Serializing.{sizes-small, offsets_fit, blocks_fit, count_fits, space_within}
+use Rattle.fractal_heap_write.proofs.Serializing.{writable, behind-kept}
 use Rattle.fractal_heap_write.proofs.serialize.Goals as goal
 
 pub write_lists-requires-clause-small : goal.write_lists-requires-clause-small
@@ -25,7 +26,8 @@ pub overflow_sub-plan : goal.overflow_sub-plan
 overflow_sub-plan c = space_within c.in_ok-plan.ensures.accepted
 
 pub write_region-requires : goal.write_region-requires
-write_region-requires c = writable c.in_ok-plan.ensures.accepted _ _ _ _ (omega arith) (omega arith) c.write_lists.ensures.blocks_after
+write_region-requires c =
+    writable c.in_ok-plan.ensures.accepted _ _ _ _ (omega arith) (omega arith) c.write_lists.ensures.blocks_after
 
 pub returns-clause-written : goal.returns-clause-written
 returns-clause-written c = behind-kept c.in_ok-plan.ensures.accepted _ _ _ c.write_region.ensures
