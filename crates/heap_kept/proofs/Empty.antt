@@ -1,11 +1,6 @@
 -- An empty object: where the reader finds it, and where it answers 1.
-use Prim.Native.Nat.{ℕ, suc, ◌+◌, ◌-◌, ◌^◌, ◌≤◌, ◌<◌}
-use mathlib.Core.Path.{◌≡◌, ap, ◌∙◌}
-use mathlib.Core.Logic.{◌⊎◌, inl, inr}
-use mathlib.Core.List.{List, [], ◌∷◌}
-use native.Mathlib.Omega.{arith}
-use native.Mathlib.Decide.{ℕ_discrete, dec_le, dec_lt}
-use lib.ListN.{length, get_or}
+use Rattle.std.proofs.Common.{◌≡◌, ℕ, suc, ◌+◌, ◌-◌, ◌^◌, ◌<◌, ◌≤◌, ◌⊎◌, inl, inr, List, [], ◌∷◌, length, slice_index, Ok, Err, ap, ◌∙◌, arith}
+use Rattle.std.proofs.Math.Decide.{ℕ_discrete, dec_le, dec_lt}
 use Rattle.std.proofs.lemmas.Bool.Decides.{nat_tests}
 use Rattle.refusals.specs.declared.FormatError.TheVariants.{UnexpectedEof, HeapIdTooLarge}
 use Rattle.table.specs.Table.{Table, fixed, row_offset}
@@ -13,43 +8,42 @@ use Rattle.table.specs.Slots.{slot_at}
 use Rattle.table_laws.proofs.Format.{direct-local, fixed-slot}
 use Rattle.plan.specs.declared.ManagedPlan.{ManagedPlan}
 use Rattle.numbers.proofs.Saturating.{sat-fits}
-use Rattle.std.specs.Prelude.{Ok, Err}
 use Rattle.reading.specs.Walk.{direct_at}
 use Rattle.fractal_heap.specs.declared.header.FractalHeapHeader.{FractalHeapHeader}
 use Rattle.fractal_heap.specs.Read.{root_at, managed_at}
 use Rattle.ids.specs.Checks.{id_checked}
 use Rattle.ids.specs.Written.{managed_id}
-use Rattle.heap_kept.specs.HeapKept.{Call, Written, HoldsRegion, HeaderOf, offset_of, EmptyRead, accepts, refuses, EmptyObjectsAnswered}
+use Rattle.heap_kept.specs.HeapKept.{Call, WriterAccepts, HoldsRegion, IsHeaderOf, offset_of, EmptyRead, accepts, refuses, EmptyObjectsAnswered}
 use Rattle.heap_kept.proofs.Ids.{id-passes}
 use Rattle.heap_kept.proofs.FromRoot.{starts, block_of, start, place_of, place-fits, block_inside, by_bare, by-missing, root-finds}
 use Rattle.heap_kept.proofs.Theorem.{by-id, in_block}
-use Rattle.heap_kept.specs.Walking.{Clear, none, more}
+use Rattle.heap_kept.specs.Walking.{NoneHolds, no_block, not_in_first}
 
 -- the n-th of the blocks ss holds x
 record Holder (t : Table) (x : ℕ) (ss : List ℕ) : Type 0 where
   n : ℕ
   placed : n < length ss
-  from : get_or ss n 0 ≤ x
-  to : x < get_or ss n 0 + (slot_at t (get_or ss n 0)).size
+  from : slice_index ss n ≤ x
+  to : x < slice_index ss n + (slot_at t (slice_index ss n)).size
 
 -- one of them does, or none
-holder : (t : Table) (x : ℕ) (ss : List ℕ) → Holder t x ss ⊎ Clear t x ss
-holder t x [] = inr none
+holder : (t : Table) (x : ℕ) (ss : List ℕ) → Holder t x ss ⊎ NoneHolds t x ss
+holder t x [] = inr no_block
 holder t x (s ∷ ss) = go (dec_le s x) (dec_lt x (s + (slot_at t s).size)) (holder t x ss)
   where
-    go : Dec (s ≤ x) → Dec (x < s + (slot_at t s).size) → Holder t x ss ⊎ Clear t x ss → Holder t x (s ∷ ss) ⊎ Clear t x (s ∷ ss)
+    go : Dec (s ≤ x) → Dec (x < s + (slot_at t s).size) → Holder t x ss ⊎ NoneHolds t x ss → Holder t x (s ∷ ss) ⊎ NoneHolds t x (s ∷ ss)
     go (yes l) (yes u) r = inl (record { n = 0; placed = omega arith; from = l; to = u })
     go l (no u) (inl H) = inl (record { n = suc H.n; placed = (let p = H.placed in omega arith); from = H.from; to = H.to })
-    go l (no u) (inr C) = inr (more {s = s} (λ _. omega arith) C)
+    go l (no u) (inr C) = inr (not_in_first {start = s} (λ _. omega arith) C)
     go (no l) (yes u) (inl H) = inl (record { n = suc H.n; placed = (let p = H.placed in omega arith); from = H.from; to = H.to })
-    go (no l) (yes u) (inr C) = inr (more (λ k. absurd (l k)) C)
+    go (no l) (yes u) (inr C) = inr (not_in_first (λ k. absurd (l k)) C)
 
 -- at the heap's end there is no ID
 no-id : (o : ℕ) → o ≡ 2 ^ 40 → (lent : ℕ) → id_checked fixed o 0 lent ≡ Err (HeapIdTooLarge o 0)
 no-id o e lent = grind (arith, nat_tests)
 
-module _ (c : Call) (p : ManagedPlan) (W : Written c p)
-    (F : List ℕ) (H : HoldsRegion F c p) (h : FractalHeapHeader) (T : HeaderOf h c p) (x : ℕ) where
+module _ (c : Call) (p : ManagedPlan) (W : WriterAccepts c p)
+    (F : List ℕ) (H : HoldsRegion F c p) (h : FractalHeapHeader) (T : IsHeaderOf h c p) (x : ℕ) where
   abbrev w : ℕ
   w = c.site.offset_size
 
@@ -74,7 +68,7 @@ module _ (c : Call) (p : ManagedPlan) (W : Written c p)
     found-there s e = accepts (place n l + (x - its n l)) in-file (by-id h F w x 0 c p T s (omega arith) ∙ e ∙ nothing_read)
 
   -- where no placed block holds the offset, and the root has rows
-  pub missed-there : (n : ℕ) → n < length (starts c p W) → 0 < p.root_rows → Clear fixed x (starts c p W) → x < 2 ^ 40
+  pub missed-there : (n : ℕ) → n < length (starts c p W) → 0 < p.root_rows → NoneHolds fixed x (starts c p W) → x < 2 ^ 40
       → managed_at h F (managed_id fixed x 0) w ≡ Err (UnexpectedEof x (length F))
   missed-there n l r C s =
       by-id h F w x 0 c p T s (omega arith) ∙ by-missing c p W n l F H h T x 0 r C
@@ -84,7 +78,7 @@ module _ (c : Call) (p : ManagedPlan) (W : Written c p)
   read-empty : (n : ℕ) (l : n < length (starts c p W)) → x ≤ its n l + (slot_at fixed (its n l)).size → x < 2 ^ 40 → EmptyRead F h w x p.root_rows
   read-empty n l hi s = go (ℕ_discrete p.root_rows 0) (holder fixed x (starts c p W))
     where
-      go : Dec (p.root_rows ≡ 0) → Holder fixed x (starts c p W) ⊎ Clear fixed x (starts c p W) → EmptyRead F h w x p.root_rows
+      go : Dec (p.root_rows ≡ 0) → Holder fixed x (starts c p W) ⊎ NoneHolds fixed x (starts c p W) → EmptyRead F h w x p.root_rows
       go (yes z) k = found-there n l hi s (by_bare c p W n l F H h T x 0 z)
       go (no z) (inl K) =
           let u = K.to in
@@ -101,8 +95,8 @@ empty-answered c p W file H h T i l e =
     let t = B.to in
     let d = (direct-local fixed (omega arith) (omega arith) B.slot).inside in
     record {
-      within = omega arith;
-      id-accepted = λ s lent k. id-passes x 0 s (omega arith) lent k;
-      id-refused = λ s lent. no-id x s lent;
-      read = λ s. read-empty c p W file H h T x B.n B.placed (omega arith) s;
+      offset_in_heap = omega arith;
+      id_accepted = λ s lent k. id-passes x 0 s (omega arith) lent k;
+      id_refused = λ s lent. no-id x s lent;
+      reader_answers = λ s. read-empty c p W file H h T x B.n B.placed (omega arith) s;
     }

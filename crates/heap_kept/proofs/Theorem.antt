@@ -1,12 +1,7 @@
 -- Every object comes back, and what it means for an ID that was given early.
-use Prim.Native.Nat.{ℕ, ◌+◌, ◌-◌, ◌^◌, ◌≤◌, ◌<◌, max}
-use mathlib.Core.Path.{◌≡◌, refl, sym, ap, ap₂, ◌∙◌, subst, subst₂}
-use mathlib.Core.List.{List}
-use native.Mathlib.Omega.{arith}
-use native.Mathlib.Decide.{ℕ_discrete}
-use lib.ListN.{length, take, drop, get_or, length-drop, take-append-drop}
-use lib.Seq.{take-append-le, drop-append-le, take-take, take_all, length-take-le, get_or-take}
-use borrow.Author.Tests.{le-leb, eq-eqb}
+use Rattle.std.proofs.Common.{◌≡◌, ℕ, ◌+◌, ◌-◌, ◌^◌, ◌<◌, ◌≤◌, max, List, length, take, drop, slice_index, Ok, refl, sym, ap, ap₂, ◌∙◌, subst, subst₂, arith, length-drop, take-append-drop, take-take, take_all, length-take-le, get_or-take, le-leb, eq-eqb}
+use Rattle.std.proofs.Math.Decide.{ℕ_discrete}
+use Rattle.std.proofs.lemmas.List.{take-append-le, drop-append-le}
 use Rattle.fields.specs.Fields.{len_ensured}
 use Rattle.table.specs.Table.{fixed, row_offset}
 use Rattle.table.specs.Slots.{slot_at}
@@ -21,14 +16,13 @@ use Rattle.plan.specs.Plans.{InPlacedBlock}
 use Rattle.plan.proofs.Front.{front-part}
 use Rattle.plan.proofs.Kept.{plan-kept}
 use Rattle.region_directs.proofs.Objects.{objects-at}
-use Rattle.std.specs.Prelude.{Ok}
 use Rattle.reading.specs.Walk.{direct_at}
 use Rattle.ids.specs.Decoded.{decoded_id}
 use Rattle.fractal_heap.specs.declared.header.FractalHeapHeader.{FractalHeapHeader}
 use Rattle.fractal_heap.specs.Read.{root_at, managed_at}
 use Rattle.ids.specs.Written.{managed_id}
 use Rattle.heap_kept.proofs.Holding.{has_part}
-use Rattle.heap_kept.specs.HeapKept.{Call, Written, HoldsRegion, HeaderOf, offset_of, ComesBack, part_of, HeapKept, EarlyIdsHold}
+use Rattle.heap_kept.specs.HeapKept.{Call, WriterAccepts, HoldsRegion, IsHeaderOf, offset_of, ComesBack, part_of, HeapKept, EarlyIdsHold}
 use Rattle.ids.proofs.ReadBack.{decodes}
 use Rattle.heap_kept.proofs.Ids.{id-passes}
 use Rattle.heap_kept.proofs.FromRoot.{planned, tests, went, block_of, start, place_of, place-fits, bytes_of, bytes-least, block-has, block_inside, root-finds}
@@ -36,10 +30,10 @@ use Rattle.heap_kept.proofs.FromRoot.{planned, tests, went, block_of, start, pla
 -- ---- the reader by an ID
 
 -- by a written ID the reader looks for what it was written for
-pub by-id : (h : FractalHeapHeader) (F : List ℕ) (w o x : ℕ) (c : Call) (p : ManagedPlan) → HeaderOf h c p → o < 2 ^ 40 → x < 2 ^ 16
+pub by-id : (h : FractalHeapHeader) (F : List ℕ) (w o x : ℕ) (c : Call) (p : ManagedPlan) → IsHeaderOf h c p → o < 2 ^ 40 → x < 2 ^ 16
     → managed_at h F (managed_id fixed o x) w ≡ root_at h F o x w
 by-id h F w o x c p T lo hi =
-    let e : decoded_id h.table.max_heap_size (managed_id fixed o x) ≡ decoded_id 40 (managed_id fixed o x) = ap (λ (n : ℕ). decoded_id n (managed_id fixed o x)) T.heap-bits in
+    let e : decoded_id h.table.max_heap_size (managed_id fixed o x) ≡ decoded_id 40 (managed_id fixed o x) = ap (λ (n : ℕ). decoded_id n (managed_id fixed o x)) T.max_heap_size in
     rw (eq-eqb h.io_filter_encoded_length 0 T.unfiltered, e ∙ decodes o x lo hi)
 
 -- len bytes in a block that the file holds
@@ -49,8 +43,8 @@ in_block F a b t len u v = rw (le-leb (t - b) (2 ^ 64 - 1 - a) (omega arith), le
 
 -- ---- an object
 
-module _ (c : Call) (p : ManagedPlan) (W : Written c p)
-    (F : List ℕ) (H : HoldsRegion F c p) (h : FractalHeapHeader) (T : HeaderOf h c p) (i : ℕ) (l : i < length c.sizes) where
+module _ (c : Call) (p : ManagedPlan) (W : WriterAccepts c p)
+    (F : List ℕ) (H : HoldsRegion F c p) (h : FractalHeapHeader) (T : IsHeaderOf h c p) (i : ℕ) (l : i < length c.sizes) where
   abbrev xs : List ℕ
   xs = c.sizes
 
@@ -64,7 +58,7 @@ module _ (c : Call) (p : ManagedPlan) (W : Written c p)
   offset = offset_of w xs i
 
   abbrev size : ℕ
-  size = get_or xs i 0
+  size = slice_index xs i
 
   -- the block that it lies in
   B : InPlacedBlock w xs i
@@ -125,10 +119,10 @@ module _ (c : Call) (p : ManagedPlan) (W : Written c p)
     back : ComesBack F h w offset size (part_of xs js i)
     back =
         record {
-          id-accepted = id-passes offset size offset-small size_small;
+          id_accepted = id-passes offset size offset-small size_small;
           position = place + (offset - its);
-          read = by-id h F w offset size c p T offset-small size_small ∙ read;
-          same = bytes;
+          reader_accepts = by-id h F w offset size c p T offset-small size_small ∙ read;
+          bytes_there = bytes;
         }
 
   -- every nonempty object comes back
@@ -138,7 +132,7 @@ module _ (c : Call) (p : ManagedPlan) (W : Written c p)
 -- ---- the theorem
 
 pub heap-kept : HeapKept
-heap-kept = record { planned = plan-kept; comes_back = nonempty-back }
+heap-kept = record { kept_apart = plan-kept; comes_back = nonempty-back }
 
 -- ---- an ID that was given early
 
@@ -148,7 +142,7 @@ unfolding part_of
 part-early xs js k i e l m =
     let s : ℕ = sum (take i xs) in
     let S : ℕ = sum (take k xs) in
-    let x : get_or (take k xs) i 0 ≡ get_or xs i 0 = get_or-take k xs i 0 l in
+    let x : slice_index (take k xs) i ≡ slice_index xs i = get_or-take k xs i 0 l in
     let f : sum (take i (take k xs)) ≡ s = ap sum (take-take i k xs (omega arith)) in
     let a = sum-take-suc xs i m in
     let c = sum-take-le xs (i + 1) k (omega arith) in
@@ -156,16 +150,15 @@ part-early xs js k i e l m =
     let n : length (take S js) ≡ S = length-take-le S js d in
     let g = length-drop s (take S js) in
     ap₂ (λ (u v : ℕ). take u (drop v (take S js))) x f
-    ∙ sym (ap (λ (v : List ℕ). take (get_or xs i 0) (drop s v)) (sym (take-append-drop S js)) ∙ ap (take (get_or xs i 0)) (drop-append-le s (take S js) (drop S js) (omega arith))
-    ∙ take-append-le (get_or xs i 0) (drop s (take S js)) (drop S js) (omega arith))
+    ∙ sym (ap (λ (v : List ℕ). take (slice_index xs i) (drop s v)) (sym (take-append-drop S js)) ∙ ap (take (slice_index xs i)) (drop-append-le s (take S js) (drop S js) (omega arith))
+    ∙ take-append-le (slice_index xs i) (drop s (take S js)) (drop S js) (omega arith))
 
--- an ID given when the run had k objects is the object's ID in the whole run, and reads the same bytes there
+-- an ID given when there were the first objects alone is the object's ID among all, and reads the same bytes there
 pub early-id-holds : EarlyIdsHold
-early-id-holds c p W file H h T k i l m s =
+early-id-holds c p W file H h T early i l m s =
     record {
-      same_id = ap₂ (λ (u v : ℕ). managed_id fixed u v) same-offset same_size;
-      comes_back = subst (λ (u : ℕ). ComesBack file h w u (get_or (take k xs) i 0) early) (sym same-offset)
-          (subst₂ (λ (v : ℕ) (bytes : List ℕ). ComesBack file h w (offset_of w xs i) v bytes) (sym same_size) (sym (part-early xs c.objects k i (sym (tests c p W).bytes) l m)) (nonempty-back c p W file H h T i m s));
+      id_stays = ap₂ (managed_id fixed) offset-stays size_stays;
+      comes_back = rw (offset-stays, size_stays, part-early xs c.objects early i (sym (tests c p W).bytes) l m) (nonempty-back c p W file H h T i m s);
     }
   where
     xs : List ℕ
@@ -174,13 +167,11 @@ early-id-holds c p W file H h T k i l m s =
     w : ℕ
     w = c.site.offset_size
 
-    early : List ℕ
-    early = part_of (take k xs) (take (sum (take k xs)) c.objects) i
+    size_stays : slice_index (take early xs) i ≡ slice_index xs i
+    size_stays = get_or-take early xs i 0 l
 
-    same_size : get_or (take k xs) i 0 ≡ get_or xs i 0
-    same_size = get_or-take k xs i 0 l
-
-    same-offset : offset_of w (take k xs) i ≡ offset_of w xs i
-    same-offset =
-        let F = front-part xs c.offset_places c.block_places w p (planned c p W) k (length (take k xs)) (max 1 (length (take k xs))) (omega arith) (omega arith) in
-        ap (λ (v : List ℕ). get_or v i 0) F.same-offsets ∙ get_or-take k (plan_offsets fixed w xs) i 0 l
+    offset-stays : offset_of w (take early xs) i ≡ offset_of w xs i
+    offset-stays =
+        let k = length (take early xs) in
+        let F = front-part xs c.offset_places c.block_places w p (planned c p W) early k (max 1 k) (omega arith) (omega arith) in
+        ap (λ (v : List ℕ). slice_index v i) F.same-offsets ∙ get_or-take early (plan_offsets fixed w xs) i 0 l

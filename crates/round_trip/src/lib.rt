@@ -10,12 +10,9 @@ pub mod passing;
 pub mod region;
 
 ghost use Rattle.std.specs.Prelude.{◌≡◌, ◌<◌, ◌≤◌, ◌++◌, length, drop, slice_index, IfOk, OnOk, OnErr};
-ghost use Rattle.fields.specs.LittleEndian.{put};
-ghost use Rattle.table.specs.Table.{fixed};
-ghost use Rattle.planner.specs.Steps.{plan_offsets, plan_starts};
 ghost use Rattle.heap_kept.specs.HeapKept.{part_of};
-ghost use Rattle.round_trip.specs.InFile.{serialized_in, file_with};
-ghost use Rattle.round_trip.specs.RoundTrip.{nonempty, came_back};
+ghost use Rattle.round_trip.specs.InFile.{serialized_in, file_with, ListsHavePlan};
+ghost use Rattle.round_trip.specs.RoundTrip.{nonempty_count, came_back};
 
 use crate::passing::{Untouched, count_after, fetch_after};
 use refusals::FormatError;
@@ -33,13 +30,11 @@ pub fn round_trip(
 ) -> Result<u64, FormatError>
     ensures answer { result ≡ came_back
         (serialized_in site sizes.now offsets.old blocks.old objects.now file.old)
-        (nonempty sizes.now) }
-    ensures written { IfOk (serialized_in site sizes.now offsets.old blocks.old objects.now file.old)
+        (nonempty_count sizes.now) }
+    ensures region_in_file { IfOk (serialized_in site sizes.now offsets.old blocks.old objects.now file.old)
         (λ plan. file.new ≡ file_with site plan sizes.now objects.now file.old) }
-    ensures offsets_listed { OnOk result (offsets.new
-        ≡ put offsets.old 0 (plan_offsets fixed site.offset_size sizes.now)) }
-    ensures blocks_listed { OnOk result (blocks.new
-        ≡ put blocks.old 0 (plan_starts fixed site.offset_size sizes.now)) }
+    ensures lists { OnOk result (ListsHavePlan site.offset_size sizes.now
+        offsets.old offsets.new blocks.old blocks.new) }
     ensures untouched { OnErr result ((offsets.new ≡ offsets.old) × (blocks.new ≡ blocks.old)
         × (file.new ≡ file.old)) }
 {
@@ -69,12 +64,10 @@ pub fn write_and_fetch(
         (slice_index sizes.now i) }
     ensures comes_back { OnOk result (found.new
         ≡ part_of sizes.now objects.now i ++ drop (slice_index sizes.now i) found.old) }
-    ensures written { IfOk (serialized_in site sizes.now offsets.old blocks.old objects.now file.old)
+    ensures region_in_file { IfOk (serialized_in site sizes.now offsets.old blocks.old objects.now file.old)
         (λ plan. file.new ≡ file_with site plan sizes.now objects.now file.old) }
-    ensures offsets_listed { OnOk result (offsets.new
-        ≡ put offsets.old 0 (plan_offsets fixed site.offset_size sizes.now)) }
-    ensures blocks_listed { OnOk result (blocks.new
-        ≡ put blocks.old 0 (plan_starts fixed site.offset_size sizes.now)) }
+    ensures lists { OnOk result (ListsHavePlan site.offset_size sizes.now
+        offsets.old offsets.new blocks.old blocks.new) }
     ensures untouched { OnErr result ((offsets.new ≡ offsets.old) × (blocks.new ≡ blocks.old)
         × (file.new ≡ file.old) × (found.new ≡ found.old)) }
 {

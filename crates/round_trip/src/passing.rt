@@ -1,12 +1,9 @@
 //! Written, then anything may happen to the file, then read: what is read is what the file has then.
 ghost use Rattle.std.specs.Prelude.{◌≡◌, ℕ, ◌<◌, ◌≤◌, ◌++◌, List, length, take, drop, slice_index, Ok, IfOk, OnOk, OnErr};
-ghost use Rattle.fields.specs.LittleEndian.{put};
-ghost use Rattle.table.specs.Table.{fixed};
-ghost use Rattle.planner.specs.Steps.{plan_offsets, plan_starts};
 ghost use Rattle.region_write.specs.Region.{region};
 ghost use Rattle.heap_kept.specs.HeapKept.{part_of};
 ghost use Rattle.heap_kept.specs.Kept.{IsFetched};
-ghost use Rattle.round_trip.specs.InFile.{serialized_in, file_with};
+ghost use Rattle.round_trip.specs.InFile.{serialized_in, file_with, ListsHavePlan};
 ghost use Rattle.round_trip.specs.Passed.{object_in, fetched_in, counted_in};
 
 use crate::by_id::{early_id, header_of};
@@ -26,7 +23,7 @@ pub trait Passing {
         ensures { file.new ≡ passed file.old };
 }
 
-/// Nothing.
+/// The passing by which nothing happens to the file: for callers that read at once what they wrote.
 pub struct Untouched;
 
 impl Passing for Untouched {
@@ -48,10 +45,8 @@ fn serialize_and_pass<P: Passing>(
         ≡ serialized_in site sizes.now offsets.old blocks.old objects.now file.old }
     ensures passed { IfOk result
         (λ plan. file.new ≡ P.passed (file_with site plan sizes.now objects.now file.old)) }
-    ensures offsets_listed { OnOk result (offsets.new
-        ≡ put offsets.old 0 (plan_offsets fixed site.offset_size sizes.now)) }
-    ensures blocks_listed { OnOk result (blocks.new
-        ≡ put blocks.old 0 (plan_starts fixed site.offset_size sizes.now)) }
+    ensures lists { OnOk result (ListsHavePlan site.offset_size sizes.now
+        offsets.old offsets.new blocks.old blocks.new) }
     ensures untouched { OnErr result ((offsets.new ≡ offsets.old) × (blocks.new ≡ blocks.old)
         × (file.new ≡ file.old)) }
 {
@@ -96,10 +91,8 @@ pub fn fetch_after<P: Passing>(
 
     ensures passed { IfOk (serialized_in site sizes.now offsets.old blocks.old objects.now file.old)
         (λ plan. file.new ≡ P.passed (file_with site plan sizes.now objects.now file.old)) }
-    ensures offsets_listed { OnOk (serialized_in site sizes.now offsets.old blocks.old objects.now file.old)
-        (offsets.new ≡ put offsets.old 0 (plan_offsets fixed site.offset_size sizes.now)) }
-    ensures blocks_listed { OnOk (serialized_in site sizes.now offsets.old blocks.old objects.now file.old)
-        (blocks.new ≡ put blocks.old 0 (plan_starts fixed site.offset_size sizes.now)) }
+    ensures lists { OnOk (serialized_in site sizes.now offsets.old blocks.old objects.now file.old)
+        (ListsHavePlan site.offset_size sizes.now offsets.old offsets.new blocks.old blocks.new) }
     ensures untouched { OnErr (serialized_in site sizes.now offsets.old blocks.old objects.now file.old)
         ((offsets.new ≡ offsets.old) × (blocks.new ≡ blocks.old) × (file.new ≡ file.old)) }
 {
@@ -125,10 +118,8 @@ pub fn count_after<P: Passing>(
 
     ensures passed { IfOk (serialized_in site sizes.now offsets.old blocks.old objects.now file.old)
         (λ plan. file.new ≡ P.passed (file_with site plan sizes.now objects.now file.old)) }
-    ensures offsets_listed { OnOk result (offsets.new
-        ≡ put offsets.old 0 (plan_offsets fixed site.offset_size sizes.now)) }
-    ensures blocks_listed { OnOk result (blocks.new
-        ≡ put blocks.old 0 (plan_starts fixed site.offset_size sizes.now)) }
+    ensures lists { OnOk result (ListsHavePlan site.offset_size sizes.now
+        offsets.old offsets.new blocks.old blocks.new) }
     ensures untouched { OnErr result ((offsets.new ≡ offsets.old) × (blocks.new ≡ blocks.old)
         × (file.new ≡ file.old)) }
 {

@@ -20,7 +20,7 @@ use Rattle.ids.specs.Decoded.{decoded_id}
 use Rattle.ids.specs.Tiny.{tiny_at}
 use Rattle.fractal_heap.specs.declared.header.FractalHeapHeader.{FractalHeapHeader}
 use Rattle.fractal_heap.specs.Read.{managed_at}
-use Rattle.heap_kept.specs.HeapKept.{Call, Written, HoldsRegion, HeaderOf, offset_of}
+use Rattle.heap_kept.specs.HeapKept.{Call, WriterAccepts, HoldsRegion, IsHeaderOf, offset_of}
 
 -- the fixed geometry as a header has it
 abbrev pub fixed_table : DoublingTable
@@ -60,9 +60,9 @@ call_for w xs js header address offsets blocks region =
 pub record Unfound (w : ℕ) (xs : List ℕ) (i : ℕ) : Type 0 where
   pub there : i < length xs
   pub empty : slice_index xs i ≡ 0
-  pub read : (js : List ℕ) (header address offsets blocks region : ℕ) (p : ManagedPlan) → Written (call_for w xs js header address offsets blocks region) p
+  pub read : (js : List ℕ) (header address offsets blocks region : ℕ) (p : ManagedPlan) → WriterAccepts (call_for w xs js header address offsets blocks region) p
       → (file : List ℕ) → HoldsRegion file (call_for w xs js header address offsets blocks region) p
-      → (h : FractalHeapHeader) → HeaderOf h (call_for w xs js header address offsets blocks region) p
+      → (h : FractalHeapHeader) → IsHeaderOf h (call_for w xs js header address offsets blocks region) p
       → managed_at h file (managed_id fixed (offset_of w xs i) 0) w ≡ Err (UnexpectedEof (offset_of w xs i) (length file))
 
 abbrev pub Holds : Case → Type 0

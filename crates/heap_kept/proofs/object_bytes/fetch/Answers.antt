@@ -1,5 +1,5 @@
 -- What is left of `fetch`: by the theorem what is found is the object that was given the ID.
-use Rattle.std.proofs.Common.{ℕ, ◌∙◌, ap, ap₂, arith, List, ◌++◌, drop, Ok}
+use Rattle.std.proofs.Common.{ℕ, List, ◌++◌, drop, Ok, ap, ap₂, ◌∙◌, arith}
 use Rattle.heap_kept.proofs.Keeping.{kept, number-is, bytes-are, no-place}
 use Rattle.heap_kept.proofs.object_bytes.fetch.Goals as goal
 
@@ -16,6 +16,6 @@ returns-clause-kept c s p k i H I l =
     let P = kept _ _ _ _ _ c.in_ok-place.ensures.value s p k i H I in
     let n = number-is P in
     record {
-      accepted = ap (λ (x : ℕ). Ok x) n;
-      copied = ap₂ (λ (y : List ℕ) (x : ℕ). y ++ drop x c.args.found.now) (c.copy_from_slice.ensures.after ∙ bytes-are P _ (omega arith)) n;
+      length_answered = ap (λ (x : ℕ). Ok x) n;
+      bytes_copied = ap₂ (λ (y : List ℕ) (x : ℕ). y ++ drop x c.args.found.now) (c.copy_from_slice.ensures.after ∙ bytes-are P _ (omega arith)) n;
     }

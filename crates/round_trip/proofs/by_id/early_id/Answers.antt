@@ -1,5 +1,5 @@
 -- What is left of `early_id`: the object has an offset by the plan, and the ID writer decides.
-use Rattle.std.proofs.Common.{rules, refl, sym, ap, ◌∙◌, Ok}
+use Rattle.std.proofs.Common.{Ok, refl, sym, ap, ◌∙◌, rules}
 use Rattle.round_trip.proofs.Early.{placed, decided}
 use Rattle.round_trip.proofs.ReadBack.{id_written}
 use Rattle.round_trip.proofs.by_id.early_id.Goals as goal

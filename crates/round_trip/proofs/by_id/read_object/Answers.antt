@@ -1,5 +1,5 @@
 -- What is left of `read_object`: by the ID that was written the header reads the object.
-use Rattle.std.proofs.Common.{List, ℕ, refl, sym, ap, ◌∙◌}
+use Rattle.std.proofs.Common.{ℕ, List, refl, sym, ap, ◌∙◌}
 use Rattle.fractal_heap.specs.Read.{managed_at}
 use Rattle.round_trip.proofs.ReadBack.{id_written, read-by}
 use Rattle.round_trip.proofs.by_id.read_object.Goals as goal
