@@ -1,6 +1,7 @@
 -- What C finds in the slot: the place of an object that was found, the pair of an ID that was written.
 use Rattle.std.proofs.Common.{◌≡◌, ℕ, ◌+◌, ◌^◌, ◌<◌, ◌≤◌, false, List, ◌++◌, length, take, drop, nat_lt, Result, Ok}
-use Rattle.std.proofs.Common.{refl, sym, ap, ◌∙◌, subst₂, arith, mod-eq_of_lt, length-take, length-drop, take_at, drop_at}
+use Rattle.std.proofs.Common.{refl, sym, ap, ◌∙◌, subst₂, arith, mod-eq_of_lt, length-take, length-drop, take_at}
+use Rattle.std.proofs.Common.{drop_at}
 use Rattle.std.proofs.lemmas.Bool.Decides.{nat_tests}
 use Rattle.fields.specs.LittleEndian.{le, value, le_at}
 use Rattle.fields.proofs.LittleEndian.{length-le, value-le}
@@ -41,14 +42,16 @@ module _ (slot : List ℕ) (a n : ℕ) where
       ∙ mod-eq_of_lt l
 
 -- two values that are answered with 0, in a slot that has room for them
-named : (slot : List ℕ) (a n : ℕ) → 16 ≤ length slot → a < 2 ^ 64 → n < 2 ^ 64 → NamesPair (slot_number slot (answer 0 a n)) (slot_bytes slot (answer 0 a n)) a n
+named : (slot : List ℕ) (a n : ℕ) → 16 ≤ length slot → a < 2 ^ 64 → n < 2 ^ 64
+    → NamesPair (slot_number slot (answer 0 a n)) (slot_bytes slot (answer 0 a n)) a n
 unfolding slot_number slot_bytes
 named slot a n room l m =
     let long : nat_lt (length slot) 16 ≡ false = grind (arith, nat_tests, room) in
     rw long (record { answers_zero = refl; names_offset = first slot a n l; names_length = second slot a n m })
 
 -- some bytes that are there end in the file
-pub in-file : (a : ℕ) (file bytes : List ℕ) → 0 < length bytes → take (length bytes) (drop a file) ≡ bytes → a + length bytes ≤ length file
+pub in-file : (a : ℕ) (file bytes : List ℕ) → 0 < length bytes → take (length bytes) (drop a file) ≡ bytes
+    → a + length bytes ≤ length file
 in-file a file bytes s e = omega (arith, ap length e, length-take (length bytes) (drop a file), length-drop a file)
 
 -- what the ID writer accepts is small enough for an ID
@@ -56,7 +59,8 @@ small : {id : List ℕ} {offset len : ℕ} → IsWrittenId id offset len → (of
 unfolding offset_bytes
 small I = let e = I.writer_accepts in (grind (arith, nat_tests), grind (arith, nat_tests))
 
-module _ (slot file id : List ℕ) (at offset_size length_size : ℕ) {new : List ℕ} {result : ℕ} {header : FractalHeapHeader}
+module _ (slot file id : List ℕ) (at offset_size length_size : ℕ) {new : List ℕ} {result : ℕ}
+    {header : FractalHeapHeader}
     (g : header_at file at offset_size length_size ≡ Ok header) where
   -- what C is answered of an object where the header parses
   pub names-kept : length file < 2 ^ 64
@@ -66,12 +70,14 @@ module _ (slot file id : List ℕ) (at offset_size length_size : ℕ) {new : Lis
   names-kept few u v c p k i H I room =
       let bytes : List ℕ = part_of c.sizes c.objects i in
       let found : object_by file at offset_size length_size id offset_size ≡ managed_at header file id offset_size =
-      ap (λ (r : Result FractalHeapHeader FormatError). r >>= λ (x : FractalHeapHeader). managed_at x file id offset_size) g in
+      ap (λ (r : Result FractalHeapHeader FormatError). r >>= λ (x : FractalHeapHeader).
+      managed_at x file id offset_size) g in
       let P = kept header file offset_size id _ found c p k i H I in
       let s = in-file P.position file bytes (omega (arith, size-is H I, I.not_empty)) P.bytes_there in
       let q = ap (report_of place_report) P.place_found in
       let N = named slot P.position (length bytes) room (omega (arith, s, few)) (omega (arith, s, few)) in
-      subst₂ (λ (n : ℕ) (t : List ℕ). NamesPlace n t file bytes) (sym (u ∙ ap (slot_number slot) q)) (sym (v ∙ ap (slot_bytes slot) q))
+      subst₂ (λ (n : ℕ) (t : List ℕ). NamesPlace n t file bytes) (sym (u ∙ ap (slot_number slot) q))
+      (sym (v ∙ ap (slot_bytes slot) q))
       (record {
         answers_zero = N.answers_zero;
         names_length = N.names_length;
@@ -86,8 +92,10 @@ module _ (slot file id : List ℕ) (at offset_size length_size : ℕ) {new : Lis
   names-pair bits u v offset len I room =
       let S = small I in
       let decoded : id_by file at offset_size length_size id ≡ Ok (record { offset = offset; length = len }) =
-      ap (λ (r : Result FractalHeapHeader FormatError). r >>= λ (x : FractalHeapHeader). decoded_id x.table.max_heap_size id) g
+      ap (λ (r : Result FractalHeapHeader FormatError). r >>= λ (x : FractalHeapHeader).
+      decoded_id x.table.max_heap_size id) g
       ∙ (λ j. decoded_id (bits j) (I.id_written j)) ∙ decodes offset len S.0 S.1 in
       let q = ap (report_of id_report) decoded in
-      subst₂ (λ (n : ℕ) (t : List ℕ). NamesPair n t offset len) (sym (u ∙ ap (slot_number slot) q)) (sym (v ∙ ap (slot_bytes slot) q))
+      subst₂ (λ (n : ℕ) (t : List ℕ). NamesPair n t offset len) (sym (u ∙ ap (slot_number slot) q))
+      (sym (v ∙ ap (slot_bytes slot) q))
       (named slot offset len room (omega (arith, S.0)) (omega (arith, S.1)))

@@ -1,6 +1,6 @@
 -- By an ID that an object was given, early or at the end, the reader finds the object.
-use Rattle.std.proofs.Common.{◌≡◌, ℕ, ◌+◌, ◌<◌, List, length, take, drop, slice_index, Result, Ok, Err, sym, ap, ◌∙◌, subst, subst₂, arith, length-drop, length-take-le, take_all, get_or-take}
-use Rattle.table.specs.Table.{fixed}
+use Rattle.std.proofs.Common.{◌≡◌, ℕ, ◌+◌, ◌<◌, List, length, take, drop, slice_index, Result, Ok, Err, sym, ap, ◌∙◌}
+use Rattle.std.proofs.Common.{subst, subst₂, arith, length-drop, length-take-le, take_all}
 use Rattle.numbers.specs.Sums.{sum}
 use Rattle.numbers.proofs.Sums.{sum-take-suc, sum-take-le}
 use Rattle.plan.specs.declared.ManagedPlan.{ManagedPlan}
@@ -8,13 +8,13 @@ use Rattle.refusals.specs.declared.FormatError.{FormatError}
 use Rattle.fields.specs.declared.place.Place.{Place}
 use Rattle.fractal_heap.specs.declared.header.FractalHeapHeader.{FractalHeapHeader}
 use Rattle.fractal_heap.specs.Read.{managed_at}
-use Rattle.ids.specs.Written.{managed_id}
 use Rattle.heap_kept.specs.HeapKept.{Call, ObjectComesBack, object_id, part_of}
 use Rattle.heap_kept.proofs.FromRoot.{tests}
 use Rattle.heap_kept.proofs.Theorem.{heap-kept, early-id-holds}
 use Rattle.heap_kept.specs.Kept.{HoldsHeap, IsIdOf, ForKept, IsPlaceOf}
 
-module _ {h : FractalHeapHeader} {file : List ℕ} {w : ℕ} {id : List ℕ} {c : Call} {p : ManagedPlan} {k i : ℕ} (H : HoldsHeap h file w c p) (I : IsIdOf id c k i) where
+module _ {h : FractalHeapHeader} {file : List ℕ} {w : ℕ} {id : List ℕ} {c : Call} {p : ManagedPlan} {k i : ℕ}
+    (H : HoldsHeap h file w c p) (I : IsIdOf id c k i) where
   abbrev wc : ℕ
   wc = c.site.offset_size
 
@@ -41,7 +41,7 @@ module _ {h : FractalHeapHeader} {file : List ℕ} {w : ℕ} {id : List ℕ} {c 
       let a = sum-take-suc c.sizes i among in
       let b = sum-take-le c.sizes (i + 1) (i + length c.sizes) (omega (arith, among)) in
       let d = ap sum (take_all (i + length c.sizes) c.sizes (omega arith)) in
-      let e = (tests c p H.writer_accepts).bytes in
+      let e = (tests H.writer_accepts).bytes in
       let g = length-drop s c.objects in
       length-take-le size (drop s c.objects) (omega arith)
 
@@ -50,14 +50,19 @@ module _ {h : FractalHeapHeader} {file : List ℕ} {w : ℕ} {id : List ℕ} {c 
       record {
         position = back.position;
         place_found =
-            subst₂ (λ (v : ℕ) (y : List ℕ). managed_at h file y v ≡ Ok (record { position = back.position; length = length (part_of c.sizes c.objects i) })) (sym H.offset_size_is) (sym id-now)
-            (back.reader_accepts ∙ ap (λ (n : ℕ). let q : Place = record { position = back.position; length = n } in Ok q) (sym size-is));
+            subst₂ (λ (v : ℕ) (y : List ℕ). managed_at h file y v
+            ≡ Ok (record { position = back.position; length = length (part_of c.sizes c.objects i) }))
+            (sym H.offset_size_is) (sym id-now)
+            (back.reader_accepts ∙ ap (λ (n : ℕ). let q : Place = record { position = back.position; length = n } in
+            Ok q) (sym size-is));
         bytes_there = ap (λ (n : ℕ). take n (drop back.position file)) size-is ∙ back.bytes_there;
       }
 
 -- what the reader answers by an ID that an object was given
-pub kept : (h : FractalHeapHeader) (file : List ℕ) (w : ℕ) (id : List ℕ) (r : Result Place FormatError) → r ≡ managed_at h file id w → ForKept h file w id (λ bytes. IsPlaceOf r file bytes)
-kept h file w id r e c p k i H I = subst (λ (x : Result Place FormatError). IsPlaceOf x file (part_of c.sizes c.objects i)) (sym e) (place H I)
+pub kept : (h : FractalHeapHeader) (file : List ℕ) (w : ℕ) (id : List ℕ) (r : Result Place FormatError)
+    → r ≡ managed_at h file id w → ForKept h file w id (λ bytes. IsPlaceOf r file bytes)
+kept h file w id r e c p k i H I =
+    subst (λ (x : Result Place FormatError). IsPlaceOf x file (part_of c.sizes c.objects i)) (sym e) (place H I)
 
 -- a place that is answered
 module _ {q : Place} {file bytes : List ℕ} (P : IsPlaceOf (Ok q) file bytes) where
@@ -67,7 +72,8 @@ module _ {q : Place} {file bytes : List ℕ} (P : IsPlaceOf (Ok q) file bytes) w
   pub bytes-are : (m : ℕ) → m ≡ q.length → take m (drop q.position file) ≡ bytes
   bytes-are m e =
       let u : q.position ≡ P.position = (let f = P.place_found in grind arith) in
-      ap (λ (x : ℕ). take x (drop q.position file)) (e ∙ number-is) ∙ ap (λ (x : ℕ). take (length bytes) (drop x file)) u ∙ P.bytes_there
+      ap (λ (x : ℕ). take x (drop q.position file)) (e ∙ number-is)
+      ∙ ap (λ (x : ℕ). take (length bytes) (drop x file)) u ∙ P.bytes_there
 
 -- a refusal is no place
 pub no-place : {e : FormatError} {file bytes : List ℕ} → IsPlaceOf (Err e) file bytes → ⊥

@@ -1,5 +1,7 @@
 -- Laws of the count of what comes back, object by object.
-use Rattle.std.proofs.Common.{◌≡◌, ℕ, ◌+◌, ◌-◌, ◌<◌, ◌≤◌, min, Bool, true, false, List, [], ◌∷◌, length, take, drop, slice_index, refl, sym, ap, ◌∙◌, arith, add-one, drop_of_length-le, length-drop, drop-cons, drop-drop}
+use Rattle.std.proofs.Common.{◌≡◌, ℕ, ◌+◌, ◌-◌, ◌<◌, ◌≤◌, min, Bool, true, false, List, [], ◌∷◌, length, take, drop}
+use Rattle.std.proofs.Common.{slice_index, refl, sym, ap, ◌∙◌, arith, add-one, drop_of_length-le, length-drop}
+use Rattle.std.proofs.Common.{drop-cons, drop-drop}
 use Rattle.std.proofs.Math.Decide.{dec_le}
 use Rattle.std.proofs.Math.Logic.{dite}
 use Rattle.numbers.specs.Sums.{bit}
@@ -33,13 +35,15 @@ module _ (h : FractalHeapHeader) (s : List ℕ) (w : ℕ) (xs os js : List ℕ) 
   none-back (y ∷ ys) ks = refl
 
   -- from one object to the next
-  back-next : (i f e : ℕ) → i < length xs → i < length os → f ≤ length js → e ≡ min (f + slice_index xs i) (length js) → left i f ≡ this i f e + left (i + 1) e
+  back-next : (i f e : ℕ) → i < length xs → i < length os → f ≤ length js
+      → e ≡ min (f + slice_index xs i) (length js) → left i f ≡ this i f e + left (i + 1) e
   unfolding returned_count
   back-next i f e l m k d =
       let x : ℕ = slice_index xs i in
       let n : e - f ≡ min x (length (drop f js)) = rw (length-drop f js) (omega arith) in
       let taken : take (e - f) (drop f js) ≡ take x (drop f js) = rw n (take_min x (drop f js)) in
-      let dropped : drop e js ≡ drop x (drop f js) = ap (λ (q : ℕ). drop q js) d ∙ drop_min (f + x) js ∙ sym (drop-drop x f js) in
+      let dropped : drop e js ≡ drop x (drop f js) = ap (λ (q : ℕ). drop q js) d ∙ drop_min (f + x) js
+      ∙ sym (drop-drop x f js) in
       rw (taken, dropped, drop-cons xs i 0 l, drop-cons os i 0 m, add-one i)
 
   back_end : (i f : ℕ) → min (length xs) (length os) ≤ i → left i f ≡ 0
@@ -51,18 +55,21 @@ module _ (h : FractalHeapHeader) (s : List ℕ) (w : ℕ) (xs os js : List ℕ) 
 
 -- ---- the loop over the objects
 
-module _ {h : FractalHeapHeader} {s : List ℕ} {w : ℕ} {xs os js : List ℕ} {back from i : ℕ} (I : Counting h s w xs os js back from i) where
+module _ {h : FractalHeapHeader} {s : List ℕ} {w : ℕ} {xs os js : List ℕ} {back from i : ℕ}
+    (I : Counting h s w xs os js back from i) where
   pub counting-end : min (length xs) (length os) ≤ i → back ≡ returned_count h s w xs os js
   counting-end l =
       let none = back_end h s w xs os js i from l in
       let all = I.rest in
       omega arith
 
-  module _ (l : i < min (length xs) (length os)) {e n : ℕ} (d : e ≡ min (from + slice_index xs i) (length js)) (q : n ≡ this h s w xs os js i from e) where
+  module _ (l : i < min (length xs) (length os)) {e n : ℕ} (d : e ≡ min (from + slice_index xs i) (length js))
+      (q : n ≡ this h s w xs os js i from e) where
     pub one_more : back + n ≤ i + 1
     one_more =
         let a = I.few in
-        let m : this h s w xs os js i from e ≤ 1 = bit_most (comes_back h s w (slice_index os i) (slice_index xs i) (take (e - from) (drop from js))) in
+        let m : this h s w xs os js i from e ≤ 1 =
+        bit_most (comes_back h s w (slice_index os i) (slice_index xs i) (take (e - from) (drop from js))) in
         omega arith
 
     pub counting-next : Counting h s w xs os js (back + n) e (i + 1)

@@ -16,7 +16,8 @@ use Rattle.ids.specs.Checks.{id_checked}
 use Rattle.heap_kept.specs.HeapKept.{offset_of}
 use Rattle.round_trip.specs.Early.{early_id}
 
-module _ (xs os left : List ℕ) (i o b w : ℕ) (p : ManagedPlan) (e : planned_for xs o b w ≡ Ok p) (l : i < length xs) (f : left ≡ put os 0 (plan_offsets fixed w xs)) where
+module _ (xs os left : List ℕ) (i o b w : ℕ) (p : ManagedPlan) (e : planned_for xs o b w ≡ Ok p) (l : i < length xs)
+    (f : left ≡ put os 0 (plan_offsets fixed w xs)) where
   many : length (plan_offsets fixed w xs) ≡ length xs
   many = (tallied xs o b w p e).offsets
 
@@ -24,10 +25,19 @@ module _ (xs os left : List ℕ) (i o b w : ℕ) (p : ManagedPlan) (e : planned_
   lists = f ∙ put_front os (plan_offsets fixed w xs)
 
   pub placed : i < length left
-  placed = omega (arith, l, many, ap length lists, length-append (plan_offsets fixed w xs) (drop (length (plan_offsets fixed w xs)) os))
+  placed = omega (
+    arith,
+    l,
+    many,
+    ap length lists,
+    length-append (plan_offsets fixed w xs)
+        (drop (length (plan_offsets fixed w xs)) os),
+  )
 
   offset-is : slice_index left i ≡ offset_of w xs i
-  offset-is = ap (λ (v : List ℕ). slice_index v i) lists ∙ get_or-append (plan_offsets fixed w xs) (drop (length (plan_offsets fixed w xs)) os) 0 i (omega (arith, l, many))
+  offset-is = ap (λ (v : List ℕ). slice_index v i) lists
+      ∙ get_or-append (plan_offsets fixed w xs) (drop (length (plan_offsets fixed w xs)) os) 0 i
+      (omega (arith, l, many))
 
   -- where planning accepts the ID writer decides
   pub decided : (r : Result (Unit {0}) FormatError) → r ≡ id_checked fixed (slice_index left i) (slice_index xs i) 8
@@ -35,5 +45,7 @@ module _ (xs os left : List ℕ) (i o b w : ℕ) (p : ManagedPlan) (e : planned_
   unfolding early_id offset_bytes
   decided r d =
       rw e
-      (ap (λ (x : ℕ). id_checked fixed x (slice_index xs i) 8 >>= λ _. Ok (managed_id fixed x (slice_index xs i))) (sym offset-is)
-      ∙ ap (λ (t : Result (Unit {0}) FormatError). t >>= λ _. Ok (managed_id fixed (slice_index left i) (slice_index xs i))) (sym d))
+      (ap (λ (x : ℕ). id_checked fixed x (slice_index xs i) 8 >>= λ _. Ok (managed_id fixed x (slice_index xs i)))
+      (sym offset-is)
+      ∙ ap (λ (t : Result (Unit {0}) FormatError). t >>= λ _.
+      Ok (managed_id fixed (slice_index left i) (slice_index xs i))) (sym d))

@@ -27,7 +27,8 @@ use Rattle.round_trip.proofs.WholeWay.{Accepted, call_in, accepted, header_is}
 front-again : (all front later old : List ℕ) → all ≡ front ++ later → put (put old 0 all) 0 front ≡ put old 0 all
 front-again all front later old e =
     put_front (put old 0 all) front
-    ∙ ap (λ (l : List ℕ). front ++ drop (length front) l) (put_front old all ∙ ap (λ (l : List ℕ). l ++ drop (length all) old) e ∙ append_assoc front later (drop (length all) old))
+    ∙ ap (λ (l : List ℕ). front ++ drop (length front) l) (put_front old all
+    ∙ ap (λ (l : List ℕ). l ++ drop (length all) old) e ∙ append_assoc front later (drop (length all) old))
     ∙ ap (λ (l : List ℕ). front ++ l) (drop_at front (later ++ drop (length all) old) (length front) refl)
     ∙ sym (append_assoc front later (drop (length all) old))
     ∙ ap (λ (l : List ℕ). l ++ drop (length all) old) (sym e)
@@ -41,7 +42,8 @@ pub record Drawn (xs os bs : List ℕ) (k i o b : ℕ) : Type 0 where
   pub offset_places : o ≡ length os
   pub block_places : b ≡ length bs
 
-pub drawn : {xs os bs : List ℕ} {k i o b : ℕ} → i < k → k ≤ length xs → 0 < slice_index xs i → o ≡ length os → b ≡ length bs → Drawn xs os bs k i o b
+pub drawn : {xs os bs : List ℕ} {k i o b : ℕ} → i < k → k ≤ length xs → 0 < slice_index xs i → o ≡ length os
+    → b ≡ length bs → Drawn xs os bs k i o b
 drawn l m s u v = record { index = l; front = m; not_empty = s; offset_places = u; block_places = v }
 
 module _ {xs js os bs F : List ℕ} {site : Site} {p : ManagedPlan} (A : Accepted xs js os bs F site p) where
@@ -52,10 +54,11 @@ module _ {xs js os bs F : List ℕ} {site : Site} {p : ManagedPlan} (A : Accepte
   call = call_in xs js site os bs F
 
   plans : planned_for xs (length os) (length bs) w ≡ Ok p
-  plans = planned call p (accepted A)
+  plans = planned (accepted A)
 
   -- a file that still holds the region holds the heap
-  pub holds : {h : FractalHeapHeader} {G : List ℕ} → h ≡ header_of site p → HoldsRegion G call p → HoldsHeap h G w call p
+  pub holds : {h : FractalHeapHeader} {G : List ℕ} → h ≡ header_of site p → HoldsRegion G call p
+      → HoldsHeap h G w call p
   holds k r =
       record {
         writer_accepts = accepted A;
@@ -64,13 +67,15 @@ module _ {xs js os bs F : List ℕ} {site : Site} {p : ManagedPlan} (A : Accepte
         offset_size_is = refl;
       }
 
-  pub its-id : {k i : ℕ} {id : List ℕ} → i < k → k ≤ length xs → 0 < slice_index xs i → id ≡ object_id w (take k xs) i → IsIdOf id call k i
+  pub its-id : {k i : ℕ} {id : List ℕ} → i < k → k ≤ length xs → 0 < slice_index xs i
+      → id ≡ object_id w (take k xs) i → IsIdOf id call k i
   its-id l m s d = record { index = l; front = m; not_empty = s; id_given = d }
 
   module _ {k i o b : ℕ} (D : Drawn xs os bs k i o b) where
     accepted-id : id_checked fixed (offset_of w (take k xs) i) (slice_index (take k xs) i) 8 ≡ Ok tt
     accepted-id =
-        (early-id-holds call p (accepted A) (file_with site p xs js F) (holds-there (accepted A) F refl) (header_of site p) (header_is A) k i D.index
+        (early-id-holds call p (accepted A) (file_with site p xs js F) (holds-there (accepted A) F refl)
+        (header_of site p) (header_is A) k i D.index
         (omega (arith, D.index, D.front)) D.not_empty).comes_back.id_accepted
         8 (omega arith)
 
@@ -96,14 +101,18 @@ module _ {xs js os bs F : List ℕ} {site : Site} {p : ManagedPlan} (A : Accepte
         let P = front-parts-fit xs (length os) (length bs) w p plans k in
         record {
           offsets_listed =
-              x ∙ (λ j. written (planned_for (take k xs) (D.offset_places j) (D.block_places j) w) (plan_offsets fixed w (take k xs)) (L.offsets_listed j))
+              x ∙ (λ j. written (planned_for (take k xs) (D.offset_places j) (D.block_places j) w)
+              (plan_offsets fixed w (take k xs)) (L.offsets_listed j))
               ∙ rw (P.accepted, P.same-offsets)
-              (front-again (plan_offsets fixed w xs) (take k (plan_offsets fixed w xs)) (drop k (plan_offsets fixed w xs)) os
+              (front-again (plan_offsets fixed w xs) (take k (plan_offsets fixed w xs))
+              (drop k (plan_offsets fixed w xs)) os
               (sym (take-append-drop k (plan_offsets fixed w xs))));
           blocks_listed =
-              y ∙ (λ j. written (planned_for (take k xs) (D.offset_places j) (D.block_places j) w) (plan_starts fixed w (take k xs)) (L.blocks_listed j))
+              y ∙ (λ j. written (planned_for (take k xs) (D.offset_places j) (D.block_places j) w)
+              (plan_starts fixed w (take k xs)) (L.blocks_listed j))
               ∙ rw (P.accepted)
-              (front-again (plan_starts fixed w xs) (plan_starts fixed w (take k xs)) P.later bs (P.same_blocks (omega (arith, D.index))));
+              (front-again (plan_starts fixed w xs) (plan_starts fixed w (take k xs)) P.later bs
+              (P.same_blocks (omega (arith, D.index))));
         }
 
 -- a value that is answered, whatever it is

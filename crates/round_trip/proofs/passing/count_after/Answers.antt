@@ -18,5 +18,8 @@ returns-clause-answer g c =
     let a = c.args in
     let n = c.serialize_and_pass.new in
     let A = accepts c.in_ok-plan.ensures.answer in
-    ap Ok (c.read_back.ensures ∙ (λ j. returned_count (c.header_of-header.ensures j) n.file a.site.offset_size a.sizes.now n.offsets a.objects.now))
-    ∙ ap (λ (r : Result ManagedPlan FormatError). counted_in r a.site a.sizes.now n.offsets a.objects.now n.file) (sym A.answer)
+    ap Ok (c.read_back.ensures
+    ∙ (λ j. returned_count (c.header_of-header.ensures j) n.file a.site.offset_size a.sizes.now n.offsets
+    a.objects.now))
+    ∙ ap (λ (r : Result ManagedPlan FormatError). counted_in r a.site a.sizes.now n.offsets a.objects.now n.file)
+    (sym A.answer)

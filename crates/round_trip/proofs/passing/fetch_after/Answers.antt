@@ -20,31 +20,38 @@ header_of-requires-clause-rows g c = rows-small (accepts c.in_ok-plan.ensures.an
 pub returns-in_err-id : goal.returns-in_err-id
 returns-in_err-id g c =
     absurd (not-refused (accepts c.in_ok-plan.ensures.answer)
-    (drawn c.requires.index c.requires.front c.requires.not_empty c.serialize_and_pass.auto.offsets c.serialize_and_pass.auto.blocks) c.in_err-id.ensures.answer)
+    (drawn c.requires.index c.requires.front c.requires.not_empty c.serialize_and_pass.auto.offsets
+    c.serialize_and_pass.auto.blocks) c.in_err-id.ensures.answer)
 
 pub returns-clause-answer : goal.returns-clause-answer
 returns-clause-answer g c =
     let A = accepts c.in_ok-plan.ensures.answer in
-    let D = drawn c.requires.index c.requires.front c.requires.not_empty c.serialize_and_pass.auto.offsets c.serialize_and_pass.auto.blocks in
+    let D = drawn c.requires.index c.requires.front c.requires.not_empty c.serialize_and_pass.auto.offsets
+    c.serialize_and_pass.auto.blocks in
     let d = given-is A D c.in_ok-id.ensures.answer in
     let file = c.serialize_and_pass.new.file in
     c.fetch.ensures.answer
     ∙ (λ j. fetched (managed_at (c.header_of.ensures j) file (d j) c.args.site.offset_size) (length c.args.found.now))
-    ∙ ap (λ (r : Result ManagedPlan FormatError). fetched_in r c.args.site c.args.sizes.now c.args.early c.args.i file (length c.args.found.now)) (sym A.answer)
+    ∙ ap (λ (r : Result ManagedPlan FormatError).
+    fetched_in r c.args.site c.args.sizes.now c.args.early c.args.i file (length c.args.found.now)) (sym A.answer)
 
 pub returns-clause-copied : goal.returns-clause-copied
 returns-clause-copied g c =
     let A = accepts c.in_ok-plan.ensures.answer in
-    let D = drawn c.requires.index c.requires.front c.requires.not_empty c.serialize_and_pass.auto.offsets c.serialize_and_pass.auto.blocks in
+    let D = drawn c.requires.index c.requires.front c.requires.not_empty c.serialize_and_pass.auto.offsets
+    c.serialize_and_pass.auto.blocks in
     let d = given-is A D c.in_ok-id.ensures.answer in
     let file = c.serialize_and_pass.new.file in
     if-accepted A _
-    (if-answered _ _ (λ place e. c.fetch.ensures.copied place ((λ j. managed_at (c.header_of.ensures j) file (d j) c.args.site.offset_size) ∙ e)))
+    (if-answered _ _ (λ place e.
+    c.fetch.ensures.copied place ((λ j. managed_at (c.header_of.ensures j) file (d j) c.args.site.offset_size)
+    ∙ e)))
 
 pub returns-clause-kept : goal.returns-clause-kept
 returns-clause-kept g c =
     let A = accepts c.in_ok-plan.ensures.answer in
-    let D = drawn c.requires.index c.requires.front c.requires.not_empty c.serialize_and_pass.auto.offsets c.serialize_and_pass.auto.blocks in
+    let D = drawn c.requires.index c.requires.front c.requires.not_empty c.serialize_and_pass.auto.offsets
+    c.serialize_and_pass.auto.blocks in
     let I = its-id A c.requires.index c.requires.front c.requires.not_empty (given-is A D c.in_ok-id.ensures.answer) in
     if-accepted A _
     (λ region room.
@@ -54,5 +61,7 @@ returns-clause-kept g c =
 pub returns-clause-lists : goal.returns-clause-lists
 returns-clause-lists g c =
     let A = accepts c.in_ok-plan.ensures.answer in
-    let D = drawn c.requires.index c.requires.front c.requires.not_empty c.serialize_and_pass.auto.offsets c.serialize_and_pass.auto.blocks in
-    on-accepted A (lists-stay A D c.in_ok-plan.ensures.lists c.early_id.ensures.offsets_after c.early_id.ensures.blocks_after)
+    let D = drawn c.requires.index c.requires.front c.requires.not_empty c.serialize_and_pass.auto.offsets
+    c.serialize_and_pass.auto.blocks in
+    on-accepted A (lists-stay A D c.in_ok-plan.ensures.lists c.early_id.ensures.offsets_after
+    c.early_id.ensures.blocks_after)
