@@ -12,7 +12,6 @@ use Rattle.refusals.specs.declared.FormatError.{FormatError}
 use Rattle.fields.specs.Places.{place_report}
 use Rattle.table.specs.Table.{fixed}
 use Rattle.table.specs.Sizes.{offset_bytes}
-use Rattle.ids.specs.Checks.{id_checked}
 use Rattle.ids.specs.Decoded.{decoded_id, id_report}
 use Rattle.ids.proofs.ReadBack.{decodes}
 use Rattle.fractal_heap.specs.declared.header.FractalHeapHeader.{FractalHeapHeader}
@@ -72,7 +71,7 @@ module _ (slot file id : List ℕ) (at offset_size length_size : ℕ) {new : Lis
       let found : object_by file at offset_size length_size id offset_size ≡ managed_at header file id offset_size =
       ap (λ (r : Result FractalHeapHeader FormatError). r >>= λ (x : FractalHeapHeader).
       managed_at x file id offset_size) g in
-      let P = kept header file offset_size id _ found c p k i H I in
+      let P = kept H I found in
       let s = in-file P.position file bytes (omega (arith, size-is H I, I.not_empty)) P.bytes_there in
       let q = ap (report_of place_report) P.place_found in
       let N = named slot P.position (length bytes) room (omega (arith, s, few)) (omega (arith, s, few)) in

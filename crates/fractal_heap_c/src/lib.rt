@@ -1,6 +1,7 @@
-//! What the loader calls: the checksum, the decoding of a managed ID, and reading. The last two parse the
-//! header at `at` first. Each returns the refusal's number, 0 where there is none, and puts the answer's
-//! two values into the first 16 bytes of the slot; a shorter slot gives 13 before all else.
+//! What the loader calls: the checksum, the decoding of a managed ID, and reading. The last two parse the header at
+//! `at` first. Each returns the refusal's number, 0 where there is none, and puts the answer's two values into the
+//! first 16 bytes of the slot; a shorter slot gives 13 before all else. `put_answer` tests the slot, after parsing
+//! and answering, so what is handed back for a short slot is 13 whatever the file is.
 #![tactic(auto)]
 
 ghost use Rattle.std.specs.Prelude.{◌≡◌, ◌≤◌, ℕ, length, Ok};
@@ -90,8 +91,8 @@ pub extern "C" fn fractal_heap_decode_managed_id(
 
 /// Position in the file and length of a managed object.
 ///
-/// Of a heap that our writer wrote, and by an ID that it gave, early in a run or at its end, the file has the object's
-/// bytes there.
+/// Of a heap that our writer wrote, and by an ID that it gave, early or at the end, the file has the object's bytes
+/// there.
 #[unsafe(no_mangle)]
 pub extern "C" fn fractal_heap_read_managed_object(
     file: &[u8],

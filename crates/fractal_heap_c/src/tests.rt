@@ -1,5 +1,5 @@
-//! What a caller gets by `fractal_heap_read_managed_object` and `fractal_heap_decode_managed_id`, said from their clauses
-//! `kept` alone, and so read from a file.
+//! What a caller gets by `fractal_heap_read_managed_object` and `fractal_heap_decode_managed_id`, said from their
+//! clauses `kept` alone, and so read from a file.
 ghost use Rattle.std.specs.Prelude.{◌≡◌, ℕ, Ok, Some, IsSomeAnd};
 ghost use Rattle.fractal_heap.specs.declared.header.FractalHeapHeader.{FractalHeapHeader};
 ghost use Rattle.fractal_heap.specs.Header.{header_at};
@@ -60,8 +60,8 @@ fn id_pair(file: &[u8], at: u64, offset_size: u8, length_size: u8, id: &[u8]) ->
     Some((read_u64_le(&slot, 0), read_u64_le(&slot, 8)))
 }
 
-// An unfiltered header at 0 of a heap with the fixed geometry, at an offset size and a length size of 8: the fields that
-// the reader heeds, by the HDF5 File Format Specification 3.0, III.G, 'Fractal Heap Header'.
+// An unfiltered header at 0 of a heap with the fixed geometry, at an offset size and a length size of 8: the fields
+// that the reader heeds, by the HDF5 File Format Specification 3.0, III.G, 'Fractal Heap Header'.
 fn header(root: u64, rows: u16) -> [u8; 146] {
     let mut header = [0u8; 146];
     header[..4].copy_from_slice(b"FRHP");

@@ -11,7 +11,7 @@ use Rattle.fractal_heap.specs.Read.{managed_at}
 use Rattle.heap_kept.specs.HeapKept.{Call, ObjectComesBack, object_id, part_of}
 use Rattle.heap_kept.proofs.FromRoot.{tests}
 use Rattle.heap_kept.proofs.Theorem.{heap-kept, early-id-holds}
-use Rattle.heap_kept.specs.Kept.{HoldsHeap, IsIdOf, ForKept, IsPlaceOf}
+use Rattle.heap_kept.specs.Kept.{HoldsHeap, IsIdOf, IsPlaceOf}
 
 module _ {h : FractalHeapHeader} {file : List ℕ} {w : ℕ} {id : List ℕ} {c : Call} {p : ManagedPlan} {k i : ℕ}
     (H : HoldsHeap h file w c p) (I : IsIdOf id c k i) where
@@ -35,7 +35,6 @@ module _ {h : FractalHeapHeader} {file : List ℕ} {w : ℕ} {id : List ℕ} {c 
 
   -- the object has all its bytes
   pub size-is : length (part_of c.sizes c.objects i) ≡ size
-  unfolding part_of
   size-is =
       let s : ℕ = sum (take i c.sizes) in
       let a = sum-take-suc c.sizes i among in
@@ -58,11 +57,9 @@ module _ {h : FractalHeapHeader} {file : List ℕ} {w : ℕ} {id : List ℕ} {c 
         bytes_there = ap (λ (n : ℕ). take n (drop back.position file)) size-is ∙ back.bytes_there;
       }
 
--- what the reader answers by an ID that an object was given
-pub kept : (h : FractalHeapHeader) (file : List ℕ) (w : ℕ) (id : List ℕ) (r : Result Place FormatError)
-    → r ≡ managed_at h file id w → ForKept h file w id (λ bytes. IsPlaceOf r file bytes)
-kept h file w id r e c p k i H I =
-    subst (λ (x : Result Place FormatError). IsPlaceOf x file (part_of c.sizes c.objects i)) (sym e) (place H I)
+  -- what the reader answers by this ID
+  pub kept : {r : Result Place FormatError} → r ≡ managed_at h file id w → IsPlaceOf r file (part_of c.sizes c.objects i)
+  kept e = subst (λ (x : Result Place FormatError). IsPlaceOf x file (part_of c.sizes c.objects i)) (sym e) place
 
 -- a place that is answered
 module _ {q : Place} {file bytes : List ℕ} (P : IsPlaceOf (Ok q) file bytes) where

@@ -104,7 +104,6 @@ module _ {c : Call} {p : ManagedPlan} (W : WriterAccepts c p) {F : List ℕ} (H 
         ∙ in_block F place its offset size (omega arith) (omega arith)
 
     bytes : take size (drop (place + (offset - its)) F) ≡ part_of xs js i
-    unfolding part_of
     bytes = go (ℕ_discrete size 0)
       where
         from_block : take size (drop (place + (offset - its)) F)
@@ -152,7 +151,6 @@ heap-kept = record { kept_apart = plan-kept; comes_back = λ c p W F H h T i l s
 -- an object's part of the joined bytes is among those of any longer run
 part-early : (xs js : List ℕ) (k i : ℕ) → length js ≡ sum xs → i < k → i < length xs
     → part_of (take k xs) (take (sum (take k xs)) js) i ≡ part_of xs js i
-unfolding part_of
 part-early xs js k i e l m =
     let s : ℕ = sum (take i xs) in
     let S : ℕ = sum (take k xs) in
@@ -175,7 +173,7 @@ pub early-id-holds : EarlyIdsHold
 early-id-holds c p W file H h T early i l m s =
     record {
       id_stays = ap₂ (managed_id fixed) offset-stays size_stays;
-      comes_back = rw (offset-stays, size_stays, part-early xs c.objects early i (sym (tests W).bytes) l m)
+      comes_back = rw (part-early xs c.objects early i (sym (tests W).bytes) l m, offset-stays, size_stays)
           (nonempty-back W H T m s);
     }
   where

@@ -39,7 +39,8 @@ lent_by call = record {
 pub record WriterAccepts (call : Call) (plan : ManagedPlan) : Type 0 where
   pub plan_answered : serialized_for call.sizes (lent_by call) call.site ≡ Ok plan
 
--- from the region address on the file holds the written region; its other bytes may be anything
+-- from the region address on the file holds what the contract of `serialize` says that the lent region holds then; its
+-- other bytes may be anything
 pub record HoldsRegion (file : List ℕ) (call : Call) (plan : ManagedPlan) : Type 0 where
   pub region_there :
       take plan.region_size (drop call.site.region_address file)
@@ -60,12 +61,13 @@ pub record IsHeaderOf (header : FractalHeapHeader) (call : Call) (plan : Managed
 abbrev pub offset_of : ℕ → List ℕ → ℕ → ℕ
 offset_of offset_size sizes i = slice_index (plan_offsets fixed offset_size sizes) i
 
--- the ID that the i-th object is given, by its heap offset and its size
+-- the ID that the i-th object is given, by its heap offset and its size: its eight bytes alone, since the reader takes
+-- a ninth into the length (docs/DIFFERENCES.md)
 abbrev pub object_id : ℕ → List ℕ → ℕ → List ℕ
 object_id offset_size sizes i = managed_id fixed (offset_of offset_size sizes i) (slice_index sizes i)
 
 -- the i-th object's part of the joined bytes, which begins at the sum of the sizes before it
-unfoldable pub part_of : List ℕ → List ℕ → ℕ → List ℕ
+abbrev pub part_of : List ℕ → List ℕ → ℕ → List ℕ
 part_of sizes objects i = take (slice_index sizes i) (drop (sum (take i sizes)) objects)
 
 -- the ID writer accepts offset and size in every lent slice of at least eight bytes; by the ID that it writes
@@ -123,8 +125,8 @@ EarlyIdsHold = (call : Call) (plan : ManagedPlan) → WriterAccepts call plan
     → (early i : ℕ) → i < early → i < length call.sizes → 0 < slice_index call.sizes i
     → EarlyIdHolds call early file header i
 
--- what is left free: by the ID of an empty object the reader accepts, with length 0 at a place of the file, or, under an
--- indirect root alone, it refuses by 1 with the object's offset and the file's length
+-- what is left free: by the ID of an empty object the reader accepts, with length 0 at a place of the file, or, under
+-- an indirect root alone, it refuses by 1 with the object's offset and the file's length
 pub data EmptyRead (file : List ℕ) (header : FractalHeapHeader) (offset_size offset root_rows : ℕ)
     : Type 0 where
   accepts : (position : ℕ) → position ≤ length file

@@ -8,8 +8,8 @@ use Rattle.fields.specs.declared.place.Place.{Place}
 use Rattle.fractal_heap.specs.declared.header.FractalHeapHeader.{FractalHeapHeader}
 use Rattle.heap_kept.specs.HeapKept.{Call, WriterAccepts, HoldsRegion, IsHeaderOf, object_id, part_of}
 
--- the file holds a heap of ours: the writer accepted the call with the plan, and the file holds what it wrote; the header
--- is that heap's, and the offset size the call's
+-- the file holds a heap of ours: the writer accepted the call with the plan, and the file holds what it wrote; the
+-- header is that heap's, and the offset size the call's
 pub record HoldsHeap (header : FractalHeapHeader) (file : List ℕ) (offset_size : ℕ)
     (call : Call) (plan : ManagedPlan) : Type 0 where
   pub writer_accepts : WriterAccepts call plan
@@ -17,8 +17,8 @@ pub record HoldsHeap (header : FractalHeapHeader) (file : List ℕ) (offset_size
   pub is_header : IsHeaderOf header call plan
   pub offset_size_is : offset_size ≡ call.site.offset_size
 
--- the ID that the ID writer gives the i-th object of the call, not an empty one, when there are its first objects alone,
--- `early` of them: all, or fewer
+-- the ID that the ID writer gives the i-th object of the call, not an empty one, when there are its first objects
+-- alone, `early` of them: all, or fewer
 pub record IsIdOf (id : List ℕ) (call : Call) (early i : ℕ) : Type 0 where
   pub index : i < early
   pub front : early ≤ length call.sizes

@@ -1,6 +1,7 @@
--- What the laws say of how the reader goes over written indirect blocks: steps towards the theorem, at any table. Nothing
--- here has to be believed.
-use Rattle.std.specs.Prelude.{ℕ, suc, ◌+◌, ◌-◌, ◌^◌, ◌≤◌, ◌<◌, ◌≡◌, true, List, [], ◌∷◌, length, take, drop, Result, Err}
+-- What the laws say of how the reader goes over written indirect blocks: steps towards the theorem, at any table.
+-- Nothing here has to be believed; it stands in specs so that wrong statements of these steps can be tried.
+use Rattle.std.specs.Prelude.{ℕ, suc, ◌+◌, ◌-◌, ◌^◌, ◌≤◌, ◌<◌, ◌≡◌, true, List, [], ◌∷◌}
+use Rattle.std.specs.Prelude.{length, take, drop, Result, Err}
 use Rattle.fields.specs.Undefined.{undefined_address}
 use Rattle.fields.specs.Widths.{legal}
 use Rattle.table.specs.Table.{Table, row_bits, row_offset}
@@ -29,13 +30,15 @@ pub record GivesRows (numbers : DoublingTable) (table : Table) (rows : ℕ) : Ty
   pub table_width : numbers.table_width ≡ 2 ^ table.width_bits
   pub heap_bits : numbers.max_heap_size ≡ table.heap_bits
   pub slot_sizes : (row : ℕ) → row < rows → slot_size numbers row ≡ 2 ^ row_bits table row
-  pub direct_children : (row address start : ℕ) → row < rows → row_bits table row ≤ table.direct_bits
+  pub direct_children : (row address start : ℕ) → row < rows
+      → row_bits table row ≤ table.direct_bits
       → child_of numbers row address start ≡ Direct address (2 ^ row_bits table row) start
-  pub indirect_children : (row address start : ℕ) → row < rows → table.direct_bits < row_bits table row
+  pub indirect_children : (row address start : ℕ) → row < rows
+      → table.direct_bits < row_bits table row
       → child_of numbers row address start ≡ Indirect address (row - table.width_bits) start
 
--- of the blocks that begin at `starts`, placed from the heap offset `at` on, the first of them at the address `next`, the
--- one at `start` is still to come, and stands at `address`; those at `later` come after it
+-- of the blocks that begin at `starts`, placed from the heap offset `at` on, the first of them at the address `next`,
+-- the one at `start` is still to come, and stands at `address`; those at `later` come after it
 pub record IsToCome (table : Table) (start address : ℕ) (later : List ℕ)
     (at : ℕ) (starts : List ℕ) (next : ℕ) : Type 0 where
   pub placed : Placed table at starts
@@ -59,29 +62,44 @@ pub record IsAbsent (table : Table) (offset at : ℕ) (starts : List ℕ) : Type
   pub placed : Placed table at starts
   pub none_holds : NoneHolds table offset starts
 
-module _ (table : Table) (offset_size heap_header : ℕ) (numbers : DoublingTable) (row_limit : ℕ) (file : List ℕ) (target len : ℕ) where
-  -- where the file has an indirect block of so many rows that begins at the heap offset `base`, behind the blocks in its
-  -- slots, and P holds of its placed blocks, the first of them at the address `next`, the reader gives from it on `answer`
+module _ (table : Table) (offset_size heap_header : ℕ) (numbers : DoublingTable) (row_limit : ℕ)
+    (file : List ℕ) (target len : ℕ) where
+  -- an indirect block of so many rows that begins at the heap offset `base`, over the placed blocks that begin at
+  -- `starts`, written to a position, with `next` as the address of the first of these blocks
+  abbrev written_block : ℕ → ℕ → List ℕ → ℕ → ℕ → List ℕ
+  written_block rows base starts position next =
+      (block table offset_size heap_header rows base starts position next).bytes
+
+  -- it stands behind the blocks in its slots
+  abbrev own_place : ℕ → ℕ → List ℕ → ℕ → ℕ → ℕ
+  own_place rows base starts position next =
+      position
+      + length (all_slots table offset_size heap_header rows base starts position next).bytes
+
+  -- where the file has such a block, and P holds of what is placed in it, the reader gives from it on `answer`
   abbrev ReaderGives : (ℕ → List ℕ → ℕ → Type 0) → Result Place FormatError → ℕ → Type 0
   ReaderGives P answer rows = (base : ℕ) (starts : List ℕ) (position next depth : ℕ)
-      → rows ≤ row_limit → rows < depth → base + row_offset table rows < 2 ^ 64 → BlockAt table rows base
+      → rows ≤ row_limit → rows < depth
+      → base + row_offset table rows < 2 ^ 64 → BlockAt table rows base
       → P base starts next
-      → HasBytes file position (block table offset_size heap_header rows base starts position next).bytes
-      → position + length (block table offset_size heap_header rows base starts position next).bytes
+      → HasBytes file position (written_block rows base starts position next)
+      → position + length (written_block rows base starts position next)
       ≤ undefined_address offset_size
       → walk_from numbers file offset_size target len depth
-      (position + length (all_slots table offset_size heap_header rows base starts position next).bytes) rows base
+      (own_place rows base starts position next) rows base
       ≡ answer
 
   -- it comes to the block at `start`, which begins in this one
   abbrev pub Finds : ℕ → ℕ → List ℕ → ℕ → Type 0
   Finds start address later rows = ReaderGives
-      (λ base starts next. IsToCome table start address later base starts next × (start < base + row_offset table rows))
+      (λ base starts next. IsToCome table start address later base starts next
+      × (start < base + row_offset table rows))
       (direct_at file address start target len) rows
 
   -- it ends with 1, where no block holds the target
   abbrev pub Misses : ℕ → Type 0
-  Misses rows = ReaderGives (λ base starts next. IsAbsent table target base starts) (missed file target len) rows
+  Misses rows = ReaderGives
+      (λ base starts next. IsAbsent table target base starts) (missed file target len) rows
 
 -- a table whose rows fill the slots of later rows
 pub record Doubles (table : Table) : Type 0 where
@@ -91,15 +109,17 @@ pub record Doubles (table : Table) : Type 0 where
 -- the reader comes to the block that holds the target, at its address
 abbrev pub PlacedBlocksFound : Type 0
 PlacedBlocksFound = (table : Table) → Doubles table
-    → (offset_size heap_header : ℕ) (numbers : DoublingTable) (row_limit : ℕ) → GivesRows numbers table row_limit
-    → (file : List ℕ) → legal offset_size ≡ true
+    → (offset_size heap_header : ℕ) (numbers : DoublingTable) (row_limit : ℕ)
+    → GivesRows numbers table row_limit → (file : List ℕ) → legal offset_size ≡ true
     → (target len start address : ℕ) (later : List ℕ)
-    → start ≤ target → target < start + (slot_at table start).size → address < undefined_address offset_size
-    → (rows : ℕ) → Finds table offset_size heap_header numbers row_limit file target len start address later rows
+    → start ≤ target → target < start + (slot_at table start).size
+    → address < undefined_address offset_size → (rows : ℕ)
+    → Finds table offset_size heap_header numbers row_limit file target len start address later rows
 
 -- and ends with 1 where there is none
 abbrev pub OtherOffsetsMissed : Type 0
 OtherOffsetsMissed = (table : Table) → Doubles table
-    → (offset_size heap_header : ℕ) (numbers : DoublingTable) (row_limit : ℕ) → GivesRows numbers table row_limit
-    → (file : List ℕ) → legal offset_size ≡ true
-    → (target len rows : ℕ) → Misses table offset_size heap_header numbers row_limit file target len rows
+    → (offset_size heap_header : ℕ) (numbers : DoublingTable) (row_limit : ℕ)
+    → GivesRows numbers table row_limit → (file : List ℕ) → legal offset_size ≡ true
+    → (target len rows : ℕ)
+    → Misses table offset_size heap_header numbers row_limit file target len rows

@@ -31,13 +31,12 @@ module _ (h : FractalHeapHeader) (F : List ℕ) (w : ℕ) where
   -- ---- one object
 
   came : {o x : ℕ} {bs : List ℕ} → 0 < x → ComesBack F h w o x bs → comes_back h F w o x bs ≡ true
-  unfolding comes_back object_at offset_bytes
+  unfolding offset_bytes
   came {bs = bs} s C = rw
       (C.id_accepted 8 (omega arith), C.reader_accepts, C.bytes_there, (bytes_eq-Decides bs bs).1 refl)
       (grind (arith, nat_tests))
 
   empty : (o x : ℕ) (bs : List ℕ) → x ≡ 0 → comes_back h F w o x bs ≡ false
-  unfolding comes_back
   empty o x bs e = grind (arith, nat_tests)
 
   -- the first of several
@@ -51,7 +50,7 @@ module _ (h : FractalHeapHeader) (F : List ℕ) (w : ℕ) where
 
   -- and those after it
   part-next : (y : ℕ) (ys ks : List ℕ) (n : ℕ) → part_of (y ∷ ys) ks (suc n) ≡ part_of ys (drop y ks) n
-  unfolding part_of sum
+  unfolding sum
   part-next y ys ks n = ap (take (slice_index ys n)) (sym (drop-drop (sum (take n ys)) y ks))
 
   -- ---- all of them
@@ -63,7 +62,7 @@ module _ (h : FractalHeapHeader) (F : List ℕ) (w : ℕ) where
 
   all_back : (ys os ks : List ℕ) → length ys ≤ length os → AllComeBack ys os ks
       → returned_count h F w ys os ks ≡ nonempty_count ys
-  unfolding returned_count nonempty_count part_of sum
+  unfolding returned_count nonempty_count sum
   all_back [] os ks l C = refl
   all_back (y ∷ ys) [] ks l C = absurd (omega arith)
   all_back (y ∷ ys) (o ∷ os) ks l C =

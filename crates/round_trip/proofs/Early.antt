@@ -42,7 +42,7 @@ module _ (xs os left : List ℕ) (i o b w : ℕ) (p : ManagedPlan) (e : planned_
   -- where planning accepts the ID writer decides
   pub decided : (r : Result (Unit {0}) FormatError) → r ≡ id_checked fixed (slice_index left i) (slice_index xs i) 8
       → early_id xs i o b w ≡ (r >>= λ _. Ok (managed_id fixed (slice_index left i) (slice_index xs i)))
-  unfolding early_id offset_bytes
+  unfolding offset_bytes
   decided r d =
       rw e
       (ap (λ (x : ℕ). id_checked fixed x (slice_index xs i) 8 >>= λ _. Ok (managed_id fixed x (slice_index xs i)))

@@ -34,7 +34,8 @@ front-again all front later old e =
     ∙ ap (λ (l : List ℕ). l ++ drop (length all) old) (sym e)
     ∙ sym (put_front old all)
 
--- the i-th object, not an empty one, when there are the first k alone, with as many places in the lists as os and bs have
+-- the i-th object, not an empty one, when there are the first k alone, with as many places in the lists as os and bs
+-- have
 pub record Drawn (xs os bs : List ℕ) (k i o b : ℕ) : Type 0 where
   pub index : i < k
   pub front : k ≤ length xs
@@ -81,7 +82,7 @@ module _ {xs js os bs F : List ℕ} {site : Site} {p : ManagedPlan} (A : Accepte
 
     -- it is given this ID
     id-given : early_id (take k xs) i o b w ≡ Ok (object_id w (take k xs) i)
-    unfolding early_id offset_bytes
+    unfolding offset_bytes
     id-given =
         (λ j. early_id (take k xs) i (D.offset_places j) (D.block_places j) w)
         ∙ rw ((front-parts-fit xs (length os) (length bs) w p plans k).accepted, accepted-id)

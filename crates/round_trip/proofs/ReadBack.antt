@@ -19,5 +19,5 @@ id_written s o n e =
 -- an object is read by the ID that the writer accepts
 pub read-by : (h : FractalHeapHeader) (s : List ℕ) (w o n : ℕ) → id_checked fixed o n 8 ≡ Ok tt
     → object_at h s w o n ≡ managed_at h s (managed_id fixed o n) w
-unfolding object_at offset_bytes
+unfolding offset_bytes
 read-by h s w o n e = rw e refl

@@ -13,7 +13,7 @@ found_as (Ok place) file bytes = bytes_eq (take place.length (drop place.positio
 found_as (Err refused) file bytes = false
 
 -- the object of `size` bytes at the heap offset `offset` is not empty, and found with these bytes
-unfoldable pub comes_back : FractalHeapHeader → List ℕ → ℕ → ℕ → ℕ → List ℕ → Bool
+abbrev pub comes_back : FractalHeapHeader → List ℕ → ℕ → ℕ → ℕ → List ℕ → Bool
 comes_back header file offset_size offset size bytes =
     nat_lt 0 size && found_as (object_at header file offset_size offset size) file bytes
 

@@ -37,7 +37,7 @@ header_of site plan = fixed_header (site.region_address + plan.root_place) plan.
 
 -- what the file answers for the object of `size` bytes at the heap offset `offset`, by its ID; in eight bytes an ID is
 -- refused by 16 alone
-unfoldable pub object_at : FractalHeapHeader → List ℕ → ℕ → ℕ → ℕ → Result Place FormatError
+abbrev pub object_at : FractalHeapHeader → List ℕ → ℕ → ℕ → ℕ → Result Place FormatError
 object_at header file offset_size offset size = do
   _ ← id_checked fixed offset size (id_length fixed)
   managed_at header file (managed_id fixed offset size) offset_size

@@ -1,7 +1,7 @@
-//! The whole way of a run: its region is written into a part of a file, every nonempty object gets its ID and is read by
-//! it. `passing` lets anything happen to the file between writing and reading, so that what is read has to come from the
-//! file. Where nothing happens to it, `round_trip` counts all objects, and `write_and_fetch` hands out one whose bytes are
-//! the object's.
+//! The whole way of a list of objects: its region is written into a part of a file, every nonempty object gets its ID
+//! and is read by it. `passing` lets anything happen to the file between writing and reading, so that what is read
+//! has to come from the file. Where nothing happens to it, `round_trip` counts all objects, and `write_and_fetch`
+//! hands out one whose bytes are the object's.
 #![tactic(auto)]
 
 pub mod by_id;
@@ -41,9 +41,9 @@ pub fn round_trip(
     count_after::<Untouched>(sizes, objects, site, offsets, blocks, file)
 }
 
-/// Writes the region of the objects into `file`, and fetches the `i`-th object from the file, by the ID that it was given
-/// when the run had its first `early` objects. The answer is the number of its bytes. Only the writer refuses, and then
-/// all that is lent stays as it is: what it has written is found, with all its bytes.
+/// Writes the region of the objects into `file`, and fetches the `i`-th object from the file, by the ID that it was
+/// given when there were the first `early` objects alone. The answer is the number of its bytes. Only the writer
+/// refuses, and then all that is lent stays as it is: what it has written is found, with all its bytes.
 pub fn write_and_fetch(
     sizes: &[u64],
     objects: &[u8],

@@ -1,5 +1,5 @@
-//! All objects of a written heap, read back by their IDs and compared with the bytes that they were written from: how many
-//! come back.
+//! All objects of a written heap, read back by their IDs and compared with the bytes that they were written from: how
+//! many come back.
 ghost use Rattle.std.specs.Prelude.{◌≡◌};
 ghost use Rattle.round_trip.specs.Backs.{comes_back, returned_count};
 
@@ -7,7 +7,6 @@ use crate::by_id::read_object;
 use fractal_heap::header::FractalHeapHeader;
 
 // Whether an object that is not empty is found by its ID, with these bytes.
-#[tactic(auto, unfolding(crate::specs::Backs::comes_back))]
 fn comes_back(
     file: &[u8],
     header: &FractalHeapHeader,

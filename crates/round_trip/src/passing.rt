@@ -1,5 +1,8 @@
-//! Written, then anything may happen to the file, then read: what is read is what the file has then.
-ghost use Rattle.std.specs.Prelude.{◌≡◌, ℕ, ◌<◌, ◌≤◌, ◌++◌, List, length, take, drop, slice_index, Ok, IfOk, OnOk, OnErr};
+//! Written, then anything may happen to the file, then read: what is read is what the file has then. As long as a
+//! contract speaks of a file that was just written, the bytes of the objects and of the file are equal, and a body that
+//! copies the objects, or only counts them, would meet it.
+ghost use Rattle.std.specs.Prelude.{◌≡◌, ℕ, ◌<◌, ◌≤◌, ◌++◌, List, length, take, drop, slice_index};
+ghost use Rattle.std.specs.Prelude.{IfOk, OnOk, OnErr};
 ghost use Rattle.region_write.specs.Region.{region};
 ghost use Rattle.heap_kept.specs.HeapKept.{part_of};
 ghost use Rattle.heap_kept.specs.Kept.{IsFetched};
@@ -14,7 +17,7 @@ use plan::ManagedPlan;
 use refusals::FormatError;
 use region_blocks::Site;
 
-/// What becomes of a file between writing and reading.
+/// What becomes of a file between writing and reading: it has as many bytes as before, and they may be any.
 pub trait Passing {
     // The file afterwards.
     ghost passed: { List ℕ → List ℕ };
@@ -55,9 +58,9 @@ fn serialize_and_pass<P: Passing>(
     Ok(plan)
 }
 
-/// Writes the region of the objects into `file`, lets the file pass, and fetches the `i`-th object from what the file has
-/// then, by the ID that it was given when the run had its first `early` objects. Where the writer refuses all that is
-/// lent stays as it is.
+/// Writes the region of the objects into `file`, lets the file pass, and fetches the `i`-th object from what the file
+/// has then, by the ID that it was given when there were the first `early` objects alone. Where the writer refuses all
+/// that is lent stays as it is.
 pub fn fetch_after<P: Passing>(
     sizes: &[u64],
     objects: &[u8],
@@ -97,13 +100,14 @@ pub fn fetch_after<P: Passing>(
         ((offsets.new ≡ offsets.old) × (blocks.new ≡ blocks.old) × (file.new ≡ file.old)) }
 {
     let plan = serialize_and_pass::<P>(sizes, objects, site, offsets, blocks, file)?;
-    // Their plan goes over the front of the whole's in the lists, where it is the same.
+    // The early objects are planned alone, as when there were no others. Their plan goes over the front of the whole's
+    // in the lists, where it is the same.
     let id = early_id(&sizes[..early], i, site.offset_size, offsets, blocks)?;
     fetch(&header_of(site, plan), file, &id, site.offset_size, found)
 }
 
-/// Writes the region of the objects into `file`, lets the file pass, and counts the nonempty objects that come back from
-/// what the file has then. Where the writer refuses all that is lent stays as it is.
+/// Writes the region of the objects into `file`, lets the file pass, and counts the nonempty objects that come back
+/// from what the file has then. Where the writer refuses all that is lent stays as it is.
 pub fn count_after<P: Passing>(
     sizes: &[u64],
     objects: &[u8],

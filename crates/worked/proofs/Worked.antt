@@ -23,20 +23,20 @@ use Rattle.reading.specs.Rows.{block_size, direct_rows, size_to_rows, heap_size,
 use Rattle.fields.specs.Fields.{len_ensured}
 use Rattle.region_write.proofs.Indirect.{bare-planned}
 use Rattle.region_write.proofs.Region.{region-length, root-place}
-use Rattle.heap_kept.specs.HeapKept.{Call, offset_of}
+use Rattle.heap_kept.specs.HeapKept.{offset_of}
 use Rattle.heap_kept.proofs.FromRoot.{planned as planned-call}
 use Rattle.heap_kept.proofs.Empty.{missed-there}
-use Rattle.worked.specs.Cases.{Region, call_for, Unfound, Both, All, cases}
+use Rattle.worked.specs.Cases.{RegionIsPlanned, EmptyUnfound, Both, All, cases}
 use Rattle.heap_kept.specs.Walking.{NoneHolds, no_block, not_in_first}
 
 both : {P Q : Type 0} → P → Q → Both P Q
 both p q = record { first = p; rest = q }
 
 planned : (w : ℕ) (xs : List ℕ) (p : ManagedPlan) → planned_for xs (length xs) (max 1 (length xs)) w ≡ Ok p
-    → Region w xs p
+    → RegionIsPlanned w xs p
 planned w xs p e = record {
-  size = region-length xs (length xs) (max 1 (length xs)) w p e;
-  root = root-place xs (length xs) (max 1 (length xs)) w p e;
+  size_planned = region-length xs (length xs) (max 1 (length xs)) w p e;
+  root_there = root-place xs (length xs) (max 1 (length xs)) w p e;
 }
 
 module _ (w : ℕ) (xs ss : List ℕ) (starts : plan_starts fixed w xs ≡ ss) (two : 1 < length ss) where
@@ -50,11 +50,11 @@ module _ (w : ℕ) (xs ss : List ℕ) (starts : plan_starts fixed w xs ≡ ss) (
 
   -- an empty object that no placed block holds is not found there
   missing : (i x : ℕ) → offset_of w xs i ≡ x → i < length xs → slice_index xs i ≡ 0 → NoneHolds fixed x ss
-      → x < 2 ^ 40 → Unfound w xs i
+      → x < 2 ^ 40 → EmptyUnfound w xs i
   missing i x is l e C small = record {
-    there = l;
+    index = l;
     empty = e;
-    read = λ js header address offsets blocks region p W file H h T.
+    unfound = λ js header address offsets blocks region p W file H h T.
         (missed-there W H T (offset_of w xs i) 0 (let n = ap length starts in omega arith)
         (rows offsets blocks p (planned-call W)) (subst₂ (NoneHolds fixed) (sym is) (sym starts) C) (omega arith));
   }
@@ -66,7 +66,7 @@ after_two = not_in_first {start = 0} (λ _. omega arith) (not_in_first {start = 
 
 -- worked case 5's second sentence: after two blocks that are full the third object begins where no block is
 third-missed : plan_starts fixed 8 (1002 ∷ 1002 ∷ 0 ∷ []) ≡ 0 ∷ 1024 ∷ []
-    → offset_of 8 (1002 ∷ 1002 ∷ 0 ∷ []) 2 ≡ 2048 → Unfound 8 (1002 ∷ 1002 ∷ 0 ∷ []) 2
+    → offset_of 8 (1002 ∷ 1002 ∷ 0 ∷ []) 2 ≡ 2048 → EmptyUnfound 8 (1002 ∷ 1002 ∷ 0 ∷ []) 2
 third-missed starts is =
     missing 8 (1002 ∷ 1002 ∷ 0 ∷ []) (0 ∷ 1024 ∷ []) starts (omega arith) 2 2048 is (omega arith) refl after_two
     (omega arith)

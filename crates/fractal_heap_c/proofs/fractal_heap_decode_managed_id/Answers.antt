@@ -1,4 +1,5 @@
--- What is left of `fractal_heap_decode_managed_id`: an ID that was written decodes to its pair, and C finds it in the slot.
+-- What is left of `fractal_heap_decode_managed_id`: an ID that was written decodes to its pair, and C finds it in the
+-- slot.
 use Rattle.std.proofs.Common.{ap, ◌∙◌}
 use Rattle.fields.specs.Slot.{slot_number, slot_bytes}
 use Rattle.refusals.specs.Refusals.{report_of}

@@ -1,4 +1,5 @@
--- What is left of `fractal_heap_read_managed_object`: by the theorem C finds the place of the object that was given the ID.
+-- What is left of `fractal_heap_read_managed_object`: by the theorem C finds the place of the object that was given
+-- the ID.
 use Rattle.std.proofs.Common.{ap, ◌∙◌, arith}
 use Rattle.fields.specs.Slot.{slot_number, slot_bytes}
 use Rattle.refusals.specs.Refusals.{report_of}

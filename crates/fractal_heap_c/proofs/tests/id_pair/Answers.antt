@@ -1,4 +1,5 @@
--- What is left of `id_pair`: by the clause `kept` alone the slot has the offset and the length that the ID was written from.
+-- What is left of `id_pair`: by the clause `kept` alone the slot has the offset and the length that the ID was
+-- written from.
 use Rattle.std.proofs.Common.{ℕ, ap₂, ◌∙◌, Some, arith}
 use Rattle.fractal_heap_c.proofs.tests.id_pair.Goals as goal
 
