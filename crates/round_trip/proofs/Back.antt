@@ -21,7 +21,6 @@ use Rattle.region_write.proofs.Region.{region-length}
 use Rattle.fractal_heap_write.proofs.Answering.{below-undefined}
 use Rattle.fractal_heap.specs.declared.header.FractalHeapHeader.{FractalHeapHeader}
 use Rattle.round_trip.specs.Backs.{comes_back, returned_count}
-use Rattle.round_trip.specs.Objects.{object_at}
 use Rattle.round_trip.specs.RoundTrip.{nonempty_count}
 use Rattle.heap_kept.specs.HeapKept.{Call, WriterAccepts, HoldsRegion, IsHeaderOf, ComesBack, part_of}
 use Rattle.heap_kept.proofs.FromRoot.{planned, tests, width-legal}

@@ -5,7 +5,7 @@ use Rattle.std.proofs.Common.{drop-cons, drop-drop}
 use Rattle.std.proofs.Math.Decide.{dec_le}
 use Rattle.std.proofs.Math.Logic.{dite}
 use Rattle.numbers.specs.Sums.{bit}
-use Rattle.table.proofs.Lists.{take_min, drop_min}
+use Rattle.std.proofs.lemmas.List.{take_min, drop_min}
 use Rattle.fractal_heap.specs.declared.header.FractalHeapHeader.{FractalHeapHeader}
 use Rattle.round_trip.specs.Backs.{comes_back, returned_count}
 

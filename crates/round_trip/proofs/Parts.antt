@@ -2,15 +2,14 @@
 use Rattle.std.proofs.Common.{◌≡◌, ℕ, ◌+◌, ◌-◌, ◌≤◌, min, List, [], ◌++◌, length, take, drop, Result, Ok, Err, IfOk}
 use Rattle.std.proofs.Common.{sym, ap, ap₂, ◌∙◌, append-nil, append_assoc, arith, drop_of_length-le, length-drop}
 use Rattle.std.proofs.Common.{drop-drop, take_all}
-use borrow.Rule.Slice.PartMut.{put_mid}
 use Rattle.refusals.specs.declared.FormatError.{FormatError}
 use Rattle.fields.specs.LittleEndian.{put}
 use Rattle.fields.proofs.LittleEndian.{put_front}
-use Rattle.table.proofs.Lists.{take_min, drop_min}
+use Rattle.std.proofs.lemmas.List.{take_min, drop_min}
 use Rattle.plan.specs.declared.ManagedPlan.{ManagedPlan}
 
 module _ (file new : List ℕ) (a start k : ℕ) (s : start ≡ min a (length file)) (e : k ≡ length file - start) where
-  part_put : (bs : List ℕ) → new ≡ put (take k (drop start file)) 0 bs → put_mid start k file new ≡ put file a bs
+  part_put : (bs : List ℕ) → new ≡ put (take k (drop start file)) 0 bs → take start file ++ (new ++ drop k (drop start file)) ≡ put file a bs
   unfolding put
   part_put bs n =
       let few : length (drop start file) ≤ k = omega (arith, length-drop start file, e) in
@@ -24,7 +23,7 @@ module _ (file new : List ℕ) (a start k : ℕ) (s : start ≡ min a (length fi
       ∙ sym (append_assoc (take a file) bs (drop (a + length bs) file))
 
   -- what is written of a plan that is accepted
-  pub written_at : (out : List ℕ) → out ≡ put_mid start k file new
+  pub written_at : (out : List ℕ) → out ≡ take start file ++ (new ++ drop k (drop start file))
       → (r : Result ManagedPlan FormatError) (bytes : ManagedPlan → List ℕ)
       → IfOk r (λ plan. new ≡ put (take k (drop start file)) 0 (bytes plan))
       → IfOk r (λ plan. out ≡ put file a (bytes plan))
