@@ -31,7 +31,8 @@ pub fn round_trip(
     ensures answer { result ≡ came_back
         (serialized_in site sizes.now offsets.old blocks.old objects.now file.old)
         (nonempty_count sizes.now) }
-    ensures region_in_file { IfOk (serialized_in site sizes.now offsets.old blocks.old objects.now file.old)
+    ensures region_in_file { IfOk
+        (serialized_in site sizes.now offsets.old blocks.old objects.now file.old)
         (λ plan. file.new ≡ file_with site plan sizes.now objects.now file.old) }
     ensures lists { OnOk result (ListsHavePlan site.offset_size sizes.now
         offsets.old offsets.new blocks.old blocks.new) }
@@ -64,7 +65,8 @@ pub fn write_and_fetch(
         (slice_index sizes.now i) }
     ensures comes_back { OnOk result (found.new
         ≡ part_of sizes.now objects.now i ++ drop (slice_index sizes.now i) found.old) }
-    ensures region_in_file { IfOk (serialized_in site sizes.now offsets.old blocks.old objects.now file.old)
+    ensures region_in_file { IfOk
+        (serialized_in site sizes.now offsets.old blocks.old objects.now file.old)
         (λ plan. file.new ≡ file_with site plan sizes.now objects.now file.old) }
     ensures lists { OnOk result (ListsHavePlan site.offset_size sizes.now
         offsets.old offsets.new blocks.old blocks.new) }

@@ -96,7 +96,8 @@ pub fn fetch_after<P: Passing>(
         (λ plan. file.new ≡ P.passed (file_with site plan sizes.now objects.now file.old)) }
     ensures lists { OnOk (serialized_in site sizes.now offsets.old blocks.old objects.now file.old)
         (ListsHavePlan site.offset_size sizes.now offsets.old offsets.new blocks.old blocks.new) }
-    ensures untouched { OnErr (serialized_in site sizes.now offsets.old blocks.old objects.now file.old)
+    ensures untouched { OnErr
+        (serialized_in site sizes.now offsets.old blocks.old objects.now file.old)
         ((offsets.new ≡ offsets.old) × (blocks.new ≡ blocks.old) × (file.new ≡ file.old)) }
 {
     let plan = serialize_and_pass::<P>(sizes, objects, site, offsets, blocks, file)?;
