@@ -1,14 +1,12 @@
 -- What C finds in the slot: the place of an object that was found, the pair of an ID that was written.
-use Rattle.std.proofs.Common.{◌≡◌, ℕ, ◌+◌, ◌^◌, ◌<◌, ◌≤◌, false, List, ◌++◌, length, take, drop, nat_lt, Result, Ok}
-use Rattle.std.proofs.Common.{refl, sym, ap, ◌∙◌, subst₂, arith, mod-eq_of_lt, length-take, length-drop, take_at}
+use Rattle.std.proofs.Common.{◌≡◌, ℕ, ◌+◌, ◌^◌, ◌<◌, ◌≤◌, false, List, ◌++◌, length, take, drop, nat_lt, Ok}
+use Rattle.std.proofs.Common.{refl, ap, ◌∙◌, arith, mod-eq_of_lt, length-take, length-drop, take_at}
 use Rattle.std.proofs.Common.{drop_at}
 use Rattle.std.proofs.lemmas.Bool.Decides.{nat_tests}
 use Rattle.fields.specs.LittleEndian.{le, value, le_at}
 use Rattle.fields.proofs.LittleEndian.{length-le, value-le}
 use Rattle.fields.specs.Slot.{slot_number, slot_bytes}
-use Rattle.refusals.specs.Steps.{◌>>=◌}
 use Rattle.refusals.specs.Refusals.{answer, report_of}
-use Rattle.refusals.specs.declared.FormatError.{FormatError}
 use Rattle.fields.specs.Places.{place_report}
 use Rattle.table.specs.Table.{fixed}
 use Rattle.table.specs.Sizes.{offset_bytes}
@@ -69,14 +67,12 @@ module _ (slot file id : List ℕ) (at offset_size length_size : ℕ) {new : Lis
   names-kept few u v c p k i H I room =
       let bytes : List ℕ = part_of c.sizes c.objects i in
       let found : object_by file at offset_size length_size id offset_size ≡ managed_at header file id offset_size =
-      ap (λ (r : Result FractalHeapHeader FormatError). r >>= λ (x : FractalHeapHeader).
-      managed_at x file id offset_size) g in
+      rw g in
       let P = kept H I found in
       let s = in-file P.position file bytes (omega (arith, size-is H I, I.not_empty)) P.bytes_there in
       let q = ap (report_of place_report) P.place_found in
       let N = named slot P.position (length bytes) room (omega (arith, s, few)) (omega (arith, s, few)) in
-      subst₂ (λ (n : ℕ) (t : List ℕ). NamesPlace n t file bytes) (sym (u ∙ ap (slot_number slot) q))
-      (sym (v ∙ ap (slot_bytes slot) q))
+      rw (u ∙ ap (slot_number slot) q, v ∙ ap (slot_bytes slot) q)
       (record {
         answers_zero = N.answers_zero;
         names_length = N.names_length;
@@ -91,10 +87,7 @@ module _ (slot file id : List ℕ) (at offset_size length_size : ℕ) {new : Lis
   names-pair bits u v offset len I room =
       let S = small I in
       let decoded : id_by file at offset_size length_size id ≡ Ok (record { offset = offset; length = len }) =
-      ap (λ (r : Result FractalHeapHeader FormatError). r >>= λ (x : FractalHeapHeader).
-      decoded_id x.table.max_heap_size id) g
-      ∙ (λ j. decoded_id (bits j) (I.id_written j)) ∙ decodes offset len S.0 S.1 in
+      rw g ((λ j. decoded_id (bits j) (I.id_written j)) ∙ decodes offset len S.0 S.1) in
       let q = ap (report_of id_report) decoded in
-      subst₂ (λ (n : ℕ) (t : List ℕ). NamesPair n t offset len) (sym (u ∙ ap (slot_number slot) q))
-      (sym (v ∙ ap (slot_bytes slot) q))
+      rw (u ∙ ap (slot_number slot) q, v ∙ ap (slot_bytes slot) q)
       (named slot offset len room (omega (arith, S.0)) (omega (arith, S.1)))

@@ -1,6 +1,6 @@
 -- A heap of ours as the reader meets it in the file, and the IDs that its objects were given.
 use Rattle.std.proofs.Common.{◌≡◌, ℕ, ◌<◌, ◌≤◌, List, ◌++◌, length, take, drop, slice_index, Result, Ok, Err, IfOk}
-use Rattle.std.proofs.Common.{refl, sym, ap, ◌∙◌, subst, arith, append_assoc, drop_at, take-append-drop}
+use Rattle.std.proofs.Common.{refl, sym, ap, ◌∙◌, arith, append_assoc, drop_at, take-append-drop}
 use Rattle.refusals.specs.declared.FormatError.{FormatError}
 use Rattle.table.specs.Table.{fixed}
 use Rattle.table.specs.Sizes.{offset_bytes}
@@ -13,7 +13,7 @@ use Rattle.plan.proofs.Kept.{front-parts-fit}
 use Rattle.region_blocks.specs.declared.Site.{Site}
 use Rattle.fractal_heap.specs.declared.header.FractalHeapHeader.{FractalHeapHeader}
 use Rattle.ids.specs.Checks.{id_checked}
-use Rattle.heap_kept.specs.HeapKept.{Call, HoldsRegion, IsHeaderOf, offset_of, object_id}
+use Rattle.heap_kept.specs.HeapKept.{Call, HoldsRegion, offset_of, object_id}
 use Rattle.heap_kept.specs.Kept.{HoldsHeap, IsIdOf}
 use Rattle.heap_kept.proofs.FromRoot.{planned}
 use Rattle.heap_kept.proofs.Theorem.{early-id-holds}
@@ -64,7 +64,7 @@ module _ {xs js os bs F : List ℕ} {site : Site} {p : ManagedPlan} (A : Accepte
       record {
         writer_accepts = accepted A;
         holds_region = r;
-        is_header = subst (λ (x : FractalHeapHeader). IsHeaderOf x call p) (sym k) (header_is A);
+        is_header = rw k (header_is A);
         offset_size_is = refl;
       }
 

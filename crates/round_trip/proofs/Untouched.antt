@@ -1,6 +1,6 @@
 -- What comes of a file that nothing happens to.
 use Rattle.std.proofs.Common.{◌≡◌, ℕ, ◌<◌, ◌≤◌, List, ◌++◌, length, take, drop, slice_index, Result, Ok, Err, IfOk}
-use Rattle.std.proofs.Common.{OnOk, refl, sym, ap, ap₂, ◌∙◌, subst}
+use Rattle.std.proofs.Common.{OnOk, refl, ap, ap₂, ◌∙◌}
 use Rattle.refusals.specs.declared.FormatError.{FormatError}
 use Rattle.plan.specs.declared.ManagedPlan.{ManagedPlan}
 use Rattle.region_blocks.specs.declared.Site.{Site}
@@ -25,8 +25,7 @@ module _ (xs js os bs F : List ℕ) (site : Site) (file : List ℕ) where
       → OnOk result (ListsHavePlan site.offset_size xs os offsets bs blocks) → result ≡ came_back r (nonempty_count xs)
   all_counted offsets blocks (Ok p) e f q o =
       let A : Accepted xs js os bs F site p = record { answer = e } in
-      let L = subst (λ (x : Result ℕ FormatError). OnOk x (ListsHavePlan site.offset_size xs os offsets bs blocks))
-      q o in
+      let L = rw q at o in
       q ∙ ap Ok (ap₂ (λ (v s : List ℕ). returned_count (header_of site p) s site.offset_size xs v js)
       L.offsets_listed f ∙ all-came A)
   all_counted offsets blocks (Err x) e f q o = q
@@ -47,8 +46,7 @@ module _ (xs js os bs F : List ℕ) (site : Site) (file : List ℕ) where
         let A : Accepted xs js os bs F site p = record { answer = e } in
         let H = holds-there (accepted A) F refl in
         let n = size-is (holds A refl H) (its-id A l m s refl) in
-        let D = K (subst (λ (g : List ℕ). take p.region_size (drop site.region_address g)
-        ≡ region site p.root_rows xs js) (sym f) H.region_there) room in
+        let D = K (rw f H.region_there) room in
         (D.length_answered ∙ ap Ok n, D.bytes_copied ∙ ap (λ (x : ℕ). part_of xs js i ++ drop x old) n)
 
     pub fetched-answer : (r : Result ManagedPlan FormatError) → serialized_in site xs os bs js F ≡ r
@@ -56,13 +54,5 @@ module _ (xs js os bs F : List ℕ) (site : Site) (file : List ℕ) where
         → result ≡ fetched_in r site xs k i file (length old)
         → (result ≡ came_back r (slice_index xs i)) × OnOk result (new ≡ part_of xs js i ++ drop (slice_index xs i) old)
     fetched-answer (Ok p) e f K q =
-        let D = fetched-all e f K in (
-          D.0,
-          subst (λ (x : Result ℕ FormatError). OnOk x (new ≡ part_of xs js i ++ drop (slice_index xs i) old))
-              (sym D.0) D.1,
-        )
-    fetched-answer (Err x) e f K q = (
-      q,
-      subst (λ (y : Result ℕ FormatError). OnOk y (new ≡ part_of xs js i ++ drop (slice_index xs i) old))
-          (sym q) tt,
-    )
+        let D = fetched-all e f K in (D.0, rw D.0 D.1)
+    fetched-answer (Err x) e f K q = (q, rw q tt)
