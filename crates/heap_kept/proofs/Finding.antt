@@ -38,7 +38,7 @@ module _ {t : Table} {b a : ℕ} {bs : List ℕ} where
       let r = ap (sizes_at t) (before-later end b ss l) ∙ sizes-append t (before end ss) (before b (from end ss)) in
       let z = S.address_is in
       record {
-        placed = subst (Placed t end) (sym C.rest-is) (from-placed end S.placed);
+        placed = rw C.rest-is (from-placed end S.placed);
         not_passed = l;
         in_list = ap (from b) C.rest-is ∙ sym (from-later end b ss l) ∙ S.in_list;
         address_is = omega arith;

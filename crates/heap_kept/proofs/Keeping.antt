@@ -1,6 +1,6 @@
 -- By an ID that an object was given, early or at the end, the reader finds the object.
-use Rattle.std.proofs.Common.{◌≡◌, ℕ, ◌+◌, ◌<◌, List, length, take, drop, slice_index, Result, Ok, Err, sym, ap, ◌∙◌}
-use Rattle.std.proofs.Common.{subst, subst₂, arith, length-drop, length-take-le, take_all}
+use Rattle.std.proofs.Common.{◌≡◌, ℕ, ◌+◌, ◌<◌, List, length, take, drop, slice_index, Result, Ok, Err, ap, ◌∙◌}
+use Rattle.std.proofs.Common.{arith, length-drop, length-take-le, take_all}
 use Rattle.numbers.specs.Sums.{sum}
 use Rattle.numbers.proofs.Sums.{sum-take-suc, sum-take-le}
 use Rattle.plan.specs.declared.ManagedPlan.{ManagedPlan}
@@ -48,18 +48,14 @@ module _ {h : FractalHeapHeader} {file : List ℕ} {w : ℕ} {id : List ℕ} {c 
   place =
       record {
         position = back.position;
-        place_found =
-            subst₂ (λ (v : ℕ) (y : List ℕ). managed_at h file y v
-            ≡ Ok (record { position = back.position; length = length (part_of c.sizes c.objects i) }))
-            (sym H.offset_size_is) (sym id-now)
-            (back.reader_accepts ∙ ap (λ (n : ℕ). let q : Place = record { position = back.position; length = n } in
-            Ok q) (sym size-is));
+        place_found = (λ j. managed_at h file (id-now j) (H.offset_size_is j)) ∙ rw size-is back.reader_accepts;
         bytes_there = ap (λ (n : ℕ). take n (drop back.position file)) size-is ∙ back.bytes_there;
       }
 
   -- what the reader answers by this ID
-  pub kept : {r : Result Place FormatError} → r ≡ managed_at h file id w → IsPlaceOf r file (part_of c.sizes c.objects i)
-  kept e = subst (λ (x : Result Place FormatError). IsPlaceOf x file (part_of c.sizes c.objects i)) (sym e) place
+  pub kept : {r : Result Place FormatError} → r ≡ managed_at h file id w
+      → IsPlaceOf r file (part_of c.sizes c.objects i)
+  kept e = rw e place
 
 -- a place that is answered
 module _ {q : Place} {file bytes : List ℕ} (P : IsPlaceOf (Ok q) file bytes) where

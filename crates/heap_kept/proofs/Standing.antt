@@ -84,9 +84,8 @@ module _ (t : Table) (w header : ℕ) (F : List ℕ) (p at : ℕ) (es : List ℕ
 
   entries-has : HasBytes (drop p F) (5 + w + offset_bytes t) es
   entries-has =
-      has-drop F p (5 + w + offset_bytes t) es
-      (subst (λ (y : ℕ). HasBytes F (p + y) es) (indirect-head-length t w header at)
-      (has_right F p (block_head t w indirect_signature header at) es head-has))
+      let behind = has_right F p (block_head t w indirect_signature header at) es head-has in
+      has-drop F p (5 + w + offset_bytes t) es (rw (indirect-head-length t w header at) at behind)
 
   sign-has : HasBytes (drop p F) 0 (le 4 0x42494846)
   unfolding block_head le

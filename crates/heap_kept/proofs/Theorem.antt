@@ -1,6 +1,6 @@
 -- Every object comes back, and what it means for an ID that was given early.
 use Rattle.std.proofs.Common.{◌≡◌, ℕ, ◌+◌, ◌-◌, ◌^◌, ◌<◌, ◌≤◌, max, List, length, take, drop, slice_index, Ok, refl}
-use Rattle.std.proofs.Common.{sym, ap, ap₂, ◌∙◌, arith, length-drop, take-append-drop, take-take}
+use Rattle.std.proofs.Common.{sym, ap, ap₂, ◌∙◌, subst, arith, length-drop, take-append-drop, take-take}
 use Rattle.std.proofs.Common.{take_all, length-take-le, get_or-take}
 use Rattle.std.proofs.Math.Decide.{ℕ_discrete}
 use Rattle.std.proofs.lemmas.List.{take-append-le, drop-append-le}
@@ -173,8 +173,9 @@ pub early-id-holds : EarlyIdsHold
 early-id-holds c p W file H h T early i l m s =
     record {
       id_stays = ap₂ (managed_id fixed) offset-stays size_stays;
-      comes_back = rw (part-early xs c.objects early i (sym (tests W).bytes) l m, offset-stays, size_stays)
-          (nonempty-back W H T m s);
+      comes_back = subst (ComesBack file h w (offset_of w (take early xs) i) (slice_index (take early xs) i))
+          (sym (part-early xs c.objects early i (sym (tests W).bytes) l m))
+          (rw (offset-stays, size_stays) (nonempty-back W H T m s));
     }
   where
     xs : List ℕ

@@ -64,7 +64,8 @@ offset_of offset_size sizes i = slice_index (plan_offsets fixed offset_size size
 -- the ID that the i-th object is given, by its heap offset and its size: its eight bytes alone, since the reader takes
 -- a ninth into the length (docs/DIFFERENCES.md)
 abbrev pub object_id : ℕ → List ℕ → ℕ → List ℕ
-object_id offset_size sizes i = managed_id fixed (offset_of offset_size sizes i) (slice_index sizes i)
+object_id offset_size sizes i =
+    managed_id fixed (offset_of offset_size sizes i) (slice_index sizes i)
 
 -- the i-th object's part of the joined bytes, which begins at the sum of the sizes before it
 abbrev pub part_of : List ℕ → List ℕ → ℕ → List ℕ
@@ -92,7 +93,8 @@ ObjectComesBack file header call i =
 -- what planning accepts is kept apart, and by its ID every nonempty object of what the writer accepts is found in the
 -- file, with exactly its bytes
 pub record HeapKept : Type 0 where
-  pub kept_apart : (sizes : List ℕ) (offset_places block_places offset_size : ℕ) (plan : ManagedPlan)
+  pub kept_apart : (sizes : List ℕ) (offset_places block_places offset_size : ℕ)
+      (plan : ManagedPlan)
       → planned_for sizes offset_places block_places offset_size ≡ Ok plan
       → PlanKept sizes offset_size plan
   pub comes_back : (call : Call) (plan : ManagedPlan) → WriterAccepts call plan
