@@ -10,7 +10,7 @@ use Rattle.table.specs.Sizes.{offset_bytes}
 use Rattle.table.specs.Slots.{slot_at}
 use Rattle.table_laws.proofs.Format.{SlotOf, direct-local}
 use Rattle.plan.specs.Plans.{sizes_at}
-use Rattle.region_indirects.specs.Walk.{Walked, direct, slot, smaller, all_slots, block}
+use Rattle.region_indirects.specs.Walk.{Walked, direct, all_slots, block}
 use Rattle.region_indirects.proofs.Walking.{slot-entry}
 use Rattle.region_write.proofs.Starts.{Placed, more, before, from, before-yes, before-no, from-placed, before-later}
 use Rattle.region_write.proofs.Starts.{from-later, sizes-append}
@@ -23,7 +23,7 @@ use Rattle.refusals.specs.declared.FormatError.{FormatError}
 use Rattle.reading.specs.Walk.{direct_at}
 use Rattle.heap_kept.specs.Walking.{HasBytes, GivesRows, IsToCome, Finds, PlacedBlocksFound}
 use Rattle.heap_kept.proofs.Entries.{entry-passed, entry-taken}
-use Rattle.heap_kept.proofs.Standing.{Stands, block-stands, onward, walk-scans}
+use Rattle.heap_kept.proofs.Standing.{Stands, in_slot, block-stands, onward, walk-scans}
 use Rattle.heap_kept.proofs.Scanning.{Settled, Passed, leads-inside, scanned}
 
 -- ---- the block that is sought
@@ -94,8 +94,7 @@ module _ (t : Table) (g : t.start_bits ≤ t.direct_bits) (wd : t.width_bits + t
 
       -- the slot in which the block at b begins
       taken : {ss : List ℕ} {pos next : ℕ} (e : ℕ) → Way t w header n r at pos next ss
-          → IsToCome t b a bs at ss next → b < at + z
-          → Stands F s w pos e (slot t w header (smaller t w header n) r at ss pos next)
+          → IsToCome t b a bs at ss next → b < at + z → Stands F s w pos e (in_slot t w header n r at ss pos next)
           → Settled d then Wanted s w target r e at
       unfolding direct
       taken e (empty none _ q) S u H rs = absurd (coming-some (at + z) S u none)
@@ -129,18 +128,18 @@ module _ (t : Table) (g : t.start_bits ≤ t.direct_bits) (wd : t.width_bits + t
 
       -- a slot settles it, or ends before the block at b
       law : (ss : List ℕ) (pos next e : ℕ) → IsToCome t b a bs at ss next
-          → Stands F s w pos e (slot t w header (smaller t w header n) r at ss pos next)
+          → Stands F s w pos e (in_slot t w header n r at ss pos next)
           → Settled d then Wanted s w target r e at
           ⊎ (Passed d s w target r z e at
-          × IsToCome t b a bs (at + z) (slot t w header (smaller t w header n) r at ss pos next).rest
-          (slot t w header (smaller t w header n) r at ss pos next).next)
+          × IsToCome t b a bs (at + z) (in_slot t w header n r at ss pos next).rest
+          (in_slot t w header n r at ss pos next).next)
       law ss pos next e S H = go (dec_lt b (at + z))
         where
           go : Dec (b < at + z)
               → Settled d then Wanted s w target r e at
               ⊎ (Passed d s w target r z e at
-              × IsToCome t b a bs (at + z) (slot t w header (smaller t w header n) r at ss pos next).rest
-              (slot t w header (smaller t w header n) r at ss pos next).next)
+              × IsToCome t b a bs (at + z) (in_slot t w header n r at ss pos next).rest
+              (in_slot t w header n r at ss pos next).next)
           go (yes u) = inl (taken e (way t g wd w header B C S.placed pos next) S u H)
           go (no u) =
               let x = slot-entry t w header n r at ss pos next in

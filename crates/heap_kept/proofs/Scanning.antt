@@ -5,7 +5,7 @@ use Rattle.std.proofs.Common.{Option, None, Result, Ok, refl, ap, ◌∙◌, sub
 use Rattle.fields.specs.LittleEndian.{le}
 use Rattle.fields.specs.Widths.{legal}
 use Rattle.table.specs.Table.{Table, row_bits, row_offset}
-use Rattle.region_indirects.specs.Walk.{Walked, rows_of_slots, slot, slots, smaller, all_slots, block}
+use Rattle.region_indirects.specs.Walk.{Walked, rows_of_slots, slots, smaller, all_slots, block}
 use Rattle.region_indirects.proofs.Walking.{slot-entry}
 use Rattle.region_write.proofs.Geometry.{SlotAt, Ahead, done, slot_of, all-ahead}
 use Rattle.reading.specs.declared.rows.DoublingTable.{DoublingTable}
@@ -16,7 +16,7 @@ use Rattle.reading.specs.Blocks.{slot_rows, child_in_slots}
 use Rattle.reading.specs.Walk.{walk_from}
 use Rattle.heap_kept.specs.Walking.{HasBytes, GivesRows}
 use Rattle.heap_kept.proofs.Entries.{entry-taken}
-use Rattle.heap_kept.proofs.Standing.{Stands, stands-first, stands-next, block-entry, block-below, onward}
+use Rattle.heap_kept.proofs.Standing.{Stands, in_slot, stands-first, stands-next, block-entry, block-below, onward}
 
 -- the entry at e of a slot settles the answer, with whatever slots behind it
 abbrev pub Settled : DoublingTable → (Result (Option HeapChild) FormatError → Result Place FormatError)
@@ -57,14 +57,14 @@ same_slots t d e (suc n) r = rw (e, add-one r, same_slots t d e n (suc r))
 
 module _ (t : Table) (w header : ℕ) (d : DoublingTable) (N : ℕ) (A : GivesRows d t N) (F s : List ℕ) (target : ℕ)
     (n base : ℕ)
-    (then : Result (Option HeapChild) FormatError
-    → Result Place FormatError) (answer : Result Place FormatError) (Holds : ℕ → List ℕ → ℕ → Type 0)
+    (then : Result (Option HeapChild) FormatError → Result Place FormatError) (answer : Result Place FormatError)
+    (Holds : ℕ → List ℕ → ℕ → Type 0)
     (law : (r at : ℕ) (ss : List ℕ) (pos next e : ℕ) → SlotAt t n base r at → Holds at ss next
-    → Stands F s w pos e (slot t w header (smaller t w header n) r at ss pos next)
+    → Stands F s w pos e (in_slot t w header n r at ss pos next)
     → Settled d then answer s w target r e at
     ⊎ (Passed d s w target r (2 ^ row_bits t r) e at
-    × Holds (at + 2 ^ row_bits t r) (slot t w header (smaller t w header n) r at ss pos next).rest
-    (slot t w header (smaller t w header n) r at ss pos next).next))
+    × Holds (at + 2 ^ row_bits t r) (in_slot t w header n r at ss pos next).rest
+    (in_slot t w header n r at ss pos next).next))
     (ends : (ss : List ℕ) (next : ℕ) → Holds (base + row_offset t n) ss next → then (Ok None) ≡ answer) where
   -- the slots from a heap offset on
   from_scanned : (rs : List ℕ) (at : ℕ) → Ahead t n base at rs → (ss : List ℕ) (pos next e : ℕ) → Holds at ss next
@@ -74,7 +74,7 @@ module _ (t : Table) (w header : ℕ) (d : DoublingTable) (N : ℕ) (A : GivesRo
   from_scanned [] at (done q) ss pos next e I H = ends ss next (subst (λ (y : ℕ). Holds y ss next) q I)
   from_scanned (r ∷ rs) at (slot_of C more) ss pos next e I H =
       let z : ℕ = 2 ^ row_bits t r in
-      let o : Walked = slot t w header (smaller t w header n) r at ss pos next in
+      let o : Walked = in_slot t w header n r at ss pos next in
       let after : Walked = slots t w header (smaller t w header n) rs (at + z) o.rest (pos + length o.bytes) o.next in
       ⊎_elim (λ (u : Settled d then answer s w target r e at). u rs)
       (λ (u : Passed d s w target r z e at × Holds (at + z) o.rest o.next).

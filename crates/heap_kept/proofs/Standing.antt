@@ -11,7 +11,7 @@ use Rattle.table.specs.Sizes.{offset_bytes}
 use Rattle.fields.specs.Signatures.{indirect_signature}
 use Rattle.region_blocks.specs.Blocks.{block_head, indirect_block}
 use Rattle.region_blocks.proofs.Lengths.{indirect-head-length, indirect-length}
-use Rattle.region_indirects.specs.Walk.{Walked, both, finished, all_slots, block}
+use Rattle.region_indirects.specs.Walk.{Walked, both, finished, slot, smaller, all_slots, block}
 use Rattle.reading.specs.declared.rows.DoublingTable.{DoublingTable}
 use Rattle.reading.specs.declared.children.HeapChild.{HeapChild}
 use Rattle.fields.specs.declared.place.Place.{Place}
@@ -23,6 +23,10 @@ use Rattle.reading.specs.Blocks.{slot_rows, child_in_slots, entries_place, child
 use Rattle.reading.specs.Walk.{direct_at, by_child, walk_from}
 use Rattle.heap_kept.specs.Walking.{HasBytes}
 use Rattle.heap_kept.proofs.Holding.{has_left, has_right, has-drop, has-number}
+
+-- what is written of the slot at the heap offset `at`, in row r of a block of n rows
+abbrev pub in_slot : Table → ℕ → ℕ → ℕ → ℕ → ℕ → List ℕ → ℕ → ℕ → Walked
+in_slot t w header n r at ss pos next = slot t w header (smaller t w header n) r at ss pos next
 
 -- the outcome o of a walk is in the file F: its blocks from pos on, its entries at e of s; addresses have w bytes
 pub record Stands (F s : List ℕ) (w pos e : ℕ) (o : Walked) : Type 0 where
