@@ -79,9 +79,8 @@ module _ (t : Table) (g : t.start_bits ≤ t.direct_bits) (wd : t.width_bits + t
   abbrev FindsFrom : ℕ → Type 0
   FindsFrom n = Finds t w header d N F target len b a bs n
 
-  module _ {n base : ℕ} (finds : (j : ℕ) → j < n
-      → FindsFrom j) (few : n ≤ N) (top : base + row_offset t n < 2 ^ 64) (B : BlockAt t n base) (depth : ℕ)
-      (deep : n ≤ depth) (s : List ℕ) where
+  module _ {n base : ℕ} (finds : (j : ℕ) → j < n → FindsFrom j) (few : n ≤ N)
+      (top : base + row_offset t n < 2 ^ 64) (B : BlockAt t n base) (depth : ℕ) (deep : n ≤ depth) (s : List ℕ) where
     abbrev then : Result (Option HeapChild) FormatError → Result Place FormatError
     then = onward d F w target len depth
 
