@@ -1,9 +1,9 @@
 -- Every object comes back, and what it means for an ID that was given early.
 use Rattle.std.proofs.Common.{◌≡◌, ℕ, ◌+◌, ◌-◌, ◌^◌, ◌<◌, ◌≤◌, max, List, length, take, drop, slice_index, Ok, refl}
-use Rattle.std.proofs.Common.{sym, ap, ap₂, ◌∙◌, subst, arith, length-drop, take-append-drop, take-take}
-use Rattle.std.proofs.Common.{take_all, length-take-le, get_or-take}
+use Rattle.std.proofs.Common.{sym, ap, ap₂, ◌∙◌, subst, arith, take-take}
+use Rattle.std.proofs.Common.{get_or-take}
 use Rattle.std.proofs.Math.Decide.{ℕ_discrete}
-use Rattle.std.proofs.lemmas.List.{take-append-le, drop-append-le}
+use Rattle.std.proofs.lemmas.List.{drop-take}
 use Rattle.std.proofs.lemmas.Bool.Decides.{nat_tests}
 use Rattle.std.proofs.lemmas.Grind.{common_steps}
 use Rattle.fields.specs.Fields.{len_ensured}
@@ -149,24 +149,20 @@ heap-kept = record { kept_apart = plan-kept; comes_back = λ c p W F H h T i l s
 -- ---- an ID that was given early
 
 -- an object's part of the joined bytes is among those of any longer run
-part-early : (xs js : List ℕ) (k i : ℕ) → length js ≡ sum xs → i < k → i < length xs
+part-early : (xs js : List ℕ) (k i : ℕ) → i < k → i < length xs
     → part_of (take k xs) (take (sum (take k xs)) js) i ≡ part_of xs js i
-part-early xs js k i e l m =
+part-early xs js k i l m =
     let s : ℕ = sum (take i xs) in
-    let S : ℕ = sum (take k xs) in
+    let r : ℕ = sum (take k xs) - s in
     let x : slice_index (take k xs) i ≡ slice_index xs i = get_or-take k xs i 0 l in
     let f : sum (take i (take k xs)) ≡ s = ap sum (take-take i k xs (omega arith)) in
     let a = sum-take-suc xs i m in
     let c = sum-take-le xs (i + 1) k (omega arith) in
-    let d : S ≤ length js =
-    (let z = sum-take-le xs k (k + length xs) (omega arith) in
-    let y = ap sum (take_all (k + length xs) xs (omega arith)) in omega arith) in
-    let n : length (take S js) ≡ S = length-take-le S js d in
-    let g = length-drop s (take S js) in
-    ap₂ (λ (u v : ℕ). take u (drop v (take S js))) x f
-    ∙ sym (ap (λ (v : List ℕ). take (slice_index xs i) (drop s v)) (sym (take-append-drop S js))
-    ∙ ap (take (slice_index xs i)) (drop-append-le s (take S js) (drop S js) (omega arith))
-    ∙ take-append-le (slice_index xs i) (drop s (take S js)) (drop S js) (omega arith))
+    let all : sum (take k xs) ≡ s + r = omega arith in
+    ap₂ (λ (u v : ℕ). take u (drop v (take (sum (take k xs)) js))) x f
+    ∙ ap (λ (n : ℕ). take (slice_index xs i) (drop s (take n js))) all
+    ∙ ap (take (slice_index xs i)) (drop-take s r js)
+    ∙ take-take (slice_index xs i) r (drop s js) (omega arith)
 
 -- an ID given when there were the first objects alone is the object's ID among all, and reads the same bytes there
 pub early-id-holds : EarlyIdsHold
@@ -174,7 +170,7 @@ early-id-holds c p W file H h T early i l m s =
     record {
       id_stays = ap₂ (managed_id fixed) offset-stays size_stays;
       comes_back = subst (ComesBack file h w (offset_of w (take early xs) i) (slice_index (take early xs) i))
-          (sym (part-early xs c.objects early i (sym (tests W).bytes) l m))
+          (sym (part-early xs c.objects early i l m))
           (rw (offset-stays, size_stays) (nonempty-back W H T m s));
     }
   where
