@@ -1,28 +1,25 @@
--- A place that was found, as C finds it in the slot.
-use Prim.Native.Nat.{ℕ, ◌^◌, ◌≤◌, ◌<◌}
-use mathlib.Core.Path.{◌≡◌, refl, sym, ap, ◌∙◌, subst₂}
-use mathlib.Core.List.{List, ◌++◌}
-use native.Mathlib.Omega.{arith}
-use native.Mathlib.Nat.{mod-eq_of_lt}
-use lib.ListN.{length, take, drop}
-use lib.Seq.{take_at, drop_at}
-use Rattle.std.specs.Prelude.{nat_lt, false, Result, Ok}
+-- What C finds in the slot: the place of an object that was found, the pair of an ID that was written.
+use Rattle.std.proofs.Common.{◌≡◌, ℕ, ◌+◌, ◌^◌, ◌<◌, ◌≤◌, false, List, ◌++◌, length, take, drop, nat_lt, Ok}
+use Rattle.std.proofs.Common.{refl, ap, ◌∙◌, arith, mod-eq_of_lt, length-take, length-drop, take_at}
+use Rattle.std.proofs.Common.{drop_at}
 use Rattle.std.proofs.lemmas.Bool.Decides.{nat_tests}
 use Rattle.fields.specs.LittleEndian.{le, value, le_at}
 use Rattle.fields.proofs.LittleEndian.{length-le, value-le}
 use Rattle.fields.specs.Slot.{slot_number, slot_bytes}
-use Rattle.refusals.specs.Steps.{◌>>=◌}
 use Rattle.refusals.specs.Refusals.{answer, report_of}
-use Rattle.refusals.specs.declared.FormatError.{FormatError}
 use Rattle.fields.specs.Places.{place_report}
+use Rattle.table.specs.Table.{fixed}
+use Rattle.table.specs.Sizes.{offset_bytes}
+use Rattle.ids.specs.Decoded.{decoded_id, id_report}
+use Rattle.ids.proofs.ReadBack.{decodes}
 use Rattle.fractal_heap.specs.declared.header.FractalHeapHeader.{FractalHeapHeader}
 use Rattle.fractal_heap.specs.Header.{header_at}
-use Rattle.fractal_heap.specs.Read.{managed_at, object_by}
-use Rattle.fractal_heap.proofs.ReadLaws.{read-in-file}
+use Rattle.fractal_heap.specs.Read.{managed_at, id_by, object_by}
 use Rattle.heap_kept.specs.HeapKept.{part_of}
 use Rattle.heap_kept.specs.Kept.{ForKept}
-use Rattle.heap_kept.proofs.Keeping.{kept}
-use Rattle.fractal_heap_c.specs.InSlot.{NamesPlace}
+use Rattle.heap_kept.proofs.Keeping.{kept, size-is}
+use Rattle.fractal_heap_c.specs.InSlot.{NamesPlace, NamesPair}
+use Rattle.fractal_heap_c.specs.WrittenIds.{IsWrittenId}
 
 -- the two values, read back from the slot
 module _ (slot : List ℕ) (a n : ℕ) where
@@ -41,29 +38,56 @@ module _ (slot : List ℕ) (a n : ℕ) where
       ∙ value-le 8 n
       ∙ mod-eq_of_lt l
 
--- an answer of the reader that is a place
-named : (slot file bytes : List ℕ) (a : ℕ) → 16 ≤ length slot → a < 2 ^ 64 → length bytes < 2 ^ 64 → take (length bytes) (drop a file) ≡ bytes
-    → NamesPlace (slot_number slot (answer 0 a (length bytes))) (slot_bytes slot (answer 0 a (length bytes))) file bytes
+-- two values that are answered with 0, in a slot that has room for them
+named : (slot : List ℕ) (a n : ℕ) → 16 ≤ length slot → a < 2 ^ 64 → n < 2 ^ 64
+    → NamesPair (slot_number slot (answer 0 a n)) (slot_bytes slot (answer 0 a n)) a n
 unfolding slot_number slot_bytes
-named slot file bytes a room l m e =
+named slot a n room l m =
     let long : nat_lt (length slot) 16 ≡ false = grind (arith, nat_tests, room) in
-    rw long
-    (record {
-      accepted = refl;
-      number = second slot a (length bytes) m;
-      same = ap (λ (x : ℕ). take (length bytes) (drop x file)) (first slot a (length bytes) l) ∙ e;
-    })
+    rw long (record { answers_zero = refl; names_offset = first slot a n l; names_length = second slot a n m })
 
--- what C is answered where the header parses to h
-pub names-kept : (slot file id : List ℕ) (at os ls w : ℕ) {new : List ℕ} {r : ℕ} {h : FractalHeapHeader} → length file < 2 ^ 64 → header_at file at os ls ≡ Ok h
-    → r ≡ slot_number slot (report_of place_report (object_by file at os ls id w)) → new ≡ slot_bytes slot (report_of place_report (object_by file at os ls id w))
-    → ForKept h file w id (λ bytes. 16 ≤ length slot → NamesPlace r new file bytes)
-names-kept slot file id at os ls w {h = h} small g u v c p k i H I room =
-    let bytes : List ℕ = part_of c.sizes c.objects i in
-    let found : object_by file at os ls id w ≡ managed_at h file id w =
-    ap (λ (r : Result FractalHeapHeader FormatError). r >>= λ (x : FractalHeapHeader). managed_at x file id w) g in
-    let P = kept h file w id _ found c p k i H I in
-    let s = read-in-file h file id w P.position (length bytes) (sym found ∙ P.is-there) in
-    let q = ap (report_of place_report) P.is-there in
-    subst₂ (λ (n : ℕ) (t : List ℕ). NamesPlace n t file bytes) (sym (u ∙ ap (slot_number slot) q)) (sym (v ∙ ap (slot_bytes slot) q))
-    (named slot file bytes P.position room (omega (arith, s, small)) (omega (arith, s, small)) P.same)
+-- some bytes that are there end in the file
+pub in-file : (a : ℕ) (file bytes : List ℕ) → 0 < length bytes → take (length bytes) (drop a file) ≡ bytes
+    → a + length bytes ≤ length file
+in-file a file bytes s e = omega (arith, ap length e, length-take (length bytes) (drop a file), length-drop a file)
+
+-- what the ID writer accepts is small enough for an ID
+small : {id : List ℕ} {offset len : ℕ} → IsWrittenId id offset len → (offset < 2 ^ 40) × (len < 2 ^ 16)
+unfolding offset_bytes
+small I = let e = I.writer_accepts in (grind (arith, nat_tests), grind (arith, nat_tests))
+
+module _ (slot file id : List ℕ) (at offset_size length_size : ℕ) {new : List ℕ} {result : ℕ}
+    {header : FractalHeapHeader}
+    (g : header_at file at offset_size length_size ≡ Ok header) where
+  -- what C is answered of an object where the header parses
+  pub names-kept : length file < 2 ^ 64
+      → result ≡ slot_number slot (report_of place_report (object_by file at offset_size length_size id offset_size))
+      → new ≡ slot_bytes slot (report_of place_report (object_by file at offset_size length_size id offset_size))
+      → ForKept header file offset_size id (λ bytes. 16 ≤ length slot → NamesPlace result new file bytes)
+  names-kept few u v c p k i H I room =
+      let bytes : List ℕ = part_of c.sizes c.objects i in
+      let found : object_by file at offset_size length_size id offset_size ≡ managed_at header file id offset_size =
+      rw g in
+      let P = kept H I found in
+      let s = in-file P.position file bytes (omega (arith, size-is H I, I.not_empty)) P.bytes_there in
+      let q = ap (report_of place_report) P.place_found in
+      let N = named slot P.position (length bytes) room (omega (arith, s, few)) (omega (arith, s, few)) in
+      rw (u ∙ ap (slot_number slot) q, v ∙ ap (slot_bytes slot) q)
+      (record {
+        answers_zero = N.answers_zero;
+        names_length = N.names_length;
+        bytes_there = ap (λ (x : ℕ). take (length bytes) (drop x file)) N.names_offset ∙ P.bytes_there;
+      })
+
+  -- and of an ID that was written
+  pub names-pair : header.table.max_heap_size ≡ fixed.heap_bits
+      → result ≡ slot_number slot (report_of id_report (id_by file at offset_size length_size id))
+      → new ≡ slot_bytes slot (report_of id_report (id_by file at offset_size length_size id))
+      → (offset len : ℕ) → IsWrittenId id offset len → 16 ≤ length slot → NamesPair result new offset len
+  names-pair bits u v offset len I room =
+      let S = small I in
+      let decoded : id_by file at offset_size length_size id ≡ Ok (record { offset = offset; length = len }) =
+      rw g ((λ j. decoded_id (bits j) (I.id_written j)) ∙ decodes offset len S.0 S.1) in
+      let q = ap (report_of id_report) decoded in
+      rw (u ∙ ap (slot_number slot) q, v ∙ ap (slot_bytes slot) q)
+      (named slot offset len room (omega (arith, S.0)) (omega (arith, S.1)))

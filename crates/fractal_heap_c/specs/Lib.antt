@@ -1,1 +1,2 @@
 pub mod InSlot
+pub mod WrittenIds

@@ -1,9 +1,10 @@
-//! What the loader calls: the checksum, the decoding of a managed ID, and reading. The last two parse the
-//! header at `at` first. Each returns the refusal's number, 0 where there is none, and puts the answer's
-//! two values into the first 16 bytes of the slot; a shorter slot gives 13 before all else.
+//! What the loader calls: the checksum, the decoding of a managed ID, and reading. The last two parse the header at
+//! `at` first. Each returns the refusal's number, 0 where there is none, and puts the answer's two values into the
+//! first 16 bytes of the slot; a shorter slot gives 13 before all else. `put_answer` tests the slot, after parsing
+//! and answering, so what is handed back for a short slot is 13 whatever the file is.
 #![tactic(auto)]
 
-ghost use Rattle.std.specs.Prelude.{◌≡◌, ◌≤◌, length, Ok};
+ghost use Rattle.std.specs.Prelude.{◌≡◌, ◌≤◌, ℕ, length, Ok};
 ghost use Rattle.checksum.specs.Lookup3.{hashlittle};
 ghost use Rattle.fields.specs.Slot.{slot_number, slot_bytes};
 ghost use Rattle.refusals.specs.Refusals.{report_of};
@@ -13,14 +14,16 @@ ghost use Rattle.fractal_heap.specs.declared.header.FractalHeapHeader.{FractalHe
 ghost use Rattle.fractal_heap.specs.Header.{header_at};
 ghost use Rattle.fractal_heap.specs.Read.{id_by, object_by};
 ghost use Rattle.heap_kept.specs.Kept.{ForKept};
-ghost use Rattle.fractal_heap_c.specs.InSlot.{NamesPlace};
+ghost use Rattle.table.specs.Table.{fixed};
+ghost use Rattle.fractal_heap_c.specs.InSlot.{NamesPlace, NamesPair};
+ghost use Rattle.fractal_heap_c.specs.WrittenIds.{IsWrittenId};
 
 use checksum::jenkins_lookup3;
 use fields::convert::to_usize;
+use fields::place::Place;
 use fields::slot::put_answer;
 use fractal_heap::header::FractalHeapHeader;
 use ids::decode::ManagedId;
-use fields::place::Place;
 use refusals::FormatError;
 use refusals::answer::Reported;
 
@@ -58,6 +61,9 @@ fn read(
 }
 
 /// Heap offset and length of a managed ID.
+///
+/// By an ID that our writer wrote, and a header with the heap bits of the fixed geometry, these are the offset and the
+/// length that it was written from.
 #[unsafe(no_mangle)]
 pub extern "C" fn fractal_heap_decode_managed_id(
     file: &[u8],
@@ -71,6 +77,11 @@ pub extern "C" fn fractal_heap_decode_managed_id(
         (report_of id_report (id_by file.now at offset_size length_size id.now)) }
     ensures slot_after { slot.new ≡ slot_bytes slot.old
         (report_of id_report (id_by file.now at offset_size length_size id.now)) }
+    ensures kept { (header : FractalHeapHeader)
+        → header_at file.now at offset_size length_size ≡ Ok header
+        → header.table.max_heap_size ≡ fixed.heap_bits
+        → (offset len : ℕ) → IsWrittenId id.now offset len
+        → 16 ≤ length slot.old → NamesPair result slot.new offset len }
 {
     put_answer(
         slot,
@@ -80,8 +91,8 @@ pub extern "C" fn fractal_heap_decode_managed_id(
 
 /// Position in the file and length of a managed object.
 ///
-/// Of a heap that our writer wrote, and by an ID that it gave, early in a run or at its end, the file has the object's
-/// bytes there.
+/// Of a heap that our writer wrote, and by an ID that it gave, early or at the end, the file has the object's bytes
+/// there.
 #[unsafe(no_mangle)]
 pub extern "C" fn fractal_heap_read_managed_object(
     file: &[u8],
@@ -97,8 +108,9 @@ pub extern "C" fn fractal_heap_read_managed_object(
     ensures slot_after { slot.new ≡ slot_bytes slot.old
         (report_of place_report
         (object_by file.now at offset_size length_size id.now offset_size)) }
-    ensures kept { (h : FractalHeapHeader) → header_at file.now at offset_size length_size ≡ Ok h
-        → ForKept h file.now offset_size id.now
+    ensures kept { (header : FractalHeapHeader)
+        → header_at file.now at offset_size length_size ≡ Ok header
+        → ForKept header file.now offset_size id.now
         (λ bytes. 16 ≤ length slot.old → NamesPlace result slot.new file.now bytes) }
 {
     put_answer(slot, read(file, at, offset_size, length_size, id).answer())

@@ -1,8 +1,11 @@
-//! What a caller gets by `fractal_heap_read_managed_object`, said from its clause `kept` alone, and so read from a file.
-ghost use Rattle.std.specs.Prelude.{◌≡◌, Ok, IsSomeAnd};
+//! What a caller gets by `fractal_heap_read_managed_object` and `fractal_heap_decode_managed_id`, said from their
+//! clauses `kept` alone, and so read from a file.
+ghost use Rattle.std.specs.Prelude.{◌≡◌, ℕ, Ok, Some, IsSomeAnd};
 ghost use Rattle.fractal_heap.specs.declared.header.FractalHeapHeader.{FractalHeapHeader};
 ghost use Rattle.fractal_heap.specs.Header.{header_at};
 ghost use Rattle.heap_kept.specs.Kept.{ForKept};
+ghost use Rattle.table.specs.Table.{fixed};
+ghost use Rattle.fractal_heap_c.specs.WrittenIds.{IsWrittenId};
 
 use super::*;
 use fields::has_room;
@@ -20,8 +23,9 @@ fn object_bytes<'a>(
     length_size: u8,
     id: &[u8],
 ) -> Option<&'a [u8]>
-    ensures { (h : FractalHeapHeader) → header_at file.now at offset_size length_size ≡ Ok h
-        → ForKept h file.now offset_size id.now
+    ensures { (header : FractalHeapHeader)
+        → header_at file.now at offset_size length_size ≡ Ok header
+        → ForKept header file.now offset_size id.now
         (λ bytes. IsSomeAnd result (λ found. found.now ≡ bytes)) }
 {
     let mut slot = [0u8; 16];
@@ -41,8 +45,23 @@ fn object_bytes<'a>(
     Some(&file[start..start + count])
 }
 
-// An unfiltered header at 0 of a heap with the fixed geometry, at an offset size and a length size of 8: the fields that
-// the reader heeds, by the HDF5 File Format Specification 3.0, III.G, 'Fractal Heap Header'.
+// The heap offset and the length of a managed ID, as a caller takes them from the slot.
+fn id_pair(file: &[u8], at: u64, offset_size: u8, length_size: u8, id: &[u8]) -> Option<(u64, u64)>
+    ensures { (header : FractalHeapHeader)
+        → header_at file.now at offset_size length_size ≡ Ok header
+        → header.table.max_heap_size ≡ fixed.heap_bits
+        → (offset len : ℕ) → IsWrittenId id.now offset len → result ≡ Some (offset, len) }
+{
+    let mut slot = [0u8; 16];
+    let refusal = fractal_heap_decode_managed_id(file, at, offset_size, length_size, id, &mut slot);
+    if refusal != 0 {
+        return None;
+    }
+    Some((read_u64_le(&slot, 0), read_u64_le(&slot, 8)))
+}
+
+// An unfiltered header at 0 of a heap with the fixed geometry, at an offset size and a length size of 8: the fields
+// that the reader heeds, by the HDF5 File Format Specification 3.0, III.G, 'Fractal Heap Header'.
 fn header(root: u64, rows: u16) -> [u8; 146] {
     let mut header = [0u8; 146];
     header[..4].copy_from_slice(b"FRHP");
@@ -75,6 +94,7 @@ fn an_object_is_found(rt: HostRuntime) -> Result<(), Fail> {
     serialize(&[1_002, 1], &objects, site, offsets, blocks, region)?;
     let mut id = [0u8; 8];
     write_managed_id(1_046, 1, &mut id)?;
+    assert_eq!(rt; id_pair(&file, 0, 8, 8, &id), Some((1_046, 1)));
     let found = object_bytes(&file, 0, 8, 8, &id).ok_or("the second object")?;
     assert_eq!(rt; found, [7].as_slice());
     write_managed_id(22, 1_002, &mut id)?;

@@ -1,13 +1,9 @@
 -- In a file that holds a written region, the reader comes from the root to the block of an object.
-use Prim.Native.Nat.{ℕ, zero, suc, ◌+◌, ◌-◌, ◌*◌, ◌^◌, ◌≤◌, ◌<◌}
-use mathlib.Core.Path.{◌≡◌, refl, sym, ap, ap₂, ◌∙◌, subst}
-use mathlib.Core.Bool.{true}
-use mathlib.Core.List.{List, [], ◌∷◌, ◌++◌}
-use native.Mathlib.Omega.{arith}
-use native.Mathlib.Decide.{ℕ_discrete}
-use lib.ListN.{length, take, drop, get_or, length-append}
-use lib.Pow.{pow_mono}
-use borrow.Author.Tests.{eq-eqb, ne_eqb}
+use Rattle.std.proofs.Common.{◌≡◌, ℕ, zero, suc, ◌+◌, ◌-◌, ◌*◌, ◌^◌, ◌<◌, ◌≤◌, true, List, [], ◌∷◌, ◌++◌, length}
+use Rattle.std.proofs.Common.{take, drop, slice_index, Result, Ok, refl, sym, ap, ◌∙◌, subst, arith}
+use Rattle.std.proofs.Common.{length-append, pow_mono}
+use Rattle.std.proofs.Math.Decide.{ℕ_discrete}
+use Rattle.std.proofs.lemmas.Grind.{common_steps}
 use Rattle.fields.specs.Widths.{legal}
 use Rattle.fields.proofs.Widths.{legal-small}
 use Rattle.table.specs.Table.{fixed, row_bits, row_offset}
@@ -27,7 +23,8 @@ use Rattle.plan.proofs.Root.{no-root-rows}
 use Rattle.plan.proofs.Tally.{tallied}
 use Rattle.region_indirects.specs.Walk.{all_slots, block}
 use Rattle.region_directs.specs.Directs.{objects_in, directs}
-use Rattle.region_write.proofs.Starts.{Placed, none, more, before, from, before-none, nth-from, end-reached, size-within}
+use Rattle.region_write.proofs.Starts.{Placed, none, more, before, from, before-none, nth-from, end-reached}
+use Rattle.region_write.proofs.Starts.{size-within}
 use Rattle.region_write.proofs.Geometry.{BlockAt, root-block}
 use Rattle.region_write.proofs.Indirect.{rooted, indirect-planned, bare-planned}
 use Rattle.region_write.specs.Region.{indirects, indirect_bytes, region}
@@ -36,26 +33,25 @@ use Rattle.region_write.proofs.Region.{indirect-bytes, indirects-planned, region
 use Rattle.fractal_heap_write.specs.Checks.{Fit}
 use Rattle.fractal_heap_write.proofs.Answering.{written, fit}
 use Rattle.fields.specs.declared.place.Place.{Place}
-use Rattle.std.specs.Prelude.{Result, Ok}
 use Rattle.refusals.specs.declared.FormatError.{FormatError}
 use Rattle.reading.specs.Walk.{root_walk, direct_at, walk_from}
 use Rattle.fractal_heap.specs.declared.header.FractalHeapHeader.{FractalHeapHeader}
 use Rattle.fractal_heap.specs.Read.{root_at}
-use Rattle.heap_kept.specs.Walking.{Has, Agrees, Coming, Clear, missed, Doubles}
+use Rattle.heap_kept.specs.Walking.{HasBytes, GivesRows, IsToCome, NoneHolds, missed, Doubles}
 use Rattle.heap_kept.proofs.Holding.{has_some, has_left, has_right}
 use Rattle.heap_kept.proofs.Agreeing.{numbers_of, agrees}
 use Rattle.heap_kept.proofs.Entries.{defined}
 use Rattle.heap_kept.proofs.Finding.{found}
 use Rattle.heap_kept.proofs.Missing.{not_found}
-use Rattle.heap_kept.specs.HeapKept.{Call, Written, lent_by, HoldsRegion, HeaderOf}
+use Rattle.heap_kept.specs.HeapKept.{Call, WriterAccepts, lent_by, HoldsRegion, IsHeaderOf}
 use Rattle.heap_kept.proofs.Directs.{block_at, block-least, directs-has}
 
 doubles : Doubles fixed
-doubles = record { starts = omega arith; fills = omega arith }
+doubles = record { starts_direct = omega arith; rows_fill_slots = omega arith }
 
 -- ---- an accepted call
 
-module _ (c : Call) (p : ManagedPlan) (W : Written c p) where
+module _ {c : Call} {p : ManagedPlan} (W : WriterAccepts c p) where
   abbrev xs : List ℕ
   xs = c.sizes
 
@@ -94,10 +90,10 @@ module _ (c : Call) (p : ManagedPlan) (W : Written c p) where
   direct_part = directs fixed w header offsets xs js starts
 
   pub planned : planned_for xs o b w ≡ Ok p
-  planned = (written xs (lent_by c) c.site p W.accepted).0
+  planned = (written xs (lent_by c) c.site p W.plan_answered).0
 
   pub tests : Fit c.site (lent_by c) (sum xs) p.region_size
-  tests = fit c.site (lent_by c) (sum xs) p.region_size (written xs (lent_by c) c.site p W.accepted).1
+  tests = fit c.site (lent_by c) (sum xs) p.region_size (written xs (lent_by c) c.site p W.plan_answered).1
 
   -- planning passed its tests and went through
   pub went : Passing xs o b w × Went w xs p
@@ -111,7 +107,8 @@ module _ (c : Call) (p : ManagedPlan) (W : Written c p) where
   block_of = in-one-body xs o b w p planned
 
   indirect-length : length indirect_part ≡ indirect_bytes w header p.root_rows starts
-  indirect-length = let a = indirects-planned xs o b w p planned header address first_direct in let c = indirect-bytes xs o b w p planned header in omega arith
+  indirect-length = let a = indirects-planned xs o b w p planned header address first_direct in
+      let c = indirect-bytes xs o b w p planned header in omega arith
 
   direct-length : length direct_part ≤ sizes_at fixed starts
   unfolding region
@@ -129,14 +126,16 @@ module _ (c : Call) (p : ManagedPlan) (W : Written c p) where
       go : Dec (p.root_rows ≡ 0) → Placed fixed 0 starts
       go (yes z) =
           let S = fixed-slot (no-root-rows xs o b w p planned z).slot in
-          subst (Placed fixed 0) (sym (bare-planned xs o b w p planned z).blocks) (more {lo = 0} {s = 0} (omega arith) (record { starts = S.starts; inside = S.inside; size_is = refl }) none)
+          subst (Placed fixed 0) (sym (bare-planned xs o b w p planned z).blocks)
+          (more {lo = 0} {s = 0} (omega arith) (record { starts = S.starts; inside = S.inside; size_is = refl })
+          none)
       go (no z) = (rooted xs o b w p planned (omega arith)).placed
 
   -- ---- a placed block, the n-th
 
   module _ (n : ℕ) (l : n < length starts) where
     abbrev pub start : ℕ
-    start = get_or starts n 0
+    start = slice_index starts n
 
     -- its address
     abbrev pub place_of : ℕ
@@ -167,37 +166,44 @@ module _ (c : Call) (p : ManagedPlan) (W : Written c p) where
     bytes_of = block_at fixed w header offsets xs js start
 
     pub bytes-least : (slot_at fixed start).size ≤ length bytes_of
-    bytes-least = block-least fixed w header start (slot_at fixed start).size (objects_in start (slot_at fixed start).size offsets xs js)
+    bytes-least = block-least fixed w header start (slot_at fixed start).size
+        (objects_in start (slot_at fixed start).size offsets xs js)
 
-    coming : Coming fixed start place_of (drop (suc n) starts) 0 starts first_direct
-    coming = record { placed = starts-placed; ahead = omega arith; there = there; stands = refl }
+    coming : IsToCome fixed start place_of (drop (suc n) starts) 0 starts first_direct
+    coming = record { placed = starts-placed; not_passed = omega arith; in_list = there; address_is = refl }
 
     -- ---- in the file
 
-    module _ (F : List ℕ) (H : HoldsRegion F c p) where
-      region-has : Has F address (indirect_part ++ direct_part)
+    module _ {F : List ℕ} (H : HoldsRegion F c p) where
+      region-has : HasBytes F address (indirect_part ++ direct_part)
       unfolding region
       region-has =
           let R : List ℕ = region c.site p.root_rows xs js in
           let m : length R ≡ p.region_size = region-length xs o b w p planned header address js in
           let i = in-region in
           let s = slot-some fixed start in
-          has_some F address R (omega arith) (ap (λ (k : ℕ). take k (drop address F)) m ∙ H.holds)
+          has_some F address R (omega arith) (ap (λ (k : ℕ). take k (drop address F)) m ∙ H.region_there)
 
       -- the block stands there
-      pub block-has : Has F place_of bytes_of
+      pub block-has : HasBytes F place_of bytes_of
       block-has =
           directs-has fixed w header offsets xs js F first_direct start (drop (suc n) starts) starts direct-length there
-          (subst (λ (y : ℕ). Has F (address + y) direct_part) indirect-length (has_right F address indirect_part direct_part region-has))
+          (subst (λ (y : ℕ). HasBytes F (address + y) direct_part) indirect-length
+          (has_right F address indirect_part direct_part region-has))
 
       pub block_inside : place_of + (slot_at fixed start).size ≤ length F
-      block_inside = let k = block-has.within in let m = bytes-least in omega arith
+      block_inside = let k = block-has.in_file in let m = bytes-least in omega arith
 
       -- ---- under a header
 
-      module _ (h : FractalHeapHeader) (T : HeaderOf h c p) (t len : ℕ) where
+      module _ {h : FractalHeapHeader} (T : IsHeaderOf h c p) (t len : ℕ) where
         table_is : h.table ≡ numbers_of fixed
-        table_is = λ i. record { table_width = T.table-width i; starting_block_size = T.starting-block i; max_direct_block_size = T.largest-direct i; max_heap_size = T.heap-bits i }
+        table_is = λ i. record {
+          table_width = T.table_width i;
+          starting_block_size = T.starting_block_size i;
+          max_direct_block_size = T.max_direct_block_size i;
+          max_heap_size = T.max_heap_size i;
+        }
 
         below : place_of < 2 ^ (8 * w) - 1
         below = let i = in-region in let e = tests.end in let s = slot-some fixed start in omega arith
@@ -213,13 +219,15 @@ module _ (c : Call) (p : ManagedPlan) (W : Written c p) where
             let q = B.place in
             let f : start ≡ 0 = one starts B.blocks n l in
             let g = ap (sizes_at fixed) (before-none start (omega arith) starts-placed) in
-            let e = T.root in
+            let e = T.root_address in
             let u = below in
             let d : h.root_block_address ≡ place_of = omega arith in
-            rw (defined h.root_block_address w (omega arith), eq-eqb h.current_rows_in_root_indirect_block 0 (T.rows ∙ z)) (ap₂ (λ (x y : ℕ). direct_at F x y t len) d (sym f))
+            let v = defined h.root_block_address w (omega arith) in
+            let no-rows = T.root_rows ∙ z in
+            grind (arith, common_steps)
           where
-            one : (ss : List ℕ) → ss ≡ 0 ∷ [] → (n : ℕ) → n < length ss → get_or ss n 0 ≡ 0
-            one ss e zero l = ap (λ (v : List ℕ). get_or v 0 0) e
+            one : (ss : List ℕ) → ss ≡ 0 ∷ [] → (n : ℕ) → n < length ss → slice_index ss n ≡ 0
+            one ss e zero l = ap (λ (v : List ℕ). slice_index v 0) e
             one ss e (suc n) l = absurd (let z = ap length e in omega arith)
 
         -- from a root of some rows the walk goes over the indirect blocks
@@ -234,7 +242,7 @@ module _ (c : Call) (p : ManagedPlan) (W : Written c p) where
           unfolding row_offset
           span_small = let m = row-mono fixed p.root_rows 29 few in omega arith
 
-          agree : Agrees (numbers_of fixed) fixed 29
+          agree : GivesRows (numbers_of fixed) fixed 29
           unfolding row_bits
           agree = agrees fixed (omega arith) (omega arith) (omega arith) 29 (λ r l. omega arith)
 
@@ -244,14 +252,19 @@ module _ (c : Call) (p : ManagedPlan) (W : Written c p) where
           blocks-are : indirect_part ≡ (block fixed w header p.root_rows 0 starts address first_direct).bytes
           blocks-are = indirects-some w header p.root_rows starts address first_direct some
 
-          blocks-have : Has F address (block fixed w header p.root_rows 0 starts address first_direct).bytes
-          blocks-have = subst (Has F address) blocks-are (has_left F address indirect_part direct_part region-has)
+          blocks-have : HasBytes F address (block fixed w header p.root_rows 0 starts address first_direct).bytes
+          blocks-have = subst (HasBytes F address) blocks-are (has_left F address indirect_part direct_part region-has)
 
-          blocks-below : address + length (block fixed w header p.root_rows 0 starts address first_direct).bytes ≤ 2 ^ (8 * w) - 1
-          blocks-below = let y = ap length blocks-are in let x = indirects-planned xs o b w p planned header address first_direct in let u = tests.end in omega arith
+          blocks-below : address + length
+              (block fixed w header p.root_rows 0 starts address first_direct).bytes ≤ 2 ^ (8 * w) - 1
+          blocks-below = let y = ap length blocks-are in
+              let x = indirects-planned xs o b w p planned header address first_direct in let u = tests.end in
+              omega arith
 
           root_is : h.root_block_address ≡ root
-          root_is = T.root ∙ ap (λ (y : ℕ). address + y) (sym (indirect-planned xs o b w p planned some header address first_direct).children)
+          root_is = T.root_address
+              ∙ ap (λ (y : ℕ). address + y)
+              (sym (indirect-planned xs o b w p planned some header address first_direct).children)
 
           root_below : root < 2 ^ (8 * w) - 1
           root_below =
@@ -263,33 +276,41 @@ module _ (c : Call) (p : ManagedPlan) (W : Written c p) where
               let x = indirect-length in
               omega arith
 
-          by-walk : (x : Result Place FormatError) → walk_from (numbers_of fixed) F w t len 64 root p.root_rows 0 ≡ x → root_at h F t len w ≡ x
+          by-walk : (x : Result Place FormatError)
+              → walk_from (numbers_of fixed) F w t len 64 root p.root_rows 0 ≡ x → root_at h F t len w ≡ x
           unfolding root_walk
           by-walk x q =
               let e = root_is in
               let u = root_below in
-              let z = T.rows in
-              rw (defined h.root_block_address w (omega arith), ne_eqb h.current_rows_in_root_indirect_block 0 (λ y. omega arith))
-              ((λ i. walk_from (table_is i) F w t len 64 (e i) (z i) 0) ∙ q)
+              let z = T.root_rows in
+              let v = defined h.root_block_address w (omega arith) in
+              let walk = (λ i. walk_from (table_is i) F w t len 64 (e i) (z i) 0) ∙ q in
+              grind (arith, common_steps)
 
-          by-found : start ≤ t → t < start + (slot_at fixed start).size → root_at h F t len w ≡ direct_at F place_of start t len
+          by-found : start ≤ t → t < start + (slot_at fixed start).size
+              → root_at h F t len w ≡ direct_at F place_of start t len
           by-found lo hi =
               let r = (rooted xs o b w p planned some).reaches in
               let e = end-reached starts-placed there in
               let s = slot-some fixed start in
               let f = few in
               by-walk (direct_at F place_of start t len)
-              (found fixed doubles w header (numbers_of fixed) 29 agree F width-legal t len start place_of (drop (suc n) starts) lo hi below p.root_rows 0 starts address first_direct 64 few (omega arith) span_small is_block (coming, omega arith) blocks-have blocks-below)
+              (found fixed doubles w header (numbers_of fixed) 29 agree F width-legal t len start place_of
+              (drop (suc n) starts) lo hi below p.root_rows 0 starts address first_direct 64 few (omega arith)
+              span_small is_block (coming, omega arith) blocks-have blocks-below)
 
           -- where no placed block holds the offset
-          pub by-missing : Clear fixed t starts → root_at h F t len w ≡ missed F t len
+          pub by-missing : NoneHolds fixed t starts → root_at h F t len w ≡ missed F t len
           by-missing X =
               let f = few in
               by-walk (missed F t len)
-              (not_found fixed doubles w header (numbers_of fixed) 29 agree F width-legal t len p.root_rows 0 starts address first_direct 64 few (omega arith) span_small is_block (record { placed = starts-placed; clear = X }) blocks-have blocks-below)
+              (not_found fixed doubles w header (numbers_of fixed) 29 agree F width-legal t len p.root_rows 0 starts
+              address first_direct 64 few (omega arith) span_small is_block
+              (record { placed = starts-placed; none_holds = X }) blocks-have blocks-below)
 
         -- from the root to the block
-        pub root-finds : start ≤ t → t < start + (slot_at fixed start).size → root_at h F t len w ≡ direct_at F place_of start t len
+        pub root-finds : start ≤ t → t < start + (slot_at fixed start).size
+            → root_at h F t len w ≡ direct_at F place_of start t len
         root-finds lo hi = go (ℕ_discrete p.root_rows 0)
           where
             go : Dec (p.root_rows ≡ 0) → root_at h F t len w ≡ direct_at F place_of start t len

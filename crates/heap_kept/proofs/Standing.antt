@@ -1,12 +1,8 @@
 -- Written indirect blocks in a file: their slots one by one, their signature, and where their entries are.
-use Prim.Native.Nat.{ℕ, suc, ◌+◌, ◌-◌, ◌*◌, ◌^◌, ◌≤◌, ◌<◌, ◌/◌}
-use mathlib.Core.Path.{◌≡◌, refl, sym, ap, ◌∙◌, subst}
-use mathlib.Core.List.{List, [], ◌∷◌, ◌++◌}
-use native.Mathlib.Omega.{arith}
-use native.Mathlib.Nat.{add-zero}
-use lib.ListN.{length, drop, length-append}
-use borrow.Author.Tests.{le-leb, eq-eqb}
-use Rattle.fields.specs.LittleEndian.{le, value, le_at}
+use Rattle.std.proofs.Common.{◌≡◌, ℕ, suc, ◌+◌, ◌-◌, ◌*◌, ◌/◌, ◌^◌, ◌<◌, ◌≤◌, List, [], ◌∷◌, ◌++◌, length, drop}
+use Rattle.std.proofs.Common.{Option, Result, refl, sym, ap, ◌∙◌, subst, arith, add-zero, length-append}
+use Rattle.std.proofs.lemmas.Grind.{common_steps}
+use Rattle.fields.specs.LittleEndian.{le, value}
 use Rattle.fields.specs.Fields.{len_ensured}
 use Rattle.fields.proofs.LittleEndian.{length-le}
 use Rattle.checksum.specs.Lookup3.{hashlittle}
@@ -15,25 +11,28 @@ use Rattle.table.specs.Sizes.{offset_bytes}
 use Rattle.fields.specs.Signatures.{indirect_signature}
 use Rattle.region_blocks.specs.Blocks.{block_head, indirect_block}
 use Rattle.region_blocks.proofs.Lengths.{indirect-head-length, indirect-length}
-use Rattle.region_indirects.specs.Walk.{Walked, both, finished, all_slots, block}
+use Rattle.region_indirects.specs.Walk.{Walked, both, finished, slot, smaller, all_slots, block}
 use Rattle.reading.specs.declared.rows.DoublingTable.{DoublingTable}
 use Rattle.reading.specs.declared.children.HeapChild.{HeapChild}
 use Rattle.fields.specs.declared.place.Place.{Place}
-use Rattle.std.specs.Prelude.{Option, Result}
 use Rattle.refusals.specs.Steps.{◌>>=◌}
 use Rattle.refusals.specs.declared.FormatError.{FormatError}
 use Rattle.refusals.specs.declared.FormatError.TheVariants.{UnexpectedEof}
 use Rattle.numbers.specs.Numbers.{saturated}
 use Rattle.reading.specs.Blocks.{slot_rows, child_in_slots, entries_place, child_in, child_at}
 use Rattle.reading.specs.Walk.{direct_at, by_child, walk_from}
-use Rattle.heap_kept.specs.Walking.{Has}
+use Rattle.heap_kept.specs.Walking.{HasBytes}
 use Rattle.heap_kept.proofs.Holding.{has_left, has_right, has-drop, has-number}
+
+-- what is written of the slot at the heap offset `at`, in row r of a block of n rows
+abbrev pub in_slot : Table → ℕ → ℕ → ℕ → ℕ → ℕ → List ℕ → ℕ → ℕ → Walked
+in_slot t w header n r at ss pos next = slot t w header (smaller t w header n) r at ss pos next
 
 -- the outcome o of a walk is in the file F: its blocks from pos on, its entries at e of s; addresses have w bytes
 pub record Stands (F s : List ℕ) (w pos e : ℕ) (o : Walked) : Type 0 where
-  pub bytes : Has F pos o.bytes
+  pub bytes : HasBytes F pos o.bytes
   pub below : pos + length o.bytes ≤ 2 ^ (8 * w) - 1
-  pub entries : Has s e o.entries
+  pub entries : HasBytes s e o.entries
 
 module _ {F s : List ℕ} {w pos e : ℕ} (c o : Walked) where
   pub stands-first : Stands F s w pos e (both c o) → Stands F s w pos e c
@@ -41,7 +40,11 @@ module _ {F s : List ℕ} {w pos e : ℕ} (c o : Walked) where
   stands-first S =
       let n = length-append c.bytes o.bytes in
       let l = S.below in
-      record { bytes = has_left F pos c.bytes o.bytes S.bytes; below = omega arith; entries = has_left s e c.entries o.entries S.entries }
+      record {
+        bytes = has_left F pos c.bytes o.bytes S.bytes;
+        below = omega arith;
+        entries = has_left s e c.entries o.entries S.entries;
+      }
 
   pub stands-next : length c.entries ≡ w → Stands F s w pos e (both c o) → Stands F s w (pos + length c.bytes) (e + w) o
   unfolding both
@@ -51,20 +54,24 @@ module _ {F s : List ℕ} {w pos e : ℕ} (c o : Walked) where
       record {
         bytes = has_right F pos c.bytes o.bytes S.bytes;
         below = omega arith;
-        entries = subst (λ (y : ℕ). Has s (e + y) o.entries) k (has_right s e c.entries o.entries S.entries);
+        entries = subst (λ (y : ℕ). HasBytes s (e + y) o.entries) k (has_right s e c.entries o.entries S.entries);
       }
 
 module _ (t : Table) (w header n at : ℕ) (ss : List ℕ) (pos next : ℕ) where
-  pub block-bytes : (block t w header n at ss pos next).bytes ≡ (all_slots t w header n at ss pos next).bytes ++ indirect_block t w header at (all_slots t w header n at ss pos next).entries
+  pub block-bytes : (block t w header n at ss pos next).bytes
+      ≡ (all_slots t w header n at ss pos next).bytes ++ indirect_block t w header at
+      (all_slots t w header n at ss pos next).entries
   unfolding block finished
   block-bytes = refl
 
-  pub block-entry : (block t w header n at ss pos next).entries ≡ le w (pos + length (all_slots t w header n at ss pos next).bytes)
+  pub block-entry : (block t w header n at ss pos next).entries
+      ≡ le w (pos + length (all_slots t w header n at ss pos next).bytes)
   unfolding block finished
   block-entry = refl
 
   -- the block itself stands below what it ends below
-  pub block-below : (end : ℕ) → pos + length (block t w header n at ss pos next).bytes ≤ end → pos + length (all_slots t w header n at ss pos next).bytes < end
+  pub block-below : (end : ℕ) → pos + length (block t w header n at ss pos next).bytes ≤ end
+      → pos + length (all_slots t w header n at ss pos next).bytes < end
   block-below end l =
       let o = all_slots t w header n at ss pos next in
       let a = ap length block-bytes ∙ length-append o.bytes (indirect_block t w header at o.entries) in
@@ -72,50 +79,68 @@ module _ (t : Table) (w header n at : ℕ) (ss : List ℕ) (pos next : ℕ) wher
       omega arith
 
 -- an indirect block in the file: its signature, and where its entries are
-module _ (t : Table) (w header : ℕ) (F : List ℕ) (p at : ℕ) (es : List ℕ) (H : Has F p (indirect_block t w header at es)) where
-  head-has : Has F p (block_head t w indirect_signature header at ++ es)
+module _ (t : Table) (w header : ℕ) (F : List ℕ) (p at : ℕ) (es : List ℕ)
+    (H : HasBytes F p (indirect_block t w header at es)) where
+  head-has : HasBytes F p (block_head t w indirect_signature header at ++ es)
   unfolding indirect_block
-  head-has = has_left F p (block_head t w indirect_signature header at ++ es) (le 4 (hashlittle (block_head t w indirect_signature header at ++ es))) H
+  head-has = has_left F p (block_head t w indirect_signature header at ++ es)
+      (le 4 (hashlittle (block_head t w indirect_signature header at ++ es))) H
 
-  entries-has : Has (drop p F) (5 + w + offset_bytes t) es
+  entries-has : HasBytes (drop p F) (5 + w + offset_bytes t) es
   entries-has =
-      has-drop F p (5 + w + offset_bytes t) es (subst (λ (y : ℕ). Has F (p + y) es) (indirect-head-length t w header at) (has_right F p (block_head t w indirect_signature header at) es head-has))
+      let behind = has_right F p (block_head t w indirect_signature header at) es head-has in
+      has-drop F p (5 + w + offset_bytes t) es (rw (indirect-head-length t w header at) at behind)
 
-  sign-has : Has (drop p F) 0 (le 4 0x42494846)
+  sign-has : HasBytes (drop p F) 0 (le 4 0x42494846)
   unfolding block_head le
   sign-has =
-      has-drop F p 0 indirect_signature (subst (λ (y : ℕ). Has F y indirect_signature) (sym (add-zero p))
-      (has_left F p indirect_signature ((0 ∷ []) ++ (le w header ++ le (offset_bytes t) at)) (has_left F p (block_head t w indirect_signature header at) es head-has)))
+      has-drop F p 0 indirect_signature (subst (λ (y : ℕ). HasBytes F y indirect_signature) (sym (add-zero p))
+      (has_left F p indirect_signature ((0 ∷ []) ++ (le w header ++ le (offset_bytes t) at))
+      (has_left F p (block_head t w indirect_signature header at) es head-has)))
 
 -- a block in the file: it stands behind those in its slots, and all of them stand there
 pub record BlockStands (t : Table) (w header at : ℕ) (F : List ℕ) (pos : ℕ) (o : Walked) : Type 0 where
-  pub own : Has F (pos + length o.bytes) (indirect_block t w header at o.entries)
+  pub own : HasBytes F (pos + length o.bytes) (indirect_block t w header at o.entries)
   pub slots : Stands F (drop (pos + length o.bytes) F) w pos (5 + w + offset_bytes t) o
 
-pub block-stands : (t : Table) (w header n at : ℕ) (ss : List ℕ) (pos next : ℕ) (F : List ℕ) → Has F pos (block t w header n at ss pos next).bytes
-    → pos + length (block t w header n at ss pos next).bytes ≤ 2 ^ (8 * w) - 1 → BlockStands t w header at F pos (all_slots t w header n at ss pos next)
+pub block-stands : (t : Table) (w header n at : ℕ) (ss : List ℕ) (pos next : ℕ) (F : List ℕ)
+    → HasBytes F pos (block t w header n at ss pos next).bytes
+    → pos + length (block t w header n at ss pos next).bytes ≤ 2 ^ (8 * w) - 1
+    → BlockStands t w header at F pos (all_slots t w header n at ss pos next)
 block-stands t w header n at ss pos next F H k =
     let o : Walked = all_slots t w header n at ss pos next in
-    let G = subst (Has F pos) (block-bytes t w header n at ss pos next) H in
+    let G = subst (HasBytes F pos) (block-bytes t w header n at ss pos next) H in
     let I = has_right F pos o.bytes (indirect_block t w header at o.entries) G in
     let v = block-below t w header n at ss pos next (2 ^ (8 * w) - 1) k in
     record {
       own = I;
-      slots = record { bytes = has_left F pos o.bytes (indirect_block t w header at o.entries) G; below = omega arith; entries = entries-has t w header F (pos + length o.bytes) at o.entries I };
+      slots = record {
+        bytes = has_left F pos o.bytes (indirect_block t w header at o.entries) G;
+        below = omega arith;
+        entries = entries-has t w header F (pos + length o.bytes) at o.entries I;
+      };
     }
 
 -- what the walk makes of a child, with so many blocks to go
-abbrev pub onward : DoublingTable → List ℕ → ℕ → ℕ → ℕ → ℕ → Result (Option HeapChild) FormatError → Result Place FormatError
-onward d F w target len depth c = c >>= (λ child. by_child child (λ p o. direct_at F p o target len) (λ p m o. walk_from d F w target len depth p m o) (UnexpectedEof (saturated (target + len)) (length F)))
+abbrev pub onward : DoublingTable → List ℕ → ℕ → ℕ → ℕ → ℕ → Result (Option HeapChild) FormatError
+    → Result Place FormatError
+onward d F w target len depth c =
+    c >>= (λ child. by_child child (λ p o. direct_at F p o target len)
+    (λ p m o. walk_from d F w target len depth p m o) (UnexpectedEof (saturated (target + len)) (length F)))
 
 -- at a block in the file the walk scans its entries
-pub walk-scans : (t : Table) (w header : ℕ) (d : DoublingTable) → d.max_heap_size ≡ t.heap_bits → (F : List ℕ) (target len p n at depth : ℕ) (es : List ℕ) → Has F p (indirect_block t w header at es)
-    → walk_from d F w target len (suc depth) p n at ≡ onward d F w target len depth (child_in_slots d (drop p F) w target (slot_rows d n 0) (5 + w + offset_bytes t) at)
+pub walk-scans : (t : Table) (w header : ℕ) (d : DoublingTable) → d.max_heap_size ≡ t.heap_bits
+    → (F : List ℕ) (target len p n at depth : ℕ) (es : List ℕ) → HasBytes F p (indirect_block t w header at es)
+    → walk_from d F w target len (suc depth) p n at
+    ≡ onward d F w target len depth
+    (child_in_slots d (drop p F) w target (slot_rows d n 0) (5 + w + offset_bytes t) at)
 unfolding walk_from child_at child_in value len_ensured entries_place offset_bytes
 walk-scans t w header d bits F target len p n at depth es H =
-    let r = H.within in
+    let r = H.in_file in
     let l = indirect-length t w header at es in
     let S = sign-has t w header F p at es H in
-    let k = S.within in
+    let k = S.in_file in
     let m = length-le 4 0x42494846 in
-    rw (le-leb (p + 4) (length F) (omega arith), le-leb (0 + 4) (length (drop p F)) (omega arith), eq-eqb (le_at (drop p F) 0 4) 0x42494846 (has-number (drop p F) 4 0 0x42494846 (omega arith) S), ap (λ (k : ℕ). 5 + w + (k + 7) / 8) bits)
+    let signed = has-number (drop p F) 4 0 0x42494846 (omega arith) S in
+    let behind = ap (λ (k : ℕ). 5 + w + (k + 7) / 8) bits in
+    grind (arith, common_steps)

@@ -1,6 +1,7 @@
--- What the laws say of the reader's walk over written indirect blocks: steps towards the theorem, at any table. Nothing
--- here has to be believed.
-use Rattle.std.specs.Prelude.{ℕ, suc, ◌+◌, ◌-◌, ◌^◌, ◌≤◌, ◌<◌, ◌≡◌, true, List, [], ◌∷◌, length, take, drop, Result, Err}
+-- What the laws say of how the reader goes over written indirect blocks: steps towards the theorem, at any table.
+-- Nothing here has to be believed; it stands in specs so that wrong statements of these steps can be tried.
+use Rattle.std.specs.Prelude.{ℕ, suc, ◌+◌, ◌-◌, ◌^◌, ◌≤◌, ◌<◌, ◌≡◌, true, List, [], ◌∷◌}
+use Rattle.std.specs.Prelude.{length, take, drop, Result, Err}
 use Rattle.fields.specs.Undefined.{undefined_address}
 use Rattle.fields.specs.Widths.{legal}
 use Rattle.table.specs.Table.{Table, row_bits, row_offset}
@@ -19,69 +20,106 @@ use Rattle.reading.specs.declared.children.HeapChild.TheVariants.{Direct, Indire
 use Rattle.reading.specs.Blocks.{child_of}
 use Rattle.reading.specs.Walk.{direct_at, walk_from}
 
--- from p on the file F has the bytes l
-pub record Has (F : List ℕ) (p : ℕ) (l : List ℕ) : Type 0 where
-  pub within : p + length l ≤ length F
-  pub same : take (length l) (drop p F) ≡ l
+-- from `position` on the file has these bytes
+pub record HasBytes (file : List ℕ) (position : ℕ) (bytes : List ℕ) : Type 0 where
+  pub in_file : position + length bytes ≤ length file
+  pub bytes_there : take (length bytes) (drop position file) ≡ bytes
 
--- the header's numbers d give the first N rows of the table t
-pub record Agrees (d : DoublingTable) (t : Table) (N : ℕ) : Type 0 where
-  pub width : d.table_width ≡ 2 ^ t.width_bits
-  pub bits : d.max_heap_size ≡ t.heap_bits
-  pub size : (r : ℕ) → r < N → slot_size d r ≡ 2 ^ row_bits t r
-  pub direct : (r a start : ℕ) → r < N → row_bits t r ≤ t.direct_bits → child_of d r a start ≡ Direct a (2 ^ row_bits t r) start
-  pub deep : (r a start : ℕ) → r < N → t.direct_bits < row_bits t r → child_of d r a start ≡ Indirect a (r - t.width_bits) start
+-- a header's numbers give the first rows of a table, so many of them
+pub record GivesRows (numbers : DoublingTable) (table : Table) (rows : ℕ) : Type 0 where
+  pub table_width : numbers.table_width ≡ 2 ^ table.width_bits
+  pub heap_bits : numbers.max_heap_size ≡ table.heap_bits
+  pub slot_sizes : (row : ℕ) → row < rows → slot_size numbers row ≡ 2 ^ row_bits table row
+  pub direct_children : (row address start : ℕ) → row < rows
+      → row_bits table row ≤ table.direct_bits
+      → child_of numbers row address start ≡ Direct address (2 ^ row_bits table row) start
+  pub indirect_children : (row address start : ℕ) → row < rows
+      → table.direct_bits < row_bits table row
+      → child_of numbers row address start ≡ Indirect address (row - table.width_bits) start
 
--- of the blocks ss, placed from a heap offset on, the first of them at the address `next`, the one at b is still
--- to come, and stands at the address a; bs come after it
-pub record Coming (t : Table) (b a : ℕ) (bs : List ℕ) (at : ℕ) (ss : List ℕ) (next : ℕ) : Type 0 where
-  pub placed : Placed t at ss
-  pub ahead : at ≤ b
-  pub there : from b ss ≡ b ∷ bs
-  pub stands : next + sizes_at t (before b ss) ≡ a
+-- of the blocks that begin at `starts`, placed from the heap offset `at` on, the first of them at the address `next`,
+-- the one at `start` is still to come, and stands at `address`; those at `later` come after it
+pub record IsToCome (table : Table) (start address : ℕ) (later : List ℕ)
+    (at : ℕ) (starts : List ℕ) (next : ℕ) : Type 0 where
+  pub placed : Placed table at starts
+  pub not_passed : at ≤ start
+  pub in_list : from start starts ≡ start ∷ later
+  pub address_is : next + sizes_at table (before start starts) ≡ address
 
--- no block at one of ss holds the heap offset x
-pub data Clear (t : Table) (x : ℕ) : List ℕ → Type 0 where
-  none : Clear t x []
-  more : {s : ℕ} {ss : List ℕ} → (s ≤ x → s + (slot_at t s).size ≤ x) → Clear t x ss → Clear t x (s ∷ ss)
+-- no block that begins at one of `starts` holds the heap offset
+pub data NoneHolds (table : Table) (offset : ℕ) : List ℕ → Type 0 where
+  no_block : NoneHolds table offset []
+  not_in_first : {start : ℕ} {starts : List ℕ}
+      → (start ≤ offset → start + (slot_at table start).size ≤ offset)
+      → NoneHolds table offset starts → NoneHolds table offset (start ∷ starts)
 
--- what the walk answers where it ends at no block
+-- what the reader answers where it comes to no block
 abbrev pub missed : List ℕ → ℕ → ℕ → Result Place FormatError
-missed F target len = Err (UnexpectedEof (saturated (target + len)) (length F))
+missed file target len = Err (UnexpectedEof (saturated (target + len)) (length file))
 
--- the blocks ss, placed from a heap offset on, do not hold x
-pub record Absent (t : Table) (x at : ℕ) (ss : List ℕ) : Type 0 where
-  pub placed : Placed t at ss
-  pub clear : Clear t x ss
+-- the blocks that begin at `starts`, placed from the heap offset `at` on, do not hold the heap offset
+pub record IsAbsent (table : Table) (offset at : ℕ) (starts : List ℕ) : Type 0 where
+  pub placed : Placed table at starts
+  pub none_holds : NoneHolds table offset starts
 
-module _ (t : Table) (w header : ℕ) (d : DoublingTable) (N : ℕ) (F : List ℕ) (target len : ℕ) where
-  -- where the file has an indirect block of n rows that begins at the heap offset `base`, behind the blocks in its
-  -- slots, and P holds of its placed blocks ss, the first of them at the address `next`, the walk from it on gives x
-  abbrev WalkGives : (ℕ → List ℕ → ℕ → Type 0) → Result Place FormatError → ℕ → Type 0
-  WalkGives P x n = (base : ℕ) (ss : List ℕ) (pos next depth : ℕ) → n ≤ N → n < depth → base + row_offset t n < 2 ^ 64 → BlockAt t n base → P base ss next
-      → Has F pos (block t w header n base ss pos next).bytes → pos + length (block t w header n base ss pos next).bytes ≤ undefined_address w
-      → walk_from d F w target len depth (pos + length (all_slots t w header n base ss pos next).bytes) n base ≡ x
+module _ (table : Table) (offset_size heap_header : ℕ) (numbers : DoublingTable) (row_limit : ℕ)
+    (file : List ℕ) (target len : ℕ) where
+  -- an indirect block of so many rows that begins at the heap offset `base`, over the placed blocks that begin at
+  -- `starts`, written to a position, with `next` as the address of the first of these blocks
+  abbrev written_block : ℕ → ℕ → List ℕ → ℕ → ℕ → List ℕ
+  written_block rows base starts position next =
+      (block table offset_size heap_header rows base starts position next).bytes
 
-  -- it comes to the block at b, which begins in this one
+  -- it stands behind the blocks in its slots
+  abbrev own_place : ℕ → ℕ → List ℕ → ℕ → ℕ → ℕ
+  own_place rows base starts position next =
+      position
+      + length (all_slots table offset_size heap_header rows base starts position next).bytes
+
+  -- where the file has such a block, and P holds of what is placed in it, the reader gives from it on `answer`
+  abbrev ReaderGives : (ℕ → List ℕ → ℕ → Type 0) → Result Place FormatError → ℕ → Type 0
+  ReaderGives P answer rows = (base : ℕ) (starts : List ℕ) (position next depth : ℕ)
+      → rows ≤ row_limit → rows < depth
+      → base + row_offset table rows < 2 ^ 64 → BlockAt table rows base
+      → P base starts next
+      → HasBytes file position (written_block rows base starts position next)
+      → position + length (written_block rows base starts position next)
+      ≤ undefined_address offset_size
+      → walk_from numbers file offset_size target len depth
+      (own_place rows base starts position next) rows base
+      ≡ answer
+
+  -- it comes to the block at `start`, which begins in this one
   abbrev pub Finds : ℕ → ℕ → List ℕ → ℕ → Type 0
-  Finds b a bs n = WalkGives (λ base ss next. Coming t b a bs base ss next × (b < base + row_offset t n)) (direct_at F a b target len) n
+  Finds start address later rows = ReaderGives
+      (λ base starts next. IsToCome table start address later base starts next
+      × (start < base + row_offset table rows))
+      (direct_at file address start target len) rows
 
   -- it ends with 1, where no block holds the target
   abbrev pub Misses : ℕ → Type 0
-  Misses n = WalkGives (λ base ss next. Absent t target base ss) (missed F target len) n
+  Misses rows = ReaderGives
+      (λ base starts next. IsAbsent table target base starts) (missed file target len) rows
 
 -- a table whose rows fill the slots of later rows
-pub record Doubles (t : Table) : Type 0 where
-  pub starts : t.start_bits ≤ t.direct_bits
-  pub fills : t.width_bits + t.start_bits ≤ suc t.direct_bits
+pub record Doubles (table : Table) : Type 0 where
+  pub starts_direct : table.start_bits ≤ table.direct_bits
+  pub rows_fill_slots : table.width_bits + table.start_bits ≤ suc table.direct_bits
 
--- the walk finds the block that holds the target, at its address
-abbrev pub WalkFinds : Type 0
-WalkFinds = (t : Table) → Doubles t → (w header : ℕ) (d : DoublingTable) (N : ℕ) → Agrees d t N → (F : List ℕ) → legal w ≡ true
-    → (target len b a : ℕ) (bs : List ℕ) → b ≤ target → target < b + (slot_at t b).size → a < undefined_address w
-    → (n : ℕ) → Finds t w header d N F target len b a bs n
+-- the reader comes to the block that holds the target, at its address
+abbrev pub PlacedBlocksFound : Type 0
+PlacedBlocksFound = (table : Table) → Doubles table
+    → (offset_size heap_header : ℕ) (numbers : DoublingTable) (row_limit : ℕ)
+    → GivesRows numbers table row_limit → (file : List ℕ) → legal offset_size ≡ true
+    → (target len start address : ℕ) (later : List ℕ)
+    → start ≤ target → target < start + (slot_at table start).size
+    → address < undefined_address offset_size → (rows : ℕ)
+    → Finds table offset_size heap_header numbers row_limit file target len start address later rows
 
 -- and ends with 1 where there is none
-abbrev pub WalkMisses : Type 0
-WalkMisses = (t : Table) → Doubles t → (w header : ℕ) (d : DoublingTable) (N : ℕ) → Agrees d t N → (F : List ℕ) → legal w ≡ true
-    → (target len n : ℕ) → Misses t w header d N F target len n
+abbrev pub OtherOffsetsMissed : Type 0
+OtherOffsetsMissed = (table : Table) → Doubles table
+    → (offset_size heap_header : ℕ) (numbers : DoublingTable) (row_limit : ℕ)
+    → GivesRows numbers table row_limit → (file : List ℕ) → legal offset_size ≡ true
+    → (target len rows : ℕ)
+    → Misses table offset_size heap_header numbers row_limit file target len rows

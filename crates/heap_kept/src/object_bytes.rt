@@ -1,5 +1,5 @@
-//! The bytes of an object, by the ID that it was given: `fetch` is lent the file, a header and the ID, and never sees what
-//! was written.
+//! The bytes of an object, by the ID that it was given: `fetch` is lent the file, a header and the ID, and never sees
+//! what was written.
 ghost use Rattle.std.specs.Prelude.{◌≡◌, ◌≤◌, ◌++◌, length, take, drop, Ok, OnOk, OnErr};
 ghost use Rattle.fields.specs.declared.place.Place.{Place};
 ghost use Rattle.fractal_heap.specs.Read.{managed_at};
@@ -11,7 +11,9 @@ use refusals::FormatError;
 /// Copies the bytes of the managed object that an ID names into the front of `found`, and answers how many they are.
 /// Refused as `read_managed_object` refuses, and by 13 where they have no room; then `found` stays as it is.
 ///
-/// Of a heap that our writer wrote, and by an ID that it gave, early in a run or at its end, these are the object's bytes.
+/// Of a heap that our writer wrote, and by an ID that it gave, early or at the end, these are the object's bytes.
+/// What was written is not at hand where something is read, so the clause `kept` says so for every heap of ours that
+/// the file may hold, and for every object of which this is the ID.
 pub fn fetch(
     header: &FractalHeapHeader,
     file: &[u8],
@@ -25,8 +27,8 @@ pub fn fetch(
     ensures answer { result
         ≡ fetched (managed_at header.now file.now id.now offset_size) (length found.old) }
     ensures copied { (place : Place) → managed_at header.now file.now id.now offset_size ≡ Ok place
-        → OnOk result (found.new
-        ≡ take place.length (drop place.position file.now) ++ drop place.length found.old) }
+        → OnOk result (found.new ≡ take place.length (drop place.position file.now)
+        ++ drop place.length found.old) }
     ensures untouched { OnErr result (found.new ≡ found.old) }
 {
     let place = header.read_managed_object(file, id, offset_size)?;

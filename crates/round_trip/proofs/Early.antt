@@ -1,5 +1,5 @@
 -- The ID by a plan, step by step.
-use Rattle.std.proofs.Common.{◌≡◌, ℕ, ◌<◌, List, ◌++◌, Result, Ok, sym, ap, ◌∙◌, arith, length, drop, get_or}
+use Rattle.std.proofs.Common.{◌≡◌, ℕ, ◌<◌, List, ◌++◌, length, drop, slice_index, Result, Ok, sym, ap, ◌∙◌, arith}
 use Rattle.std.proofs.Math.ListN.{length-append, get_or-append}
 use Rattle.table.specs.Table.{fixed}
 use Rattle.table.specs.Sizes.{offset_bytes}
@@ -12,28 +12,37 @@ use Rattle.plan.specs.declared.ManagedPlan.{ManagedPlan}
 use Rattle.plan.specs.Answer.{planned_for}
 use Rattle.plan.proofs.Tally.{tallied}
 use Rattle.ids.specs.Written.{managed_id}
-use Rattle.ids.specs.Checks.{id_checked, id_length}
+use Rattle.ids.specs.Checks.{id_checked}
 use Rattle.heap_kept.specs.HeapKept.{offset_of}
 use Rattle.round_trip.specs.Early.{early_id}
 
-module _ (xs os left : List ℕ) (i o b w : ℕ) (p : ManagedPlan) (e : planned_for xs o b w ≡ Ok p) (l : i < length xs) (f : left ≡ put os 0 (plan_offsets fixed w xs)) where
-  many : length (plan_offsets fixed w xs) ≡ length xs
+module _ (xs os : List ℕ) (o b w : ℕ) {left : List ℕ} {i : ℕ} {p : ManagedPlan} (e : planned_for xs o b w ≡ Ok p)
+    (l : i < length xs)
+    (f : left ≡ put os 0 (plan_offsets fixed w xs)) where
+  abbrev offsets : List ℕ
+  offsets = plan_offsets fixed w xs
+
+  many : length offsets ≡ length xs
   many = (tallied xs o b w p e).offsets
 
-  lists : left ≡ plan_offsets fixed w xs ++ drop (length (plan_offsets fixed w xs)) os
-  lists = f ∙ put_front os (plan_offsets fixed w xs)
+  lists : left ≡ offsets ++ drop (length offsets) os
+  lists = f ∙ put_front os offsets
 
   pub placed : i < length left
-  placed = omega (arith, l, many, ap length lists, length-append (plan_offsets fixed w xs) (drop (length (plan_offsets fixed w xs)) os))
+  placed = omega (arith, l, many, ap length lists, length-append offsets (drop (length offsets) os))
 
-  offset-is : get_or left i 0 ≡ offset_of w xs i
-  offset-is = ap (λ (v : List ℕ). get_or v i 0) lists ∙ get_or-append (plan_offsets fixed w xs) (drop (length (plan_offsets fixed w xs)) os) 0 i (omega (arith, l, many))
+  offset-is : slice_index left i ≡ offset_of w xs i
+  offset-is =
+      ap (λ (v : List ℕ). slice_index v i) lists
+      ∙ get_or-append offsets (drop (length offsets) os) 0 i (omega (arith, l, many))
 
   -- where planning accepts the ID writer decides
-  pub decided : (r : Result (Unit {0}) FormatError) → r ≡ id_checked fixed (get_or left i 0) (get_or xs i 0) 8
-      → early_id xs i o b w ≡ (r >>= λ _. Ok (managed_id fixed (get_or left i 0) (get_or xs i 0)))
-  unfolding early_id offset_bytes
-  decided r d =
+  pub decided : {r : Result (Unit {0}) FormatError} → r ≡ id_checked fixed (slice_index left i) (slice_index xs i) 8
+      → early_id xs i o b w ≡ (r >>= λ _. Ok (managed_id fixed (slice_index left i) (slice_index xs i)))
+  unfolding offset_bytes
+  decided d =
       rw e
-      (ap (λ (x : ℕ). id_checked fixed x (get_or xs i 0) 8 >>= λ _. Ok (managed_id fixed x (get_or xs i 0))) (sym offset-is)
-      ∙ ap (λ (t : Result (Unit {0}) FormatError). t >>= λ _. Ok (managed_id fixed (get_or left i 0) (get_or xs i 0))) (sym d))
+      (ap (λ (x : ℕ). id_checked fixed x (slice_index xs i) 8 >>= λ _. Ok (managed_id fixed x (slice_index xs i)))
+      (sym offset-is)
+      ∙ ap (λ (t : Result (Unit {0}) FormatError). t >>= λ _.
+      Ok (managed_id fixed (slice_index left i) (slice_index xs i))) (sym d))

@@ -1,18 +1,13 @@
 -- An ID in just as many bytes is all of them, and the object that is read by it.
-use Prim.Native.Nat.{ℕ, ◌+◌, ◌≤◌}
-use mathlib.Core.Path.{◌≡◌, refl}
-use mathlib.Core.List.{List, append-nil}
-use native.Mathlib.Omega.{arith}
-use lib.ListN.{length, drop_of_length-le}
+use Rattle.std.proofs.Common.{◌≡◌, ℕ, ◌+◌, ◌≤◌, List, length, Ok, refl, append-nil, arith, drop_of_length-le}
 use Rattle.fields.specs.LittleEndian.{put}
 use Rattle.table.specs.Table.{fixed}
 use Rattle.ids.specs.Written.{managed_id}
 use Rattle.ids.proofs.Ids.{id-length}
-use Rattle.ids.specs.Checks.{id_checked, id_length}
+use Rattle.ids.specs.Checks.{id_checked}
 use Rattle.table.specs.Sizes.{offset_bytes}
 use Rattle.fractal_heap.specs.declared.header.FractalHeapHeader.{FractalHeapHeader}
 use Rattle.fractal_heap.specs.Read.{managed_at}
-use Rattle.std.specs.Prelude.{Ok}
 use Rattle.round_trip.specs.Objects.{object_at}
 
 pub id_written : (s : List ℕ) (o n : ℕ) → length s ≡ 8 → put s 0 (managed_id fixed o n) ≡ managed_id fixed o n
@@ -22,6 +17,7 @@ id_written s o n e =
     rw (drop_of_length-le s l) (append-nil (managed_id fixed o n))
 
 -- an object is read by the ID that the writer accepts
-pub read-by : (h : FractalHeapHeader) (s : List ℕ) (w o n : ℕ) → id_checked fixed o n 8 ≡ Ok tt → object_at h s w o n ≡ managed_at h s (managed_id fixed o n) w
-unfolding object_at offset_bytes
+pub read-by : (h : FractalHeapHeader) (s : List ℕ) (w o n : ℕ) → id_checked fixed o n 8 ≡ Ok tt
+    → object_at h s w o n ≡ managed_at h s (managed_id fixed o n) w
+unfolding offset_bytes
 read-by h s w o n e = rw e refl

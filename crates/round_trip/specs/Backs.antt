@@ -7,17 +7,20 @@ use Rattle.fields.specs.declared.place.Place.{Place}
 use Rattle.fractal_heap.specs.declared.header.FractalHeapHeader.{FractalHeapHeader}
 use Rattle.round_trip.specs.Objects.{object_at}
 
--- the file s has the bytes bs at the place that was found
+-- the file has these bytes at the place that was found
 abbrev pub found_as : Result Place FormatError → List ℕ → List ℕ → Bool
-found_as (Ok place) s bs = bytes_eq (take place.length (drop place.position s)) bs
-found_as (Err e) s bs = false
+found_as (Ok place) file bytes = bytes_eq (take place.length (drop place.position file)) bytes
+found_as (Err refused) file bytes = false
 
--- the object of n bytes at the heap offset o is not empty, and found with the bytes bs
-unfoldable pub comes_back : FractalHeapHeader → List ℕ → ℕ → ℕ → ℕ → List ℕ → Bool
-comes_back h s w o n bs = nat_lt 0 n && found_as (object_at h s w o n) s bs
+-- the object of `size` bytes at the heap offset `offset` is not empty, and found with these bytes
+abbrev pub comes_back : FractalHeapHeader → List ℕ → ℕ → ℕ → ℕ → List ℕ → Bool
+comes_back header file offset_size offset size bytes =
+    nat_lt 0 size && found_as (object_at header file offset_size offset size) file bytes
 
--- how many nonempty objects of the sizes xs come back, with these heap offsets and the joined bytes js
-unfoldable pub backs : FractalHeapHeader → List ℕ → ℕ → List ℕ → List ℕ → List ℕ → ℕ
-backs h s w [] offsets js = 0
-backs h s w (x ∷ xs) [] js = 0
-backs h s w (x ∷ xs) (o ∷ offsets) js = bit (comes_back h s w o x (take x js)) + backs h s w xs offsets (drop x js)
+-- how many nonempty objects of these sizes come back, with these heap offsets and joined bytes
+unfoldable pub returned_count : FractalHeapHeader → List ℕ → ℕ → List ℕ → List ℕ → List ℕ → ℕ
+returned_count header file offset_size [] offsets objects = 0
+returned_count header file offset_size (size ∷ sizes) [] objects = 0
+returned_count header file offset_size (size ∷ sizes) (offset ∷ offsets) objects =
+    bit (comes_back header file offset_size offset size (take size objects))
+    + returned_count header file offset_size sizes offsets (drop size objects)

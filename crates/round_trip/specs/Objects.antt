@@ -14,25 +14,30 @@ use Rattle.ids.specs.Checks.{id_length, id_checked}
 -- the header of an unfiltered heap with the fixed geometry, with its root and the root's rows; no reader heeds the
 -- other fields
 abbrev pub fixed_header : ℕ → ℕ → FractalHeapHeader
-fixed_header root rows = record {
+fixed_header root_address root_rows = record {
   heap_id_length = 4097;
   io_filter_encoded_length = 0;
   max_managed_object_size = 7;
   btree_huge_objects_address = 0x123456789ABCDEF;
   managed_objects_count = 77777;
-  table = record { table_width = 4; starting_block_size = 1024; max_direct_block_size = 65536; max_heap_size = 40 };
+  table = record {
+    table_width = 4;
+    starting_block_size = 1024;
+    max_direct_block_size = 65536;
+    max_heap_size = 40;
+  };
   start_root_rows = 999;
-  root_block_address = root;
-  current_rows_in_root_indirect_block = rows;
+  root_block_address = root_address;
+  current_rows_in_root_indirect_block = root_rows;
 }
 
--- that of the heap of the plan p
+-- that of the heap of a plan
 abbrev pub header_of : Site → ManagedPlan → FractalHeapHeader
-header_of site p = fixed_header (site.region_address + p.root_place) p.root_rows
+header_of site plan = fixed_header (site.region_address + plan.root_place) plan.root_rows
 
--- what the file s answers for the object of n bytes at the heap offset o, by its ID; in eight bytes an ID is refused
--- by 16 alone
-unfoldable pub object_at : FractalHeapHeader → List ℕ → ℕ → ℕ → ℕ → Result Place FormatError
-object_at h s w o n = do
-  _ ← id_checked fixed o n (id_length fixed)
-  managed_at h s (managed_id fixed o n) w
+-- what the file answers for the object of `size` bytes at the heap offset `offset`, by its ID; in eight bytes an ID is
+-- refused by 16 alone
+abbrev pub object_at : FractalHeapHeader → List ℕ → ℕ → ℕ → ℕ → Result Place FormatError
+object_at header file offset_size offset size = do
+  _ ← id_checked fixed offset size (id_length fixed)
+  managed_at header file (managed_id fixed offset size) offset_size

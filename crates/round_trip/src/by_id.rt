@@ -1,4 +1,4 @@
-//! The ID of an object of a run, and the object read by it.
+//! The ID of an object of a list, and the object read by it.
 ghost use Rattle.std.specs.Prelude.{◌≡◌, ◌+◌, ◌^◌, ◌<◌, ◌≤◌, length, IfOk};
 ghost use Rattle.table.specs.Table.{fixed};
 ghost use Rattle.planner.specs.Steps.{plan_offsets, plan_starts};
@@ -14,7 +14,8 @@ use reading::rows::DoublingTable;
 use refusals::FormatError;
 use region_blocks::Site;
 
-/// The header of a heap with the fixed geometry; the reader does not heed the odd numbers.
+/// The header of a heap with the fixed geometry, for tests and as an example: a reader heeds the root, its rows and the
+/// geometry, and not the other numbers.
 pub fn fixed_header(root: u64, rows: u16) -> FractalHeapHeader
     ensures { result ≡ fixed_header root rows }
 {
@@ -45,9 +46,9 @@ pub fn header_of(site: Site, plan: ManagedPlan) -> FractalHeapHeader
     fixed_header(site.region_address + plan.root_place, plan.root_rows as u16)
 }
 
-/// The ID of the `i`-th object while its run has these sizes and no more: from their plan alone, which goes into the
+/// The ID of the `i`-th object while there are these sizes and no more: from their plan alone, which goes into the
 /// lists. Refused as planning refuses, and by 16 where the object has no ID.
-#[tactic(auto, using(crate::proofs::ReadBack::id_written), unfolding(crate::specs::Early::early_id, ids::specs::Checks::id_length, table::specs::Sizes::offset_bytes))]
+#[tactic(auto, using(crate::proofs::ReadBack::id_written), unfolding(table::specs::Sizes::offset_bytes))]
 pub fn early_id(
     sizes: &[u64],
     i: usize,
@@ -72,7 +73,7 @@ pub fn early_id(
 }
 
 /// Writes the ID of the object of `size` bytes at the heap offset `offset`, and reads by it.
-#[tactic(auto, using(crate::proofs::ReadBack::id_written), unfolding(crate::specs::Objects::object_at, table::specs::Sizes::offset_bytes))]
+#[tactic(auto, using(crate::proofs::ReadBack::id_written), unfolding(table::specs::Sizes::offset_bytes))]
 pub fn read_object(
     file: &[u8],
     header: &FractalHeapHeader,

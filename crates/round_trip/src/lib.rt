@@ -1,7 +1,7 @@
-//! The whole way of a run: its region is written into a part of a file, every nonempty object gets its ID and is read by
-//! it. `passing` lets anything happen to the file between writing and reading, so that what is read has to come from the
-//! file. Where nothing happens to it, `round_trip` counts all objects, and `write_and_fetch` hands out one whose bytes are
-//! the object's.
+//! The whole way of a list of objects: its region is written into a part of a file, every nonempty object gets its ID
+//! and is read by it. `passing` lets anything happen to the file between writing and reading, so that what is read
+//! has to come from the file. Where nothing happens to it, `round_trip` counts all objects, and `write_and_fetch`
+//! hands out one whose bytes are the object's.
 #![tactic(auto)]
 
 pub mod by_id;
@@ -10,12 +10,9 @@ pub mod passing;
 pub mod region;
 
 ghost use Rattle.std.specs.Prelude.{◌≡◌, ◌<◌, ◌≤◌, ◌++◌, length, drop, slice_index, IfOk, OnOk, OnErr};
-ghost use Rattle.fields.specs.LittleEndian.{put};
-ghost use Rattle.table.specs.Table.{fixed};
-ghost use Rattle.planner.specs.Steps.{plan_offsets, plan_starts};
 ghost use Rattle.heap_kept.specs.HeapKept.{part_of};
-ghost use Rattle.round_trip.specs.InFile.{serialized_in, file_with};
-ghost use Rattle.round_trip.specs.RoundTrip.{nonempty, came_back};
+ghost use Rattle.round_trip.specs.InFile.{serialized_in, file_with, ListsHavePlan};
+ghost use Rattle.round_trip.specs.RoundTrip.{nonempty_count, came_back};
 
 use crate::passing::{Untouched, count_after, fetch_after};
 use refusals::FormatError;
@@ -33,22 +30,21 @@ pub fn round_trip(
 ) -> Result<u64, FormatError>
     ensures answer { result ≡ came_back
         (serialized_in site sizes.now offsets.old blocks.old objects.now file.old)
-        (nonempty sizes.now) }
-    ensures written { IfOk (serialized_in site sizes.now offsets.old blocks.old objects.now file.old)
+        (nonempty_count sizes.now) }
+    ensures region_in_file { IfOk
+        (serialized_in site sizes.now offsets.old blocks.old objects.now file.old)
         (λ plan. file.new ≡ file_with site plan sizes.now objects.now file.old) }
-    ensures offsets_listed { OnOk result (offsets.new
-        ≡ put offsets.old 0 (plan_offsets fixed site.offset_size sizes.now)) }
-    ensures blocks_listed { OnOk result (blocks.new
-        ≡ put blocks.old 0 (plan_starts fixed site.offset_size sizes.now)) }
+    ensures lists { OnOk result (ListsHavePlan site.offset_size sizes.now
+        offsets.old offsets.new blocks.old blocks.new) }
     ensures untouched { OnErr result ((offsets.new ≡ offsets.old) × (blocks.new ≡ blocks.old)
         × (file.new ≡ file.old)) }
 {
     count_after::<Untouched>(sizes, objects, site, offsets, blocks, file)
 }
 
-/// Writes the region of the objects into `file`, and fetches the `i`-th object from the file, by the ID that it was given
-/// when the run had its first `early` objects. The answer is the number of its bytes. Only the writer refuses, and then
-/// all that is lent stays as it is: what it has written is found, with all its bytes.
+/// Writes the region of the objects into `file`, and fetches the `i`-th object from the file, by the ID that it was
+/// given when there were the first `early` objects alone. The answer is the number of its bytes. Only the writer
+/// refuses, and then all that is lent stays as it is: what it has written is found, with all its bytes.
 pub fn write_and_fetch(
     sizes: &[u64],
     objects: &[u8],
@@ -69,12 +65,11 @@ pub fn write_and_fetch(
         (slice_index sizes.now i) }
     ensures comes_back { OnOk result (found.new
         ≡ part_of sizes.now objects.now i ++ drop (slice_index sizes.now i) found.old) }
-    ensures written { IfOk (serialized_in site sizes.now offsets.old blocks.old objects.now file.old)
+    ensures region_in_file { IfOk
+        (serialized_in site sizes.now offsets.old blocks.old objects.now file.old)
         (λ plan. file.new ≡ file_with site plan sizes.now objects.now file.old) }
-    ensures offsets_listed { OnOk result (offsets.new
-        ≡ put offsets.old 0 (plan_offsets fixed site.offset_size sizes.now)) }
-    ensures blocks_listed { OnOk result (blocks.new
-        ≡ put blocks.old 0 (plan_starts fixed site.offset_size sizes.now)) }
+    ensures lists { OnOk result (ListsHavePlan site.offset_size sizes.now
+        offsets.old offsets.new blocks.old blocks.new) }
     ensures untouched { OnErr result ((offsets.new ≡ offsets.old) × (blocks.new ≡ blocks.old)
         × (file.new ≡ file.old) × (found.new ≡ found.old)) }
 {

@@ -1,13 +1,12 @@
-//! All objects of a written heap, read back by their IDs and compared with the bytes that they were written from: how many
-//! come back.
+//! All objects of a written heap, read back by their IDs and compared with the bytes that they were written from: how
+//! many come back.
 ghost use Rattle.std.specs.Prelude.{◌≡◌};
-ghost use Rattle.round_trip.specs.Backs.{comes_back, backs};
+ghost use Rattle.round_trip.specs.Backs.{comes_back, returned_count};
 
 use crate::by_id::read_object;
 use fractal_heap::header::FractalHeapHeader;
 
 // Whether an object that is not empty is found by its ID, with these bytes.
-#[tactic(auto, unfolding(crate::specs::Backs::comes_back))]
 fn comes_back(
     file: &[u8],
     header: &FractalHeapHeader,
@@ -37,7 +36,8 @@ pub fn read_back(
     objects: &[u8],
     offset_size: u8,
 ) -> u64
-    ensures { result ≡ backs header.now file.now offset_size sizes.now offsets.now objects.now }
+    ensures { result
+        ≡ returned_count header.now file.now offset_size sizes.now offsets.now objects.now }
 {
     let mut back = 0;
     let mut from: usize = 0;

@@ -1,12 +1,12 @@
-//! Written, then anything may happen to the file, then read: what is read is what the file has then.
-ghost use Rattle.std.specs.Prelude.{◌≡◌, ℕ, ◌<◌, ◌≤◌, ◌++◌, List, length, take, drop, slice_index, Ok, IfOk, OnOk, OnErr};
-ghost use Rattle.fields.specs.LittleEndian.{put};
-ghost use Rattle.table.specs.Table.{fixed};
-ghost use Rattle.planner.specs.Steps.{plan_offsets, plan_starts};
+//! Written, then anything may happen to the file, then read: what is read is what the file has then. As long as a
+//! contract speaks of a file that was just written, the bytes of the objects and of the file are equal, and a body that
+//! copies the objects, or only counts them, would meet it.
+ghost use Rattle.std.specs.Prelude.{◌≡◌, ℕ, ◌<◌, ◌≤◌, ◌++◌, List, length, take, drop, slice_index};
+ghost use Rattle.std.specs.Prelude.{IfOk, OnOk, OnErr};
 ghost use Rattle.region_write.specs.Region.{region};
 ghost use Rattle.heap_kept.specs.HeapKept.{part_of};
 ghost use Rattle.heap_kept.specs.Kept.{IsFetched};
-ghost use Rattle.round_trip.specs.InFile.{serialized_in, file_with};
+ghost use Rattle.round_trip.specs.InFile.{serialized_in, file_with, ListsHavePlan};
 ghost use Rattle.round_trip.specs.Passed.{object_in, fetched_in, counted_in};
 
 use crate::by_id::{early_id, header_of};
@@ -17,7 +17,7 @@ use plan::ManagedPlan;
 use refusals::FormatError;
 use region_blocks::Site;
 
-/// What becomes of a file between writing and reading.
+/// What becomes of a file between writing and reading: it has as many bytes as before, and they may be any.
 pub trait Passing {
     // The file afterwards.
     ghost passed: { List ℕ → List ℕ };
@@ -26,7 +26,7 @@ pub trait Passing {
         ensures { file.new ≡ passed file.old };
 }
 
-/// Nothing.
+/// The passing by which nothing happens to the file: for callers that read at once what they wrote.
 pub struct Untouched;
 
 impl Passing for Untouched {
@@ -48,10 +48,8 @@ fn serialize_and_pass<P: Passing>(
         ≡ serialized_in site sizes.now offsets.old blocks.old objects.now file.old }
     ensures passed { IfOk result
         (λ plan. file.new ≡ P.passed (file_with site plan sizes.now objects.now file.old)) }
-    ensures offsets_listed { OnOk result (offsets.new
-        ≡ put offsets.old 0 (plan_offsets fixed site.offset_size sizes.now)) }
-    ensures blocks_listed { OnOk result (blocks.new
-        ≡ put blocks.old 0 (plan_starts fixed site.offset_size sizes.now)) }
+    ensures lists { OnOk result (ListsHavePlan site.offset_size sizes.now
+        offsets.old offsets.new blocks.old blocks.new) }
     ensures untouched { OnErr result ((offsets.new ≡ offsets.old) × (blocks.new ≡ blocks.old)
         × (file.new ≡ file.old)) }
 {
@@ -60,9 +58,9 @@ fn serialize_and_pass<P: Passing>(
     Ok(plan)
 }
 
-/// Writes the region of the objects into `file`, lets the file pass, and fetches the `i`-th object from what the file has
-/// then, by the ID that it was given when the run had its first `early` objects. Where the writer refuses all that is
-/// lent stays as it is.
+/// Writes the region of the objects into `file`, lets the file pass, and fetches the `i`-th object from what the file
+/// has then, by the ID that it was given when there were the first `early` objects alone. Where the writer refuses all
+/// that is lent stays as it is.
 pub fn fetch_after<P: Passing>(
     sizes: &[u64],
     objects: &[u8],
@@ -96,21 +94,21 @@ pub fn fetch_after<P: Passing>(
 
     ensures passed { IfOk (serialized_in site sizes.now offsets.old blocks.old objects.now file.old)
         (λ plan. file.new ≡ P.passed (file_with site plan sizes.now objects.now file.old)) }
-    ensures offsets_listed { OnOk (serialized_in site sizes.now offsets.old blocks.old objects.now file.old)
-        (offsets.new ≡ put offsets.old 0 (plan_offsets fixed site.offset_size sizes.now)) }
-    ensures blocks_listed { OnOk (serialized_in site sizes.now offsets.old blocks.old objects.now file.old)
-        (blocks.new ≡ put blocks.old 0 (plan_starts fixed site.offset_size sizes.now)) }
-    ensures untouched { OnErr (serialized_in site sizes.now offsets.old blocks.old objects.now file.old)
+    ensures lists { OnOk (serialized_in site sizes.now offsets.old blocks.old objects.now file.old)
+        (ListsHavePlan site.offset_size sizes.now offsets.old offsets.new blocks.old blocks.new) }
+    ensures untouched { OnErr
+        (serialized_in site sizes.now offsets.old blocks.old objects.now file.old)
         ((offsets.new ≡ offsets.old) × (blocks.new ≡ blocks.old) × (file.new ≡ file.old)) }
 {
     let plan = serialize_and_pass::<P>(sizes, objects, site, offsets, blocks, file)?;
-    // Their plan goes over the front of the whole's in the lists, where it is the same.
+    // The early objects are planned alone, as when there were no others. Their plan goes over the front of the whole's
+    // in the lists, where it is the same.
     let id = early_id(&sizes[..early], i, site.offset_size, offsets, blocks)?;
     fetch(&header_of(site, plan), file, &id, site.offset_size, found)
 }
 
-/// Writes the region of the objects into `file`, lets the file pass, and counts the nonempty objects that come back from
-/// what the file has then. Where the writer refuses all that is lent stays as it is.
+/// Writes the region of the objects into `file`, lets the file pass, and counts the nonempty objects that come back
+/// from what the file has then. Where the writer refuses all that is lent stays as it is.
 pub fn count_after<P: Passing>(
     sizes: &[u64],
     objects: &[u8],
@@ -125,10 +123,8 @@ pub fn count_after<P: Passing>(
 
     ensures passed { IfOk (serialized_in site sizes.now offsets.old blocks.old objects.now file.old)
         (λ plan. file.new ≡ P.passed (file_with site plan sizes.now objects.now file.old)) }
-    ensures offsets_listed { OnOk result (offsets.new
-        ≡ put offsets.old 0 (plan_offsets fixed site.offset_size sizes.now)) }
-    ensures blocks_listed { OnOk result (blocks.new
-        ≡ put blocks.old 0 (plan_starts fixed site.offset_size sizes.now)) }
+    ensures lists { OnOk result (ListsHavePlan site.offset_size sizes.now
+        offsets.old offsets.new blocks.old blocks.new) }
     ensures untouched { OnErr result ((offsets.new ≡ offsets.old) × (blocks.new ≡ blocks.old)
         × (file.new ≡ file.old)) }
 {

@@ -1,9 +1,6 @@
 //! A region written into a part of a file: the part from the region's address on is lent to the writer.
 ghost use Rattle.std.specs.Prelude.{◌≡◌, IfOk, OnOk, OnErr};
-ghost use Rattle.fields.specs.LittleEndian.{put};
-ghost use Rattle.table.specs.Table.{fixed};
-ghost use Rattle.planner.specs.Steps.{plan_offsets, plan_starts};
-ghost use Rattle.round_trip.specs.InFile.{serialized_in, file_with};
+ghost use Rattle.round_trip.specs.InFile.{serialized_in, file_with, ListsHavePlan};
 
 use fractal_heap_write::serialize;
 use plan::ManagedPlan;
@@ -23,12 +20,10 @@ pub fn serialize_at(
 ) -> Result<ManagedPlan, FormatError>
     ensures answer { result
         ≡ serialized_in site sizes.now offsets.old blocks.old objects.now file.old }
-    ensures written { IfOk result
+    ensures region_in_file { IfOk result
         (λ plan. file.new ≡ file_with site plan sizes.now objects.now file.old) }
-    ensures offsets_listed { OnOk result (offsets.new
-        ≡ put offsets.old 0 (plan_offsets fixed site.offset_size sizes.now)) }
-    ensures blocks_listed { OnOk result (blocks.new
-        ≡ put blocks.old 0 (plan_starts fixed site.offset_size sizes.now)) }
+    ensures lists { OnOk result (ListsHavePlan site.offset_size sizes.now
+        offsets.old offsets.new blocks.old blocks.new) }
     ensures untouched { OnErr result ((offsets.new ≡ offsets.old) × (blocks.new ≡ blocks.old)
         × (file.new ≡ file.old)) }
 {

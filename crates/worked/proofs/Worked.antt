@@ -1,10 +1,8 @@
 -- The worked cases hold of the definitions.
-use Prim.Native.Nat.{ℕ, ◌^◌, ◌<◌, max}
-use mathlib.Core.Path.{◌≡◌, refl, sym, ap, ◌∙◌, subst₂}
-use mathlib.Core.List.{List, [], ◌∷◌}
-use lib.ListN.{length, get_or}
-use native.Mathlib.Omega.{arith}
-use native.Mathlib.Decide.{ℕ_discrete}
+use Rattle.std.proofs.Common.{◌≡◌, ℕ, ◌^◌, ◌<◌, max, List, [], ◌∷◌, length, slice_index, Ok, refl, sym, ap, ◌∙◌}
+use Rattle.std.proofs.Common.{subst₂, arith}
+use Rattle.std.proofs.Math.Decide.{ℕ_discrete}
+use Rattle.std.specs.Int.Count.{count_leading_zeros}
 use Rattle.fields.specs.Widths.{legal}
 use Rattle.numbers.specs.Numbers.{saturated, log2}
 use Rattle.checksum.specs.Words.{add32}
@@ -14,33 +12,32 @@ use Rattle.table.specs.Slots.{slot_start, slot_bits_in, slot_bits, slot_at, ente
 use Rattle.table.specs.Sizes.{offset_bytes, direct_header, max_managed, indirect_size}
 use Rattle.numbers.specs.Sums.{sum}
 use Rattle.table.specs.Capacity.{block_capacity, capacities, capacity}
-use Rattle.planner.specs.Steps.{open_in, open_at, step_of, run_from, offsets_from, starts_from, run, plan_offsets, plan_starts}
+use Rattle.planner.specs.Steps.{open_in, open_at, step_of, run_from, offsets_from, starts_from, run, plan_offsets}
+use Rattle.planner.specs.Steps.{plan_starts}
 use Rattle.plan.specs.declared.ManagedPlan.{ManagedPlan}
-use Rattle.std.specs.Prelude.{Ok}
 use Rattle.plan.specs.End.{end_state, rows_of_root}
 use Rattle.plan.specs.Answer.{totals, planned_for}
 use Rattle.plan.specs.Checks.{sizes_checked, input_checked}
 use Rattle.fields.specs.LittleEndian.{le, value, le_at}
-use lib.Count.{count_leading_zeros}
 use Rattle.reading.specs.Rows.{block_size, direct_rows, size_to_rows, heap_size, slot_size}
-use Rattle.ids.specs.Decoded.{split_id, decoded_id}
-use Rattle.ids.specs.Tiny.{tiny_in, tiny_at}
 use Rattle.fields.specs.Fields.{len_ensured}
-use Rattle.ids.specs.Checks.{id_length, id_checked}
-use Rattle.ids.specs.Written.{managed_id}
 use Rattle.region_write.proofs.Indirect.{bare-planned}
 use Rattle.region_write.proofs.Region.{region-length, root-place}
-use Rattle.heap_kept.specs.HeapKept.{Call, offset_of}
+use Rattle.heap_kept.specs.HeapKept.{offset_of}
 use Rattle.heap_kept.proofs.FromRoot.{planned as planned-call}
 use Rattle.heap_kept.proofs.Empty.{missed-there}
-use Rattle.worked.specs.Cases.{Region, call_for, Unfound, Both, All, cases}
-use Rattle.heap_kept.specs.Walking.{Clear, none, more}
+use Rattle.worked.specs.Cases.{RegionIsPlanned, EmptyUnfound, Both, All, cases}
+use Rattle.heap_kept.specs.Walking.{NoneHolds, no_block, not_in_first}
 
 both : {P Q : Type 0} → P → Q → Both P Q
 both p q = record { first = p; rest = q }
 
-planned : (w : ℕ) (xs : List ℕ) (p : ManagedPlan) → planned_for xs (length xs) (max 1 (length xs)) w ≡ Ok p → Region w xs p
-planned w xs p e = record { size = region-length xs (length xs) (max 1 (length xs)) w p e; root = root-place xs (length xs) (max 1 (length xs)) w p e }
+planned : (w : ℕ) (xs : List ℕ) (p : ManagedPlan) → planned_for xs (length xs) (max 1 (length xs)) w ≡ Ok p
+    → RegionIsPlanned w xs p
+planned w xs p e = record {
+  size_planned = region-length xs (length xs) (max 1 (length xs)) w p e;
+  root_there = root-place xs (length xs) (max 1 (length xs)) w p e;
+}
 
 module _ (w : ℕ) (xs ss : List ℕ) (starts : plan_starts fixed w xs ≡ ss) (two : 1 < length ss) where
   -- more than one block is under an indirect root
@@ -52,27 +49,35 @@ module _ (w : ℕ) (xs ss : List ℕ) (starts : plan_starts fixed w xs ≡ ss) (
       go (no z) = omega arith
 
   -- an empty object that no placed block holds is not found there
-  missing : (i x : ℕ) → offset_of w xs i ≡ x → i < length xs → get_or xs i 0 ≡ 0 → Clear fixed x ss → x < 2 ^ 40 → Unfound w xs i
+  missing : (i x : ℕ) → offset_of w xs i ≡ x → i < length xs → slice_index xs i ≡ 0 → NoneHolds fixed x ss
+      → x < 2 ^ 40 → EmptyUnfound w xs i
   missing i x is l e C small = record {
-    there = l;
+    index = l;
     empty = e;
-    read = λ js header address offsets blocks region p W file H h T.
-        (let c : Call = call_for w xs js header address offsets blocks region in
-        missed-there c p W file H h T (offset_of w xs i) 0 (let n = ap length starts in omega arith)
-        (rows offsets blocks p (planned-call c p W)) (subst₂ (Clear fixed) (sym is) (sym starts) C) (omega arith));
+    unfound = λ js header address offsets blocks region p W file H h T.
+        (missed-there W H T (offset_of w xs i) 0 (let n = ap length starts in omega arith)
+        (rows offsets blocks p (planned-call W)) (subst₂ (NoneHolds fixed) (sym is) (sym starts) C) (omega arith));
   }
 
 -- neither of the first two slots holds 2,048
-after_two : Clear fixed 2048 (0 ∷ 1024 ∷ [])
+after_two : NoneHolds fixed 2048 (0 ∷ 1024 ∷ [])
 unfolding slot_at slot_bits slot_bits_in row_bits row_offset row_in row_of
-after_two = more {s = 0} (λ _. omega arith) (more {s = 1024} (λ _. omega arith) none)
+after_two = not_in_first {start = 0} (λ _. omega arith) (not_in_first {start = 1024} (λ _. omega arith) no_block)
 
 -- worked case 5's second sentence: after two blocks that are full the third object begins where no block is
-third-missed : plan_starts fixed 8 (1002 ∷ 1002 ∷ 0 ∷ []) ≡ 0 ∷ 1024 ∷ [] → offset_of 8 (1002 ∷ 1002 ∷ 0 ∷ []) 2 ≡ 2048 → Unfound 8 (1002 ∷ 1002 ∷ 0 ∷ []) 2
-third-missed starts is = missing 8 (1002 ∷ 1002 ∷ 0 ∷ []) (0 ∷ 1024 ∷ []) starts (omega arith) 2 2048 is (omega arith) refl after_two (omega arith)
+third-missed : plan_starts fixed 8 (1002 ∷ 1002 ∷ 0 ∷ []) ≡ 0 ∷ 1024 ∷ []
+    → offset_of 8 (1002 ∷ 1002 ∷ 0 ∷ []) 2 ≡ 2048 → EmptyUnfound 8 (1002 ∷ 1002 ∷ 0 ∷ []) 2
+third-missed starts is =
+    missing 8 (1002 ∷ 1002 ∷ 0 ∷ []) (0 ∷ 1024 ∷ []) starts (omega arith) 2 2048 is (omega arith) refl after_two
+    (omega arith)
 
 pub worked : All cases
-unfolding add32 mixed_groups groups_of begun body tail_of ended hashlittle legal saturated le value le_at count_leading_zeros log2 block_size direct_rows size_to_rows heap_size slot_size len_ensured row_bits row_offset row_in row_of max_rows covering_in covering slot_start slot_bits_in slot_bits slot_at entered_bytes_in entered_bytes offset_bytes direct_header max_managed indirect_size sum block_capacity capacities capacity open_in open_at step_of run_from offsets_from starts_from run plan_offsets plan_starts end_state rows_of_root totals sizes_checked input_checked planned_for
+unfolding add32 mixed_groups groups_of begun body tail_of ended hashlittle legal saturated le value le_at
+    count_leading_zeros log2 block_size direct_rows size_to_rows heap_size slot_size len_ensured row_bits row_offset
+    row_in row_of max_rows covering_in covering slot_start slot_bits_in slot_bits slot_at entered_bytes_in
+    entered_bytes offset_bytes direct_header max_managed indirect_size sum block_capacity capacities capacity
+    open_in open_at step_of run_from offsets_from starts_from run plan_offsets plan_starts end_state rows_of_root
+    totals sizes_checked input_checked planned_for
 worked =
     both (refl, refl, refl, planned _ _ _ refl)
     (both (refl, refl, refl, planned _ _ _ refl)

@@ -1,21 +1,22 @@
 -- What is left of `fetch`: by the theorem what is found is the object that was given the ID.
-use Rattle.std.proofs.Common.{ℕ, ◌∙◌, ap, ap₂, arith, List, ◌++◌, drop, Ok}
+use Rattle.std.proofs.Common.{ℕ, List, ◌++◌, drop, Ok, ap, ap₂, ◌∙◌, arith}
 use Rattle.heap_kept.proofs.Keeping.{kept, number-is, bytes-are, no-place}
 use Rattle.heap_kept.proofs.object_bytes.fetch.Goals as goal
 
 pub returns-in_err-place-clause-kept : goal.returns-in_err-place-clause-kept
-returns-in_err-place-clause-kept c s p k i H I l =
-    absurd (no-place (kept _ _ _ _ _ c.in_err-place.ensures.value s p k i H I))
+returns-in_err-place-clause-kept c s p k i H I l = absurd (no-place (kept H I c.in_err-place.ensures.value))
 
 pub returns-then-found-count-clause-kept : goal.returns-then-found-count-clause-kept
 returns-then-found-count-clause-kept c s p k i H I l =
-    absurd (let n = number-is (kept _ _ _ _ _ c.in_ok-place.ensures.value s p k i H I) in omega (arith, n, l, c.if-found-count.true))
+    absurd (omega (arith, number-is (kept H I c.in_ok-place.ensures.value), l, c.if-found-count.true))
 
 pub returns-clause-kept : goal.returns-clause-kept
 returns-clause-kept c s p k i H I l =
-    let P = kept _ _ _ _ _ c.in_ok-place.ensures.value s p k i H I in
+    let P = kept H I c.in_ok-place.ensures.value in
     let n = number-is P in
     record {
-      accepted = ap (λ (x : ℕ). Ok x) n;
-      copied = ap₂ (λ (y : List ℕ) (x : ℕ). y ++ drop x c.args.found.now) (c.copy_from_slice.ensures.after ∙ bytes-are P _ (omega arith)) n;
+      length_answered = ap (λ (x : ℕ). Ok x) n;
+      bytes_copied =
+          ap₂ (λ (y : List ℕ) (x : ℕ). y ++ drop x c.args.found.now)
+          (c.copy_from_slice.ensures.after ∙ bytes-are P _ (omega arith)) n;
     }
