@@ -30,8 +30,8 @@ fn block_capacity(row: u64, below: u64, header: u64) -> u64
 }
 
 /// The object bytes that a block of each row holds, upward: an indirect row's blocks hold what the rows below that fill
-/// them hold, and `below` is the sum of these, one block of each. Rows 0 and 1 are alike, and no other row has their
-/// number, so the array is made with it in every place. It is all rows', so that one call serves any number of rows.
+/// them hold, and `below` is the sum of these, one block of each. Rows 0 and 1 are alike, so the array is made with
+/// their number in every place and filled from row 2 on. It holds all rows: one call serves any number of them.
 pub fn rows_capacity(offset_size: u8) -> [u64; MAX_ROOT_ROWS]
     ensures { result ≡ capacities fixed (direct_header fixed offset_size) MAX_ROOT_ROWS }
 {
