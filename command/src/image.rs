@@ -7,6 +7,9 @@ use std::fs::File;
 use std::io;
 use std::os::unix::fs::FileExt;
 
+/// What begins a heap's header.
+pub const SIGNATURE: &[u8] = b"FRHP";
+
 /// The fixed geometry.
 pub const STARTING: u64 = 1024;
 pub const LARGEST_DIRECT: u64 = 65_536;
@@ -70,7 +73,8 @@ impl Fields {
 pub fn header(place: &Place, totals: &Totals, objects: u64) -> Result<Vec<u8>, Failure> {
     let (w, l) = (place.offset_size, place.length_size);
     let undefined = u64::MAX;
-    let mut fields = Fields(b"FRHP\0".to_vec());
+    let mut fields = Fields(SIGNATURE.to_vec());
+    fields.fill(1, 0); // version
     fields.fill(2, 8); // an ID's length
     fields.fill(2, 0); // no filters
     fields.fill(1, 2); // flags: direct blocks have checksums
@@ -108,12 +112,6 @@ pub struct Image {
 impl Image {
     pub fn new(place: &Place, header: Vec<u8>, region: Vec<u8>) -> Result<Self, Failure> {
         let size = size(place, region.len() as u64)?;
-        if i64::try_from(size).is_err() {
-            let size = grouped(size);
-            return Err(Failure::Use(format!(
-                "an image of {size} bytes is larger than a file can be"
-            )));
-        }
         Ok(Image {
             header: (place.header_at, header),
             region: (place.region_at, region),
@@ -145,7 +143,7 @@ impl Image {
     }
 }
 
-/// The size of the image; header and region must not overlap.
+/// The size of the image, which a file must be able to have; header and region must not overlap.
 pub fn size(place: &Place, region_size: u64) -> Result<u64, Failure> {
     let header = header_size(place.offset_size, place.length_size);
     let ends = [
@@ -161,5 +159,12 @@ pub fn size(place: &Place, region_size: u64) -> Result<u64, Failure> {
             grouped(ends[1])
         )));
     }
-    Ok(ends[0].max(ends[1]))
+    let size = ends[0].max(ends[1]);
+    if i64::try_from(size).is_err() {
+        let size = grouped(size);
+        return Err(Failure::Use(format!(
+            "an image of {size} bytes is larger than a file can be"
+        )));
+    }
+    Ok(size)
 }

@@ -110,9 +110,14 @@ fn read_on(name: &OsStr, file: File) -> Result<Vec<u8>, Failure> {
     }
 }
 
+/// The bytes of a list.
+pub fn list(name: &OsStr) -> Result<Vec<u8>, Failure> {
+    read_on(name, open(name)?.file)
+}
+
 /// The names in a list, each ended by a zero byte.
 pub fn names(list: &OsStr) -> Result<Vec<OsString>, Failure> {
-    let bytes = read_on(list, open(list)?.file)?;
+    let bytes = self::list(list)?;
     if bytes.is_empty() {
         return Ok(Vec::new());
     }

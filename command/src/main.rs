@@ -5,9 +5,11 @@ mod check;
 mod failure;
 mod id;
 mod image;
+mod index;
 mod inputs;
 mod library;
 mod map;
+mod message;
 mod output;
 mod progress;
 mod quoting;
@@ -28,8 +30,8 @@ mod tools_objects;
 mod tools_writing;
 
 use arguments::{Arguments, Explain, Subcommands};
+use clap::CommandFactory;
 use clap::error::ErrorKind;
-use clap::{CommandFactory, Parser};
 use clap_complete::Shell;
 use failure::Failure;
 use fractal_heap::Refusal;
@@ -52,8 +54,14 @@ fn explain(arguments: &Explain) -> Result<(), Failure> {
             "refusals have the numbers {first} to {last}"
         )));
     };
-    let refusal = Refusal::new(number, arguments.first, arguments.second);
-    print(format!("{refusal}\n").as_bytes())
+    let words = match (arguments.first, Refusal::cause(number)) {
+        (None, Some(cause)) => format!("refused by {number}: {cause}\n"),
+        (first, _) => {
+            let refusal = Refusal::new(number, first.unwrap_or(0), arguments.second);
+            format!("{refusal}\n")
+        }
+    };
+    print(words.as_bytes())
 }
 
 fn completions(shell: Shell) -> Result<(), Failure> {
@@ -78,7 +86,7 @@ fn not_parsed(error: &clap::Error) -> Result<(), Failure> {
 }
 
 fn run() -> Result<(), Failure> {
-    let arguments = match Arguments::try_parse() {
+    let arguments = match Arguments::of(std::env::args_os()) {
         Ok(arguments) => arguments,
         Err(error) => return not_parsed(&error),
     };

@@ -25,7 +25,7 @@ fn unwritten(name: &Path, error: impl std::fmt::Display) -> Failure {
 }
 
 /// The folder of a file.
-fn folder(name: &Path) -> &Path {
+pub fn folder(name: &Path) -> &Path {
     match name.parent() {
         Some(folder) if folder != Path::new("") => folder,
         _ => Path::new("."),

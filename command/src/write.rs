@@ -2,22 +2,21 @@
 use crate::arguments::Write;
 use crate::check::check;
 use crate::failure::{Failure, room};
-use crate::id::{HeapId, hex};
+use crate::id::HeapId;
 use crate::image::{self, Image, Place};
 use crate::inputs::{self, Bytes, Identity};
 use crate::library::{self, Id, Lists, Totals, Writing};
 use crate::output::{self, Output};
 use crate::progress::Progress;
-use crate::quoting::{quoted, shown};
+use crate::quoting::{self, shown};
 use crate::superblock::Superblock;
 use crate::table::Fullness;
 use crate::talk::{Talk, Volume, tell};
-use crate::{map, print};
+use crate::{index, map, print};
 use fractal_heap::{Refusal, count, grouped};
 use serde_json::json;
 use std::collections::HashSet;
 use std::ffi::{OsStr, OsString};
-use std::os::unix::ffi::OsStrExt;
 use std::path::PathBuf;
 
 /// The objects so far, the IDs that they were given, and the files that they came from.
@@ -60,6 +59,7 @@ impl Destination {
             all.clone()
                 .any(|name| inputs::identity_of(name) == Some(file))
         };
+        index::may_go(arguments, is_input)?;
         match &arguments.out {
             None => Ok(Destination::Nowhere),
             Some(out) if inputs::is_standard(out.as_os_str()) => {
@@ -85,7 +85,7 @@ impl Destination {
     }
 }
 
-/// The heap's place; whether the library takes the two sizes is asked with a header of no heap.
+/// The heap's place; whether the library takes it is asked with the empty heap.
 fn place(arguments: &Write) -> Result<Place, Failure> {
     let (offset_size, length_size) = (arguments.offset_size, arguments.length_size);
     let header_at = arguments.header_at;
@@ -99,6 +99,15 @@ fn place(arguments: &Write) -> Result<Place, Failure> {
     let none = library::plan(&[], &mut Lists::default(), offset_size)?;
     let header = image::header(&place, &none, 0)?;
     library::parse_header(&place.heap(&header, 0))?;
+    let empty = Writing {
+        sizes: &[],
+        objects: &[],
+        region_at: place.region_at,
+        header_at,
+        offset_size,
+    };
+    let mut region = vec![0; none.region_size as usize];
+    library::serialize(&empty, &mut Lists::default(), &mut region)?;
     image::size(&place, none.region_size)?;
     Ok(place)
 }
@@ -164,18 +173,14 @@ impl Line<'_> {
         }
     }
 
-    /// A name that is no text goes as hexadecimal beside a lossy one.
     fn json(&self) -> String {
         let mut line = json!({
             "object": self.object,
             "size": self.size,
             "offset": self.offset,
             "id": self.id.to_string(),
-            "file": self.name.to_string_lossy(),
         });
-        if self.name.to_str().is_none() {
-            line["file_hex"] = hex(self.name.as_bytes(), "").into();
-        }
+        index::put_name(&mut line, "file", self.name);
         line.to_string()
     }
 }
@@ -302,21 +307,24 @@ fn print_map(heap: &Written, objects: &Objects, ascii: bool, talk: &mut Talk) {
 /// would, everything that a superblock says is given.
 fn hint(out: &OsStr, image: &[u8], place: &Place, id: &Id) -> String {
     let program = std::env::args_os().next().unwrap_or("poilures".into());
-    let mut line = format!("{} read", quoted(program));
+    let mut options = String::from(" read");
     let seems_hdf5 = Superblock::find(image).is_some();
     if seems_hdf5 {
-        line += " --base 0";
+        options += " --base 0";
     }
     for (option, size) in [
         ("--offset-size", place.offset_size),
         ("--length-size", place.length_size),
     ] {
         if size != 8 || seems_hdf5 {
-            line += &format!(" {option} {size}");
+            options += &format!(" {option} {size}");
         }
     }
-    let (file, at, id) = (quoted(out), place.header_at, HeapId::new(id));
-    format!("{line} {file} {at} {id}")
+    let (at, id) = (place.header_at, HeapId::new(id));
+    let behind = format!(" {at} {id}");
+    let (program, file) = (quoting::word(program), quoting::word(out));
+    let parts = [&program, options.as_bytes(), b" ", &file, behind.as_bytes()];
+    quoting::line(&parts.concat())
 }
 
 /// Keeps the image, and says where it is and how an object is read from it.
@@ -374,6 +382,10 @@ pub fn write(arguments: &Write) -> Result<(), Failure> {
     let bytes = destination.lay(&image)?;
     check(&bytes, &heap, &objects, &mut talk)?;
     keep(destination, arguments, &bytes, &place, &objects, &mut talk)?;
+    let is_input = |file| objects.files.contains(&file);
+    index::keep(arguments, &names, &objects, is_input).inspect_err(|_| {
+        tell("the image is whole, but its index was not kept");
+    })?;
     talk.heard().inspect_err(|_| {
         if kept {
             tell("the image is whole, but standard output did not take all that was to be printed");

@@ -1,0 +1,73 @@
+//! The index that `poilures write` keeps: which ID is whose.
+use crate::arguments::Write as Arguments;
+use crate::failure::Failure;
+use crate::id::{HeapId, hex};
+use crate::inputs::{self, Identity};
+use crate::output::{self, Output};
+use crate::write::Objects;
+use serde_json::{Value, json};
+use std::ffi::{OsStr, OsString};
+use std::fs;
+use std::io::{BufWriter, Write};
+use std::os::unix::ffi::OsStrExt;
+use std::path::Path;
+
+/// Puts a name into a line of JSON, which is UTF-8: one that is not goes as hexadecimal, too, beside a lossy one.
+pub fn put_name(line: &mut Value, key: &str, name: &OsStr) {
+    line[key] = name.to_string_lossy().into();
+    if name.to_str().is_none() {
+        line[format!("{key}_hex")] = hex(name.as_bytes(), "").into();
+    }
+}
+
+/// Whether both names would be one file in one folder.
+fn is_one_file(a: &Path, b: &Path) -> bool {
+    let folder = |name: &Path| {
+        let folder = output::folder(name);
+        fs::metadata(folder)
+            .ok()
+            .map(|known| inputs::identity(&known))
+    };
+    a.file_name() == b.file_name() && folder(a) == folder(b)
+}
+
+/// Before anything is taken in: whether the index may go where it shall.
+pub fn may_go(arguments: &Arguments, is_input: impl Fn(Identity) -> bool) -> Result<(), Failure> {
+    let Some(name) = &arguments.index else {
+        return Ok(());
+    };
+    if inputs::is_standard(name.as_os_str()) {
+        return Err(Failure::Use(
+            "an index goes into a file; --json prints such lines".into(),
+        ));
+    }
+    match &arguments.out {
+        Some(out) if is_one_file(out, name) => {
+            let why = "the image shall be there";
+            Err(Failure::file(name, "written", why))
+        }
+        _ => output::may_go(name, arguments.force, is_input),
+    }
+}
+
+/// Keeps a line for each object, when the image is whole.
+pub fn keep(
+    arguments: &Arguments,
+    names: &[OsString],
+    objects: &Objects,
+    is_input: impl Fn(Identity) -> bool,
+) -> Result<(), Failure> {
+    let Some(index) = &arguments.index else {
+        return Ok(());
+    };
+    let output = Output::begin(index, arguments.force, &is_input)?;
+    let mut to = BufWriter::new(output.file());
+    for ((id, size), name) in objects.ids.iter().zip(&objects.sizes).zip(names) {
+        let mut line = json!({"id": HeapId::new(id).to_string(), "length": size});
+        put_name(&mut line, "name", name);
+        writeln!(to, "{line}").map_err(|error| output.failed(error))?;
+    }
+    to.flush().map_err(|error| output.failed(error))?;
+    drop(to);
+    output.finish(is_input)
+}
