@@ -95,7 +95,7 @@ h5debug tells the address of the heap, and the IDs in the leaves of its index. I
 the ID of a link as it is, and that of an attribute backwards, byte by byte: where it
 says {0038000000001600, ..}, the ID is 00:16:00:00:00:00:38:00.
 
-Example with such a file:
+With such a file, which h5py makes:
   python3 -c \"import h5py, numpy; f = h5py.File(
     'gauges.h5', 'w', libver='latest'); [f.attrs.create(f'note {i}',
     numpy.bytes_(f'gauge {i} was replaced at noon')) for i in range(9)]\"
