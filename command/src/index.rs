@@ -7,6 +7,7 @@ use crate::output::{self, Output};
 use crate::write::Objects;
 use serde_json::{Value, json};
 use std::ffi::{OsStr, OsString};
+use std::fmt::Display;
 use std::fs;
 use std::io::{BufWriter, Write};
 use std::os::unix::ffi::OsStrExt;
@@ -41,13 +42,14 @@ pub fn may_go(arguments: &Arguments, is_input: impl Fn(Identity) -> bool) -> Res
             "an index goes into a file; --json prints such lines".into(),
         ));
     }
-    match &arguments.out {
-        Some(out) if is_one_file(out, name) => {
-            let why = "the image shall be there";
-            Err(Failure::file(name, "written", why))
-        }
-        _ => output::may_go(name, arguments.force, is_input),
+    let unwritten = |why: &dyn Display| Failure::file(name, "written", why);
+    if arguments.out.iter().any(|out| is_one_file(out, name)) {
+        return Err(unwritten(&"the image shall be there"));
     }
+    output::may_go(name, arguments.force, is_input)?;
+    // A folder that is not there is not to be missed only when the image is whole.
+    let folder = fs::metadata(output::folder(name));
+    folder.map(|_| ()).map_err(|error| unwritten(&error))
 }
 
 /// Keeps a line for each object, when the image is whole.
