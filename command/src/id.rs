@@ -80,7 +80,8 @@ fn in_line(line: &[u8]) -> Result<HeapId, String> {
         let word = std::str::from_utf8(line).map_err(|_| "it is no text")?;
         return word.parse();
     }
-    let value: Value = serde_json::from_slice(line).map_err(|why| format!("no JSON: {why}"))?;
+    let value: Result<Value, _> = serde_json::from_slice(line);
+    let value = value.map_err(|why| format!("it is no JSON from column {} on", why.column()))?;
     let id = value.get("id").and_then(Value::as_str);
     id.ok_or("no id with an ID's digits is in it")?.parse()
 }
