@@ -4,7 +4,6 @@ use crate::inputs::{Identity, identity, other_kind};
 use crate::signals;
 use std::fs::{self, File, Metadata, Permissions};
 use std::io;
-use std::os::fd::AsFd;
 use std::os::unix::ffi::OsStrExt;
 use std::os::unix::fs::{FileTypeExt, PermissionsExt};
 use std::path::{Path, PathBuf};
@@ -116,6 +115,11 @@ impl Output {
         self.file.as_file()
     }
 
+    /// The folder that it will be in.
+    pub fn folder(&self) -> &Path {
+        folder(&self.name)
+    }
+
     /// Says why writing failed.
     pub fn failed(&self, error: io::Error) -> Failure {
         unwritten(&self.name, error)
@@ -183,18 +187,6 @@ pub fn make_folder(name: &Path) -> Result<(), Failure> {
     match fs::create_dir(name) {
         Err(error) if error.kind() != io::ErrorKind::AlreadyExists => Err(unwritten(name, error)),
         Err(_) if !name.is_dir() => Err(unwritten(name, "it is there already, and no folder")),
-        _ => Ok(()),
-    }
-}
-
-/// Standard output where it is a file that is read as well.
-pub fn refuse_input_as_standard(is_input: impl Fn(Identity) -> bool) -> Result<(), Failure> {
-    let file = io::stdout().as_fd().try_clone_to_owned().map(File::from);
-    let known = file.and_then(|file| file.metadata());
-    match known {
-        Ok(known) if known.is_file() && is_input(identity(&known)) => Err(Failure::Use(
-            "standard output is a file that is read as well".into(),
-        )),
         _ => Ok(()),
     }
 }

@@ -5,6 +5,7 @@ use crate::id::{HeapId, hex};
 use crate::inputs::{self, Bytes, Identity};
 use crate::library::{Header, Kind, kind, parse_header, tiny_object};
 use crate::output::{self, Output};
+use crate::streams;
 use crate::superblock::Superblock;
 use crate::talk::tell;
 use fractal_heap::{Error, Heap, Refusal, count, grouped};
@@ -56,17 +57,17 @@ fn described(superblock: Option<&Superblock>, arguments: &Read) -> String {
     line
 }
 
-/// Tells what of a superblock is unusual.
-fn remark(superblock: &Superblock, remarks: &Remarks) {
+/// Tells what is wrong with a superblock, also where nothing else is to be said.
+fn warn(superblock: &Superblock) {
     if let Some(field) = superblock.base.filter(|&field| field != superblock.at) {
-        remarks.tell(&format!(
+        tell(&format!(
             "the superblock's base address field says {}, but it stands at {}, which counts for HDF5",
             grouped(field),
             grouped(superblock.at)
         ));
     }
     if superblock.open_for_writing {
-        remarks.tell("the superblock is marked as open for writing: the file may not be whole");
+        tell("the superblock is marked as open for writing: the file may not be whole");
     }
 }
 
@@ -109,7 +110,7 @@ fn site<'f>(file: &'f [u8], arguments: &Read, remarks: &Remarks) -> Result<Site<
     let known = superblock.as_ref().and_then(|s| s.sizes).unwrap_or((8, 8));
     remarks.tell(&described(superblock.as_ref(), arguments));
     if let Some(superblock) = &superblock {
-        remark(superblock, remarks);
+        warn(superblock);
     }
     let base = base(superblock.as_ref(), arguments, remarks);
     let from_base = usize::try_from(base).ok().and_then(|base| file.get(base..));
@@ -328,8 +329,8 @@ impl Printing<'_> {
     }
 
     fn print(&self, objects: &[&[u8]]) -> Result<(), Failure> {
-        output::refuse_input_as_standard(|file| self.is_input(file))?;
         let failed = |error| Failure::printing(&error);
+        streams::check_output().map_err(failed)?;
         let mut out = io::stdout().lock();
         for bytes in objects {
             self.put(bytes, &mut out, failed)?;
@@ -351,6 +352,7 @@ fn found<'o>(file: &'o Bytes, arguments: &'o Read) -> Result<Vec<&'o [u8]>, Fail
 }
 
 pub fn read(arguments: &Read) -> Result<(), Failure> {
+    inputs::refuse_written(std::iter::once(arguments.file.as_os_str()))?;
     let file = inputs::whole(&arguments.file)?;
     let objects = found(&file, arguments);
     // Of a file that was cut meanwhile not even a refusal is its own.
