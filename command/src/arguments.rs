@@ -206,7 +206,7 @@ pub struct Read {
     /// Replace files that are there already.
     #[arg(long, requires = "kept")]
     pub force: bool,
-    /// Say nothing on standard error but why something fails.
+    /// Say nothing on standard error but why something fails, and what is wrong with the file.
     #[arg(short, long)]
     pub quiet: bool,
     /// Bytes of an address, 2, 4 or 8 [default: the superblock's, else 8].

@@ -2,11 +2,11 @@
 use crate::arguments::Write as Arguments;
 use crate::failure::Failure;
 use crate::id::{HeapId, hex};
-use crate::inputs::{self, Identity};
+use crate::inputs;
 use crate::output::{self, Output};
 use crate::write::Objects;
 use serde_json::{Value, json};
-use std::ffi::{OsStr, OsString};
+use std::ffi::OsStr;
 use std::fmt::Display;
 use std::fs;
 use std::io::{BufWriter, Write};
@@ -33,7 +33,7 @@ fn is_one_file(a: &Path, b: &Path) -> bool {
 }
 
 /// Before anything is taken in: whether the index may go where it shall.
-pub fn may_go(arguments: &Arguments, is_input: impl Fn(Identity) -> bool) -> Result<(), Failure> {
+pub fn may_go(arguments: &Arguments, names: &[&OsStr]) -> Result<(), Failure> {
     let Some(name) = &arguments.index else {
         return Ok(());
     };
@@ -46,6 +46,13 @@ pub fn may_go(arguments: &Arguments, is_input: impl Fn(Identity) -> bool) -> Res
     if arguments.out.iter().any(|out| is_one_file(out, name)) {
         return Err(unwritten(&"the image shall be there"));
     }
+    let is_input = |file| {
+        let mut all = names
+            .iter()
+            .copied()
+            .chain(arguments.files0_from.as_deref());
+        all.any(|name| inputs::identity_of(name) == Some(file))
+    };
     output::may_go(name, arguments.force, is_input)?;
     // A folder that is not there is not to be missed only when the image is whole.
     let folder = fs::metadata(output::folder(name));
@@ -53,16 +60,12 @@ pub fn may_go(arguments: &Arguments, is_input: impl Fn(Identity) -> bool) -> Res
 }
 
 /// Keeps a line for each object, when the image is whole.
-pub fn keep(
-    arguments: &Arguments,
-    names: &[OsString],
-    objects: &Objects,
-    is_input: impl Fn(Identity) -> bool,
-) -> Result<(), Failure> {
+pub fn keep(arguments: &Arguments, names: &[&OsStr], objects: &Objects) -> Result<(), Failure> {
     let Some(index) = &arguments.index else {
         return Ok(());
     };
-    let output = Output::begin(index, arguments.force, &is_input)?;
+    let is_input = |file| objects.files.contains(&file);
+    let output = Output::begin(index, arguments.force, is_input)?;
     let mut to = BufWriter::new(output.file());
     for ((id, size), name) in objects.ids.iter().zip(&objects.sizes).zip(names) {
         let mut line = json!({"id": HeapId::new(id).to_string(), "length": size});

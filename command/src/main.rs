@@ -7,14 +7,17 @@ mod id;
 mod image;
 mod index;
 mod inputs;
+mod joined;
 mod library;
 mod map;
+mod memory;
 mod message;
 mod output;
 mod progress;
 mod quoting;
 mod read;
 mod signals;
+mod streams;
 mod superblock;
 mod table;
 mod talk;
@@ -35,14 +38,17 @@ use clap::error::ErrorKind;
 use clap_complete::Shell;
 use failure::Failure;
 use fractal_heap::Refusal;
+use std::ffi::{OsStr, OsString};
 use std::io::{self, Write};
+use std::os::unix::ffi::OsStrExt;
 use std::process::ExitCode;
 use talk::tell;
 
 /// Text on standard output.
 fn print(text: &[u8]) -> Result<(), Failure> {
     let mut out = io::stdout().lock();
-    let printed = out.write_all(text).and_then(|()| out.flush());
+    let printed = streams::check_output().and_then(|()| out.write_all(text));
+    let printed = printed.and_then(|()| out.flush());
     printed.map_err(|error| Failure::printing(&error))
 }
 
@@ -82,15 +88,24 @@ fn not_parsed(error: &clap::Error) -> Result<(), Failure> {
         }
         _ => text.strip_prefix("error: ").unwrap_or(&text).into(),
     };
-    Err(Failure::Use(words.trim_end().into()))
+    let words = words.trim_end().into();
+    // Which words are inputs is not known, so standard error is none of them.
+    let is_error = |word: OsString| {
+        let value = word.as_bytes().split(|&byte| byte == b'=').nth(1);
+        streams::is_error(&word) || value.is_some_and(|v| streams::is_error(OsStr::from_bytes(v)))
+    };
+    match std::env::args_os().skip(1).any(is_error) {
+        true => Err(Failure::Mute(words)),
+        false => Err(Failure::Use(words)),
+    }
 }
 
 fn run() -> Result<(), Failure> {
+    signals::install();
     let arguments = match Arguments::of(std::env::args_os()) {
         Ok(arguments) => arguments,
         Err(error) => return not_parsed(&error),
     };
-    signals::install();
     match &arguments.subcommand {
         Subcommands::Write(arguments) => write::write(arguments),
         Subcommands::Read(arguments) => read::read(arguments),
@@ -105,6 +120,7 @@ fn main() -> ExitCode {
     };
     match &failure {
         Failure::Use(words) | Failure::Not(words) => tell(&format!("poilures: {words}")),
+        Failure::Mute(words) => streams::tell_terminal(&format!("poilures: {words}")),
         Failure::Closed => {}
     }
     ExitCode::from(failure.exit_status())

@@ -9,12 +9,14 @@ use crate::message;
 use crate::output::{self, Output};
 use crate::progress::Progress;
 use crate::quoting::shown;
+use crate::streams;
 use crate::superblock::Superblock;
 use crate::talk::{Talk, Volume, tell};
 use fractal_heap::{Error, Heap, Refusal, checksum, count, grouped};
 use serde_json::json;
 use std::borrow::Cow;
 use std::collections::HashSet;
+use std::ffi::OsString;
 use std::io::{self, Write};
 use std::path::Path;
 
@@ -115,17 +117,17 @@ fn described(superblock: Option<&Superblock>, arguments: &Read) -> String {
     line
 }
 
-/// Tells what of a superblock is unusual.
-fn remark(superblock: &Superblock, remarks: &Remarks) {
+/// Tells what is wrong with a superblock, also where nothing else is to be said.
+fn warn(superblock: &Superblock) {
     if let Some(field) = superblock.base.filter(|&field| field != superblock.at) {
-        remarks.tell(&format!(
+        tell(&format!(
             "the superblock's base address field says {}, but it stands at {}, which counts for HDF5",
             grouped(field),
             grouped(superblock.at)
         ));
     }
     if superblock.open_for_writing {
-        remarks.tell("the superblock is marked as open for writing: the file may not be whole");
+        tell("the superblock is marked as open for writing: the file may not be whole");
     }
 }
 
@@ -187,7 +189,7 @@ fn site<'f>(file: &'f [u8], arguments: &Read, remarks: &Remarks) -> Result<Site<
     let known = superblock.as_ref().and_then(|s| s.sizes).unwrap_or((8, 8));
     remarks.tell(&described(superblock.as_ref(), arguments));
     if let Some(superblock) = &superblock {
-        remark(superblock, remarks);
+        warn(superblock);
     }
     let base = base(superblock.as_ref(), arguments, remarks);
     let from_base = usize::try_from(base).ok().and_then(|base| file.get(base..));
@@ -513,8 +515,8 @@ impl Printing<'_> {
     }
 
     fn print(&self, objects: &[Object]) -> Result<(), Failure> {
-        output::refuse_input_as_standard(|file| self.is_input(file))?;
         let failed = |error| Failure::printing(&error);
+        streams::check_output().map_err(failed)?;
         let mut out = io::stdout().lock();
         for object in objects {
             self.put(object.bytes, &mut out, failed)?;
@@ -524,9 +526,6 @@ impl Printing<'_> {
 
     /// A line of JSON for each object, on standard error where its bytes go to standard output.
     fn describe(&self, objects: &[Object], on_standard_error: bool) -> Result<(), Failure> {
-        if !on_standard_error {
-            output::refuse_input_as_standard(|file| self.is_input(file))?;
-        }
         let mut talk = Talk::new(on_standard_error, Volume::Results);
         for object in objects {
             talk.give(&object.json());
@@ -581,6 +580,8 @@ fn found<'o>(
 }
 
 pub fn read(arguments: &Read) -> Result<(), Failure> {
+    let inputs = arguments.ids_from.iter().chain([&arguments.file]);
+    inputs::refuse_written(inputs.map(OsString::as_os_str))?;
     let ids = ids(arguments)?;
     let file = inputs::whole(&arguments.file)?;
     let objects = found(&file, &ids, arguments);
