@@ -1,53 +1,8 @@
 //! Our static libraries, each C function behind a safe one: `fractal_heap_c`, which the loader calls, and `tools_c`,
 //! which is the tests' and the command's.
-#[path = "../loader/tools/checksums.rs"]
-mod tools_checksums;
-#[path = "../loader/tools/field_reads.rs"]
-mod tools_field_reads;
-#[path = "../loader/tools/headers.rs"]
-mod tools_headers;
-#[path = "../loader/tools/objects.rs"]
-mod tools_objects;
-#[path = "../loader/tools/stores.rs"]
-mod tools_stores;
-#[path = "../loader/tools/writing.rs"]
-mod tools_writing;
-
 use crate::made::Heap;
+use fractal_heap_sys::*;
 use original::Answer;
-use tools_checksums::*;
-use tools_field_reads::*;
-use tools_headers::*;
-use tools_objects::*;
-use tools_stores::*;
-use tools_writing::*;
-
-#[link(name = "fractal_heap_c", kind = "static")]
-unsafe extern "C" {
-    fn fractal_heap_checksum(bytes: *const u8, len: usize) -> u32;
-    fn fractal_heap_decode_managed_id(
-        file: *const u8,
-        file_len: usize,
-        at: u64,
-        offset_size: u8,
-        length_size: u8,
-        id: *const u8,
-        id_len: usize,
-        slot: *mut u8,
-        slot_len: usize,
-    ) -> u32;
-    fn fractal_heap_read_managed_object(
-        file: *const u8,
-        file_len: usize,
-        at: u64,
-        offset_size: u8,
-        length_size: u8,
-        id: *const u8,
-        id_len: usize,
-        slot: *mut u8,
-        slot_len: usize,
-    ) -> u32;
-}
 
 /// What a slot holds before a call; every byte past 16 must still hold it after.
 const MARK: u8 = 0xA5;

@@ -14,7 +14,8 @@ enum {
     AT = 40,                                    /* where the header lies */
     ROOT = 200,                                 /* where the root block lies */
     BLOCK_HEADER = 14 + WIDTH,                  /* bytes of a direct block before its objects */
-    FILE_LEN = ROOT + START
+    FILE_LEN = ROOT + START,
+    USER_BLOCK = 512                            /* bytes before a superblock */
 };
 
 static const uint8_t OBJECT[] = "the bytes of one managed object";
@@ -94,6 +95,16 @@ static void put_root(void)
 static void put_id(uint8_t *id, uint64_t offset, uint64_t length)
 {
     put(put(put(id, 0, 1), offset, 5), length, 2);
+}
+
+/* What is looked at of a superblock, by the format: signature, version and the two sizes. */
+static void put_superblock(uint8_t *to, uint8_t version, uint8_t offset_size, uint8_t length_size)
+{
+    static const uint8_t signature[8] = {0x89, 'H', 'D', 'F', '\r', '\n', 0x1A, '\n'};
+    memcpy(to, signature, sizeof signature);
+    to[8] = version;
+    to[version < 2 ? 13 : 9] = offset_size;
+    to[version < 2 ? 14 : 10] = length_size;
 }
 
 typedef uint32_t call(const uint8_t *, size_t, uint64_t, uint8_t, uint8_t, const uint8_t *, size_t,
@@ -181,6 +192,86 @@ static void slots(const uint8_t *id)
           "a slot of 24 bytes: the answer in 16, the rest as it was");
 }
 
+/* What fractal_heap_find_superblock answers for so many bytes; what it puts goes to `found`. */
+static struct fractal_heap_superblock found;
+
+static uint32_t find(const uint8_t *bytes, size_t len)
+{
+    memset(&found, 0xA5, sizeof found);
+    return fractal_heap_find_superblock(bytes, len, &found);
+}
+
+/* A superblock of each version, at each place and at none. */
+static void superblocks(void)
+{
+    static const size_t places[] = {0, 512, 1024, 2048, 4096}, others[] = {256, 1536, 3072, 4608};
+    static uint8_t bytes[8192];
+    int holds = 1;
+    for (uint8_t version = 0; version < 4; version++)
+        for (size_t i = 0; i < sizeof places / sizeof *places; i++) {
+            memset(bytes, 0x55, sizeof bytes);
+            put_superblock(bytes + places[i], version, 8, 4);
+            holds = holds && find(bytes, sizeof bytes) == FRACTAL_HEAP_OK && found.at == places[i] &&
+                    found.version == version && found.offset_size == 8 && found.length_size == 4;
+        }
+    check(holds, "superblocks of versions 0 to 3 at 0, 512, 1,024, 2,048, 4,096, with their sizes");
+    for (size_t i = 0; i < sizeof others / sizeof *others; i++) {
+        memset(bytes, 0x55, sizeof bytes);
+        put_superblock(bytes + others[i], 2, 8, 4);
+        holds = holds && find(bytes, sizeof bytes) == FRACTAL_HEAP_INVALID_SIGNATURE;
+    }
+    check(holds && found.version == 0xA5, "none at 256, 1,536, 3,072, 4,608: 4, and nothing is put");
+    put_superblock(bytes + 2048, 0, 4, 4);
+    put_superblock(bytes + 512, 3, 8, 8);
+    check(find(bytes, sizeof bytes) == FRACTAL_HEAP_OK && found.at == 512, "of two superblocks the first");
+    bytes[512 + 8] = 4;
+    check(find(bytes, sizeof bytes) == FRACTAL_HEAP_INVALID_VERSION, "a superblock of version 4: 5");
+    bytes[512 + 8] = 3;
+    check(find(bytes, 512 + 11) == FRACTAL_HEAP_OK && find(bytes, 512 + 10) == FRACTAL_HEAP_UNEXPECTED_EOF &&
+              find(bytes, 512 + 8) == FRACTAL_HEAP_UNEXPECTED_EOF &&
+              find(bytes, 512 + 7) == FRACTAL_HEAP_INVALID_SIGNATURE,
+          "a file that ends after the sizes, in them, before the version: 0, 1, 1; in the signature: 4");
+    check(find(NULL, 0) == FRACTAL_HEAP_INVALID_SIGNATURE, "no file has no superblock: 4");
+}
+
+/* The same heap in a file with a user block: its addresses count from the superblock. */
+static void user_block(const uint8_t *id)
+{
+    static uint8_t bytes[USER_BLOCK + FILE_LEN];
+    uint8_t slot[16];
+    memcpy(bytes + USER_BLOCK, file, FILE_LEN);
+    put_superblock(bytes + USER_BLOCK, 2, WIDTH, WIDTH);
+    check(find(bytes, sizeof bytes) == FRACTAL_HEAP_OK && found.at == USER_BLOCK,
+          "the superblock behind a user block of 512 bytes");
+    check(fractal_heap_read_managed_object(bytes + found.at, sizeof bytes - found.at, AT, found.offset_size,
+                                           found.length_size, id, 8, slot, sizeof slot) == FRACTAL_HEAP_OK &&
+              memcmp(bytes + found.at + get(slot, 8), OBJECT, sizeof OBJECT) == 0,
+          "lent from its superblock on, the file gives the object");
+}
+
+/* The length of the heap's IDs, which a caller holds an ID to. */
+static void id_lengths(const uint8_t *id)
+{
+    uint8_t slot[16];
+    check(fractal_heap_id_length(file, FILE_LEN, AT) == 8, "the heap's IDs have 8 bytes");
+    check(fractal_heap_read_managed_object(file, FILE_LEN, AT, WIDTH, WIDTH, id, 3, slot, sizeof slot) ==
+                  FRACTAL_HEAP_OK &&
+              get(slot + 8, 8) == 0,
+          "an ID of 3 bytes is no reason for a refusal: 0, and an object of no bytes");
+    check(fractal_heap_id_length(file, AT + 7, AT) == 8 && fractal_heap_id_length(file, AT + 6, AT) == 0,
+          "a file that ends behind the length, or in it: 8, 0");
+    check(fractal_heap_id_length(file, FILE_LEN, AT + 1) == 0 &&
+              fractal_heap_id_length(file, FILE_LEN, FILE_LEN) == 0 &&
+              fractal_heap_id_length(file, FILE_LEN, UINT64_MAX) == 0 && fractal_heap_id_length(NULL, 0, 0) == 0,
+          "no header there: 0");
+    file[AT + 4] = 1;
+    check(fractal_heap_id_length(file, FILE_LEN, AT) == 0, "another version: 0");
+    file[AT + 4] = 0;
+    file[AT + 6] = 1;
+    check(fractal_heap_id_length(file, FILE_LEN, AT) == 264, "a length has two bytes");
+    file[AT + 6] = 0;
+}
+
 /* No bytes at no address: one by one, and all together. */
 static void nulls(call *function, const uint8_t *id)
 {
@@ -208,6 +299,9 @@ int main(void)
     accepted(id);
     refused(id);
     slots(id);
+    id_lengths(id);
+    superblocks();
+    user_block(id);
     nulls(fractal_heap_decode_managed_id, id);
     nulls(fractal_heap_read_managed_object, id);
     printf("example.c: %u checks\n", checks);

@@ -14,7 +14,7 @@ static void give_up(const char *what)
 
 static uint8_t *memory(size_t len)
 {
-    uint8_t *bytes = malloc(len ? len : 1);
+    uint8_t *bytes = (uint8_t *)malloc(len ? len : 1); /* the cast is for C++ */
     if (!bytes)
         give_up("no memory");
     return bytes;

@@ -2,7 +2,7 @@
     real_files.py READ_OBJECTS FOLDER
 h5py writes files with densely stored attributes and links into the folder. hdf5_format.py finds the heap
 IDs and where the objects must lie, hdf5_messages.py rebuilds the bytes that must lie there.
-READ_OBJECTS is the program of read_objects.c."""
+READ_OBJECTS is the program of read_objects.c; that of read_file.c is beside it."""
 
 import collections
 import ctypes
@@ -26,6 +26,7 @@ from made_files import WIDTHS, created, some_size, some_value
 
 TYPES = ["managed", "huge", "tiny"]  # of heap IDs
 COMMAND = "target/poilures"  # where it is built, some objects are read by it, too
+RUST_EXAMPLE = "target/cargo/release/examples/read_file"  # of the Rust crate, where it is built
 KINDS = ["empty", "direct", "indirect", "nested"]  # of heaps: no block, or indirect ones above the direct
 
 
@@ -230,27 +231,47 @@ def write_behind(name, block, version, widths):
         add_attributes(draw, group, 12, size=50)
 
 
-def check_behind(name, block, image, owner, kind):
-    """Every link or attribute of an object, by the heap's position in the file and by its address, which is what HDF5's
-    tools know it by; returns their number."""
+def check_command_behind(name, block, heap, heap_id, due):
+    """An object by the command, by the heap's position in the file and by its address, which is what HDF5's tools
+    know it by."""
+    start = block + heap.position(*heap.decode(heap_id))
+    for place in ([str(heap.address + block)], [str(heap.address), "--address"]):
+        said = check_command(name, place, heap_id, due)
+        expect(f"\nthe base is {block:,}: " in said, f"no base: {said}")
+        expect(f" in the file at {start:,}, " in said, f"not at {start}: {said}")
+        expect("field" not in said and "open" not in said, said)
+
+
+def check_example(program, name, heap, objects):
+    """An example, in C or in Rust, which is told the heap's address alone, prints each object's bytes, and nothing by an
+    ID that was cut short."""
+    for heap_id, due in objects:
+        run = subprocess.run([program, name, str(heap.address), heap_id.hex()], capture_output=True)
+        expect((run.returncode, run.stdout) == (0, due), f"{program} {name} {heap_id.hex()}: {run}")
+    run = subprocess.run([program, name, str(heap.address), objects[0][0][:3].hex()], capture_output=True)
+    expect((run.returncode, run.stdout) == (1, b"") and b"the heap's IDs" in run.stderr, f"a short ID: {run}")
+
+
+def check_behind(programs, name, block, image, owner, kind, counts):
+    """Every link or attribute of an object, by the examples and by the command."""
     address, trees = form.dense_storage(image, h5o.get_info(owner).addr, kind)
     heap, tree = form.Heap(image, address), form.BTree(image, trees[0])
     due = due_messages(image, owner, kind)[0]
-    for key, heap_id in (form.key_and_id(tree.kind, record) for record in tree.records):
-        start = block + heap.position(*heap.decode(heap_id))
-        for place in ([str(address + block)], [str(address), "--address"]):
-            said = check_command(name, place, heap_id, due[key])
-            expect(f"\nthe base is {block:,}: " in said, f"no base: {said}")
-            expect(f" in the file at {start:,}, " in said, f"not at {start}: {said}")
-            expect("field" not in said and "open" not in said, said)
+    objects = [(heap_id, due[key]) for key, heap_id in (form.key_and_id(tree.kind, record) for record in tree.records)]
+    expect(len(objects) == 12, "objects behind a user block")
+    for language, program in programs.items():
+        check_example(program, name, heap, objects)
+        counts[f"behind in {language}"] += len(objects)
+    for heap_id, due in objects if os.path.exists(COMMAND) else []:
+        check_command_behind(name, block, heap, heap_id, due)
+        counts["behind"] += 1
     if shutil.which("h5debug"):
         h5debug.check_header(name, heap)
-    return len(tree.records)
 
 
-def check_user_block(name, block, version, widths):
+def check_user_block(programs, name, block, version, widths, counts):
     """A file with a user block. Old files have attributes in a form that hdf5_messages.py does not know; newer ones are
-    marked while they are open for writing. Returns how many objects were read."""
+    marked while they are open for writing."""
     write_behind(name, block, version, widths)
     with open(name, "rb") as opened:
         data = opened.read()
@@ -258,22 +279,30 @@ def check_user_block(name, block, version, widths):
     image, kinds = BasedImage(data[block:], widths), [form.LINK_INFO, form.ATTRIBUTE_INFO]
     with h5py.File(name, "r") as file:
         owner = file["dense"].id
-        number = sum(check_behind(name, block, image, owner, kind) for kind in (kinds if version > 1 else kinds[:1]))
+        for kind in kinds if version > 1 else kinds[:1]:
+            check_behind(programs, name, block, image, owner, kind, counts)
+    if os.path.exists(COMMAND):
+        check_open(name, version)
+    os.remove(name)
+
+
+def check_open(name, version):
+    """The command tells of a file that is open for writing, where its superblock does."""
     with h5py.File(name, "r+"):
         words = [COMMAND, "read", name, "0", "00", "--address"]  # no heap, but the superblock is looked at first
         said = subprocess.run(words, stderr=subprocess.PIPE, text=True).stderr
         expect(("open for writing" in said) == (version > 1), f"open for writing: {said}")
-    os.remove(name)
-    return number
 
 
-def check_user_blocks(folder):
-    """User blocks of two sizes, before superblocks of every version; returns how many objects were read."""
-    if not os.path.exists(COMMAND):
-        return 0
+def check_user_blocks(program, folder, counts):
+    """User blocks of two sizes, before superblocks of every version; `program` is read_objects, and that of
+    read_file.c is beside it."""
+    programs = {"C": os.path.join(os.path.dirname(program), "read_file")}
+    if os.path.exists(RUST_EXAMPLE):
+        programs["Rust"] = RUST_EXAMPLE
     name = os.path.join(folder, "behind.h5")
-    cases = itertools.product((512, 2048), range(4), ((8, 8), (4, 8)))
-    return sum(check_user_block(name, *case) for case in cases)
+    for case in itertools.product((512, 2048), range(4), ((8, 8), (4, 8))):
+        check_user_block(programs, name, *case, counts)
 
 
 # Damaged copies
@@ -393,6 +422,9 @@ def report(counts, numbers, filtered, own):
     print(f"real files: h5debug: {debugged if counts['h5debug'] else 'skipped, it is not at hand'}")
     commanded = f"{counts['command']} objects, {counts['behind']} behind user blocks"
     print(f"real files: read by the command: {commanded if counts['command'] else 'skipped, it is not built'}")
+    rust = f"{counts['behind in Rust']}" if counts["behind in Rust"] else "skipped, there is no cargo"
+    print(f"real files: behind user blocks: from C: {counts['behind in C']} objects")
+    print(f"real files: behind user blocks: from Rust: {rust}")
     print(f"real files: {own}")
     heaps = ", ".join(f"{counts[kind]} {kind}" for kind in KINDS)
     total = sum(counts[kind] for kind in KINDS)
@@ -412,7 +444,7 @@ def main():
         os.remove(name)
     for due in [(2, 0), (2, 1)] + [(width, depth) for width in (4, 8) for depth in range(4)]:
         expect(due in depths, f"no heap of offset size and depth {due}")
-    counts["behind"] = check_user_blocks(folder)
+    check_user_blocks(program, folder, counts)
     filtered = check_filtered(program, folder)
     report(counts, numbers, filtered, hdf5_heaps.check(folder))
 

@@ -12,13 +12,13 @@
 
 enum { SPARE = 24, TOTALS = 8, ID = 8, FILL = 0xA5 };
 
-uint32_t tools_serialize(const uint64_t *sizes, size_t n_sizes, uint64_t *offsets, size_t n_offsets,
-                         uint64_t *blocks, size_t n_blocks, const uint8_t *objects, size_t n_objects,
-                         uint8_t *region, size_t n_region, uint64_t region_address,
+uint32_t tools_serialize(const uint64_t *sizes, size_t sizes_len, uint64_t *offsets, size_t offsets_len,
+                         uint64_t *blocks, size_t blocks_len, const uint8_t *objects, size_t objects_len,
+                         uint8_t *region, size_t region_len, uint64_t region_address,
                          uint64_t heap_header_address, uint8_t offset_size, uint64_t *totals,
-                         size_t n_totals);
-uint32_t tools_write_managed_id(uint64_t offset, uint64_t size, uint8_t *id, size_t n_id, uint8_t *slot,
-                                size_t n_slot);
+                         size_t totals_len);
+uint32_t tools_write_managed_id(uint64_t offset, uint64_t size, uint8_t *id, size_t id_len, uint8_t *slot,
+                                size_t slot_len);
 
 /* Lent memory: `len` bytes, each of them FILL. */
 struct lent {

@@ -1,8 +1,9 @@
 //! The proved functions that this program calls beside the loader's, each behind a safe one.
-use crate::tools_headers::tools_parse_header;
-use crate::tools_objects::{tools_heap_id_type, tools_read_tiny_object};
-use crate::tools_writing::{tools_plan, tools_serialize, tools_write_managed_id};
 use fractal_heap::{Heap, Refusal};
+use fractal_heap_sys::{
+    tools_heap_id_type, tools_parse_header, tools_plan, tools_read_tiny_object, tools_serialize,
+    tools_write_managed_id,
+};
 
 /// A managed object's ID.
 pub type Id = [u8; 8];

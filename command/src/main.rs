@@ -18,19 +18,9 @@ mod quoting;
 mod read;
 mod signals;
 mod streams;
-mod superblock;
 mod table;
 mod talk;
 mod write;
-
-// The libraries; not every function of theirs is called here.
-#[path = "../../loader/tools/headers.rs"]
-mod tools_headers;
-#[allow(dead_code)]
-#[path = "../../loader/tools/objects.rs"]
-mod tools_objects;
-#[path = "../../loader/tools/writing.rs"]
-mod tools_writing;
 
 use arguments::{Arguments, Explain, Subcommands};
 use clap::CommandFactory;

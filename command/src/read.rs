@@ -10,9 +10,8 @@ use crate::output::{self, Output};
 use crate::progress::Progress;
 use crate::quoting::shown;
 use crate::streams;
-use crate::superblock::Superblock;
 use crate::talk::{Talk, Volume, tell};
-use fractal_heap::{Error, Heap, Refusal, checksum, count, grouped};
+use fractal_heap::{Error, Heap, Refusal, Superblock, checksum, count, grouped};
 use serde_json::json;
 use std::borrow::Cow;
 use std::collections::HashSet;
@@ -302,9 +301,9 @@ impl<'f> Site<'f> {
         in_list: bool,
         remarks: &Remarks,
     ) -> Result<(&'f [u8], Place), Failure> {
-        let (offset, length) = self.heap.decode_managed_id(id)?;
+        let (offset, length) = self.heap.decode_managed_id_of_any_length(id)?;
         let end = offset.saturating_add(length);
-        let (bytes, position) = match self.heap.read_managed_object(id) {
+        let (bytes, position) = match self.heap.read_managed_object_of_any_length(id) {
             Ok(bytes) => (bytes, Some(self.base + position(self.heap.file, bytes))),
             Err(Error::Refused(Refusal::UnexpectedEof { .. })) if in_list && length == 0 => {
                 (&[][..], None)
@@ -368,7 +367,10 @@ impl<'f> Site<'f> {
         if turned == *id || turned.bytes().first() != Some(&0) {
             return None;
         }
-        let bytes = self.heap.read_managed_object(turned.bytes()).ok()?;
+        let bytes = self
+            .heap
+            .read_managed_object_of_any_length(turned.bytes())
+            .ok()?;
         (!bytes.is_empty()).then_some((turned, bytes))
     }
 

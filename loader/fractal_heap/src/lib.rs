@@ -22,12 +22,16 @@
 //! # file.extend(b"gauge 7 was replaced at noon");
 //! # file.resize(146 + 1024, 0);
 //!
-//! // The file's bytes, the position of a heap's header, and the two sizes of the superblock.
+//! // The file's bytes from its superblock on, the address of a heap's header, and the two sizes of the superblock.
 //! let heap = Heap { file: &file, header_at: 0, offset_size: 8, length_size: 8 };
 //! let id = [0x00, 0x16, 0x00, 0x00, 0x00, 0x00, 0x1C, 0x00];
 //!
 //! assert_eq!(heap.decode_managed_id(&id)?, (22, 28));
 //! assert_eq!(heap.read_managed_object(&id)?, b"gauge 7 was replaced at noon");
+//!
+//! // An ID that was cut short, which the C functions would take for another one.
+//! assert_eq!(heap.heap_id_length()?, 8);
+//! assert_eq!(heap.read_managed_object(&id[..3]), Err(Error::IdLength { length: 3, due: 8 }));
 //!
 //! // The same file, cut inside of the header.
 //! let cut = Heap { file: &file[..100], ..heap };
@@ -37,16 +41,26 @@
 //! # Ok::<(), Error>(())
 //! ```
 //!
-//! The library is linked statically. It is looked for where `loader/static_libraries` puts it, or in the folder that the
-//! variable `FRACTAL_HEAP_LIBRARIES` names when this crate is built.
+//! The file that a [`Heap`] has begins at its superblock, since HDF5's addresses count from there. In a file with a user
+//! block that is not the file's start, and a heap of the whole file would give other bytes. [`Superblock::find`] finds
+//! it, and [`Superblock::heap`] makes the heap of an address as HDF5 and its tools tell it.
+//!
+//! The library is linked statically. In the repository it is looked for where `loader/static_libraries` puts it. A copy of
+//! this crate's folder needs the variable `FRACTAL_HEAP_LIBRARIES` when it is built: the folder that has
+//! `libfractal_heap_c.a`; a relative one counts from where cargo is called.
 #![warn(missing_docs)]
 
 mod numbers;
 mod refusal;
+mod superblock;
 
 pub use numbers::{count, grouped};
 pub use refusal::Refusal;
+pub use superblock::Superblock;
 
+use fractal_heap_sys::{
+    fractal_heap_checksum, fractal_heap_decode_managed_id, fractal_heap_read_managed_object,
+};
 use std::fmt;
 
 /// A C function that parses the header first and answers for an ID: see fractal_heap.h.
@@ -61,33 +75,6 @@ type Call = unsafe extern "C" fn(
     slot: *mut u8,
     slot_len: usize,
 ) -> u32;
-
-#[link(name = "fractal_heap_c", kind = "static")]
-unsafe extern "C" {
-    fn fractal_heap_checksum(bytes: *const u8, bytes_len: usize) -> u32;
-    fn fractal_heap_decode_managed_id(
-        file: *const u8,
-        file_len: usize,
-        at: u64,
-        offset_size: u8,
-        length_size: u8,
-        id: *const u8,
-        id_len: usize,
-        slot: *mut u8,
-        slot_len: usize,
-    ) -> u32;
-    fn fractal_heap_read_managed_object(
-        file: *const u8,
-        file_len: usize,
-        at: u64,
-        offset_size: u8,
-        length_size: u8,
-        id: *const u8,
-        id_len: usize,
-        slot: *mut u8,
-        slot_len: usize,
-    ) -> u32;
-}
 
 /// Jenkins' lookup3, the checksum of HDF5's metadata.
 ///
@@ -106,6 +93,13 @@ pub fn checksum(bytes: &[u8]) -> u32 {
 pub enum Error {
     /// The library refused the call.
     Refused(Refusal),
+    /// The ID has not as many bytes as the heap's IDs: one that was cut short would be read as another ID.
+    IdLength {
+        /// Bytes of the ID.
+        length: usize,
+        /// Bytes of each ID of the heap.
+        due: u16,
+    },
     /// The library answered with a place outside of the file. It is proved that it does not; this is said where the
     /// proof and what was linked should not be of one piece.
     Outside {
@@ -122,6 +116,11 @@ impl fmt::Display for Error {
     fn fmt(&self, f: &mut fmt::Formatter<'_>) -> fmt::Result {
         match *self {
             Error::Refused(refusal) => refusal.fmt(f),
+            Error::IdLength { length, due } => write!(
+                f,
+                "the ID has {}, and the heap's IDs have {due}",
+                count(length as u64, "byte")
+            ),
             Error::Outside {
                 position,
                 length,
@@ -146,13 +145,12 @@ impl From<Refusal> for Error {
 }
 
 /// A heap in a file: where its header is, and the two sizes that the file's superblock gives.
-///
-/// In a file with a user block, `file` is the file from its superblock on: HDF5's addresses count from there.
+/// [`Superblock::heap`] makes it of a whole file.
 #[derive(Clone, Copy)]
 pub struct Heap<'f> {
-    /// The file's bytes.
+    /// The file's bytes from its superblock on, which is behind the user block where there is one.
     pub file: &'f [u8],
-    /// Where the heap's header is.
+    /// Where the heap's header is in them: its address in HDF5.
     pub header_at: u64,
     /// Bytes of an address: 2, 4 or 8.
     pub offset_size: u8,
@@ -172,14 +170,39 @@ impl fmt::Debug for Heap<'_> {
     }
 }
 
+/// Where a header has the length of the heap's IDs, behind its signature and version.
+const ID_LENGTH_AT: u64 = 5;
+
 impl<'f> Heap<'f> {
-    /// Offset in the heap and length that a managed ID gives.
-    pub fn decode_managed_id(&self, id: &[u8]) -> Result<(u64, u64), Refusal> {
+    /// How many bytes each ID of the heap has, by a header that is sound.
+    pub fn heap_id_length(&self) -> Result<u16, Refusal> {
+        // An ID of one byte, 0, is a managed object's: what is refused is the header.
+        self.decode_managed_id_of_any_length(&[0])?;
+        let length = self.stored_id_length();
+        Ok(length.expect("a header that is sound is in the file"))
+    }
+
+    /// Offset in the heap and length that a managed ID gives, which must have the length of the heap's IDs.
+    pub fn decode_managed_id(&self, id: &[u8]) -> Result<(u64, u64), Error> {
+        self.check_length(id)?;
+        Ok(self.decode_managed_id_of_any_length(id)?)
+    }
+
+    /// The bytes of a managed object, as they lie in the file, by its ID, which must have the length of the heap's IDs.
+    pub fn read_managed_object(&self, id: &[u8]) -> Result<&'f [u8], Error> {
+        self.check_length(id)?;
+        self.read_managed_object_of_any_length(id)
+    }
+
+    /// As [`decode_managed_id`](Heap::decode_managed_id), by an ID of any length, as the library takes it: what it lacks
+    /// counts as zeros, and a longer one may have a ninth byte that belongs to the object's length.
+    pub fn decode_managed_id_of_any_length(&self, id: &[u8]) -> Result<(u64, u64), Refusal> {
         self.pair(fractal_heap_decode_managed_id, id)
     }
 
-    /// The bytes of a managed object, as they lie in the file.
-    pub fn read_managed_object(&self, id: &[u8]) -> Result<&'f [u8], Error> {
+    /// As [`read_managed_object`](Heap::read_managed_object), by an ID of any length: one of three bytes may give an
+    /// empty object.
+    pub fn read_managed_object_of_any_length(&self, id: &[u8]) -> Result<&'f [u8], Error> {
         let (position, length) = self.pair(fractal_heap_read_managed_object, id)?;
         part(self.file, position, length).ok_or(Error::Outside {
             position,
@@ -188,11 +211,31 @@ impl<'f> Heap<'f> {
         })
     }
 
-    /// As [`read_managed_object`](Heap::read_managed_object), with the number and the slot as the library leaves them:
-    /// 0 or a refusal's number, and in the first 16 bytes of the slot two little-endian numbers, the object's position
-    /// and length or the refusal's values. A shorter slot gives 13 and is left as it was.
+    /// As [`read_managed_object_of_any_length`](Heap::read_managed_object_of_any_length), with the number and the slot as
+    /// the library leaves them: 0 or a refusal's number, and in the first 16 bytes of the slot two little-endian
+    /// numbers, the object's position and length or the refusal's values. A shorter slot gives 13 and is left as it was.
     pub fn read_managed_object_into(&self, id: &[u8], slot: &mut [u8]) -> u32 {
         self.ask(fractal_heap_read_managed_object, id, slot)
+    }
+
+    /// What the header says of the IDs' length, if the file has these two bytes; it may not be sound.
+    fn stored_id_length(&self) -> Option<u16> {
+        let at = usize::try_from(self.header_at.checked_add(ID_LENGTH_AT)?).ok()?;
+        let bytes = self.file.get(at..)?.first_chunk()?;
+        Some(u16::from_le_bytes(*bytes))
+    }
+
+    /// Refuses an ID that has not the length of the heap's IDs. Where the header is not sound, it is refused and not the
+    /// ID; where the length is as due, the library will look at the header.
+    fn check_length(&self, id: &[u8]) -> Result<(), Error> {
+        let is_due = |due| usize::from(due) == id.len();
+        if self.stored_id_length().is_some_and(is_due) {
+            return Ok(());
+        }
+        Err(Error::IdLength {
+            length: id.len(),
+            due: self.heap_id_length()?,
+        })
     }
 
     /// The library's answer as it comes: the number, and the two values in the first 16 bytes of the slot.

@@ -1,5 +1,6 @@
 //! Why a call is refused: the one table of causes, each with its number, its values and its words.
 use crate::numbers::{count, grouped};
+use fractal_heap_sys as sys;
 use std::fmt;
 use std::ops::RangeInclusive;
 
@@ -63,30 +64,33 @@ pub enum Refusal {
 
 impl Refusal {
     /// The numbers that this version has words for.
-    pub const NUMBERS: RangeInclusive<u32> = 1..=16;
+    pub const NUMBERS: RangeInclusive<u32> =
+        sys::FRACTAL_HEAP_UNEXPECTED_EOF..=sys::FRACTAL_HEAP_HEAP_ID_TOO_LARGE;
 
     /// The cause with this number and these values; a value that the cause does not have is passed over.
     pub fn new(number: u32, first: u64, second: u64) -> Self {
         match number {
-            1 => Refusal::UnexpectedEof {
+            sys::FRACTAL_HEAP_UNEXPECTED_EOF => Refusal::UnexpectedEof {
                 expected: first,
                 available: second,
             },
-            2 => Refusal::InvalidOffsetSize { size: first },
-            3 => Refusal::InvalidLengthSize { size: first },
-            4 => Refusal::InvalidSignature,
-            5 => Refusal::InvalidVersion { version: first },
-            6 => Refusal::InvalidHeapIdType { id_type: first },
-            7 => Refusal::ChecksumMismatch {
+            sys::FRACTAL_HEAP_INVALID_OFFSET_SIZE => Refusal::InvalidOffsetSize { size: first },
+            sys::FRACTAL_HEAP_INVALID_LENGTH_SIZE => Refusal::InvalidLengthSize { size: first },
+            sys::FRACTAL_HEAP_INVALID_SIGNATURE => Refusal::InvalidSignature,
+            sys::FRACTAL_HEAP_INVALID_VERSION => Refusal::InvalidVersion { version: first },
+            sys::FRACTAL_HEAP_INVALID_HEAP_ID_TYPE => Refusal::InvalidHeapIdType { id_type: first },
+            sys::FRACTAL_HEAP_CHECKSUM_MISMATCH => Refusal::ChecksumMismatch {
                 stored: first,
                 computed: second,
             },
-            8 => Refusal::UnsupportedFilteredHeapObject,
-            9 => Refusal::OffsetOverflow {
+            sys::FRACTAL_HEAP_UNSUPPORTED_FILTERED_HEAP_OBJECT => {
+                Refusal::UnsupportedFilteredHeapObject
+            }
+            sys::FRACTAL_HEAP_OFFSET_OVERFLOW => Refusal::OffsetOverflow {
                 address: first,
                 distance: second,
             },
-            10 => Refusal::DepthExceeded { limit: first },
+            sys::FRACTAL_HEAP_DEPTH_EXCEEDED => Refusal::DepthExceeded { limit: first },
             _ => Refusal::of_writing(number, first, second),
         }
     }
@@ -94,19 +98,27 @@ impl Refusal {
     /// The causes of planning, writing and lent memory.
     fn of_writing(number: u32, first: u64, second: u64) -> Self {
         match (number, second) {
-            (11, size) => Refusal::ObjectTooLarge { index: first, size },
-            (12, _) => Refusal::HeapSpaceExhausted { index: first },
-            (13, lent) => Refusal::SliceTooShort {
+            (sys::FRACTAL_HEAP_OBJECT_TOO_LARGE, size) => {
+                Refusal::ObjectTooLarge { index: first, size }
+            }
+            (sys::FRACTAL_HEAP_HEAP_SPACE_EXHAUSTED, _) => {
+                Refusal::HeapSpaceExhausted { index: first }
+            }
+            (sys::FRACTAL_HEAP_SLICE_TOO_SHORT, lent) => Refusal::SliceTooShort {
                 needed: first,
                 lent,
             },
-            (14, given) => Refusal::ObjectBytesMismatch { sum: first, given },
-            (15, 0) => Refusal::HeaderAddressTooLarge { address: first },
-            (15, region_size) => Refusal::RegionAddressTooLarge {
+            (sys::FRACTAL_HEAP_OBJECT_BYTES_MISMATCH, given) => {
+                Refusal::ObjectBytesMismatch { sum: first, given }
+            }
+            (sys::FRACTAL_HEAP_ADDRESS_TOO_LARGE, 0) => {
+                Refusal::HeaderAddressTooLarge { address: first }
+            }
+            (sys::FRACTAL_HEAP_ADDRESS_TOO_LARGE, region_size) => Refusal::RegionAddressTooLarge {
                 address: first,
                 region_size,
             },
-            (16, length) => Refusal::HeapIdTooLarge {
+            (sys::FRACTAL_HEAP_HEAP_ID_TOO_LARGE, length) => Refusal::HeapIdTooLarge {
                 offset: first,
                 length,
             },
@@ -124,7 +136,7 @@ impl Refusal {
         let both = u128::from_le_bytes(slot);
         let (first, second) = (both as u64, (both >> 64) as u64);
         match number {
-            0 => Ok((first, second)),
+            sys::FRACTAL_HEAP_OK => Ok((first, second)),
             _ => Err(Refusal::new(number, first, second)),
         }
     }
@@ -132,22 +144,26 @@ impl Refusal {
     /// The cause's number.
     pub fn number(&self) -> u32 {
         match *self {
-            Refusal::UnexpectedEof { .. } => 1,
-            Refusal::InvalidOffsetSize { .. } => 2,
-            Refusal::InvalidLengthSize { .. } => 3,
-            Refusal::InvalidSignature => 4,
-            Refusal::InvalidVersion { .. } => 5,
-            Refusal::InvalidHeapIdType { .. } => 6,
-            Refusal::ChecksumMismatch { .. } => 7,
-            Refusal::UnsupportedFilteredHeapObject => 8,
-            Refusal::OffsetOverflow { .. } => 9,
-            Refusal::DepthExceeded { .. } => 10,
-            Refusal::ObjectTooLarge { .. } => 11,
-            Refusal::HeapSpaceExhausted { .. } => 12,
-            Refusal::SliceTooShort { .. } => 13,
-            Refusal::ObjectBytesMismatch { .. } => 14,
-            Refusal::HeaderAddressTooLarge { .. } | Refusal::RegionAddressTooLarge { .. } => 15,
-            Refusal::HeapIdTooLarge { .. } => 16,
+            Refusal::UnexpectedEof { .. } => sys::FRACTAL_HEAP_UNEXPECTED_EOF,
+            Refusal::InvalidOffsetSize { .. } => sys::FRACTAL_HEAP_INVALID_OFFSET_SIZE,
+            Refusal::InvalidLengthSize { .. } => sys::FRACTAL_HEAP_INVALID_LENGTH_SIZE,
+            Refusal::InvalidSignature => sys::FRACTAL_HEAP_INVALID_SIGNATURE,
+            Refusal::InvalidVersion { .. } => sys::FRACTAL_HEAP_INVALID_VERSION,
+            Refusal::InvalidHeapIdType { .. } => sys::FRACTAL_HEAP_INVALID_HEAP_ID_TYPE,
+            Refusal::ChecksumMismatch { .. } => sys::FRACTAL_HEAP_CHECKSUM_MISMATCH,
+            Refusal::UnsupportedFilteredHeapObject => {
+                sys::FRACTAL_HEAP_UNSUPPORTED_FILTERED_HEAP_OBJECT
+            }
+            Refusal::OffsetOverflow { .. } => sys::FRACTAL_HEAP_OFFSET_OVERFLOW,
+            Refusal::DepthExceeded { .. } => sys::FRACTAL_HEAP_DEPTH_EXCEEDED,
+            Refusal::ObjectTooLarge { .. } => sys::FRACTAL_HEAP_OBJECT_TOO_LARGE,
+            Refusal::HeapSpaceExhausted { .. } => sys::FRACTAL_HEAP_HEAP_SPACE_EXHAUSTED,
+            Refusal::SliceTooShort { .. } => sys::FRACTAL_HEAP_SLICE_TOO_SHORT,
+            Refusal::ObjectBytesMismatch { .. } => sys::FRACTAL_HEAP_OBJECT_BYTES_MISMATCH,
+            Refusal::HeaderAddressTooLarge { .. } | Refusal::RegionAddressTooLarge { .. } => {
+                sys::FRACTAL_HEAP_ADDRESS_TOO_LARGE
+            }
+            Refusal::HeapIdTooLarge { .. } => sys::FRACTAL_HEAP_HEAP_ID_TOO_LARGE,
             Refusal::Other { number, .. } => number,
         }
     }

@@ -222,6 +222,91 @@ fn sizes_and_types_that_there_are_not_are_refused() {
     assert_eq!(read(&file, EIGHT, &huge), refused(6, 1, 0));
 }
 
+/// The file with a header that says another length of the heap's IDs, sealed again.
+fn with_id_length(mut file: Vec<u8>, w: Widths, length: u16) -> Vec<u8> {
+    let sum_at = AT + w.header() - 4;
+    file[AT + 5..AT + 7].copy_from_slice(&length.to_le_bytes());
+    let sum = checksum(&file[AT..sum_at]).to_le_bytes();
+    file[sum_at..sum_at + 4].copy_from_slice(&sum);
+    file
+}
+
+#[test]
+fn the_length_of_a_heaps_ids_is_the_headers() {
+    each_width(|w| {
+        for length in [7, 8, 10, 17, 18, 65_535] {
+            let file = with_id_length(direct_heap(w), w, length);
+            assert_eq!(heap(&file, w).heap_id_length(), Ok(length));
+        }
+    });
+}
+
+#[test]
+fn the_length_of_ids_is_refused_as_the_header_is() {
+    let mut file = direct_heap(EIGHT);
+    let length = |file: &[u8]| heap(file, EIGHT).heap_id_length();
+    assert_eq!(
+        length(&file[..AT + 6]),
+        Err(Refusal::new(1, AT as u64 + 7, AT as u64 + 6))
+    );
+    assert_eq!(length(b""), Err(Refusal::new(1, AT as u64 + 5, 0)));
+    file[AT + 5] = 9;
+    let damaged = length(&file).unwrap_err();
+    assert_eq!(damaged.number(), 7, "{damaged}");
+    file[AT] ^= 1;
+    assert_eq!(length(&file), Err(Refusal::InvalidSignature));
+}
+
+#[test]
+fn an_id_of_another_length_is_refused_in_words() {
+    let file = direct_heap(EIGHT);
+    let id = [id_at(EIGHT.block_header()), vec![0; 8]].concat();
+    for length in (0..=16).filter(|&length| length != 8) {
+        let due = Error::IdLength { length, due: 8 };
+        let heap = heap(&file, EIGHT);
+        assert_eq!(heap.read_managed_object(&id[..length]), Err(due));
+        assert_eq!(heap.decode_managed_id(&id[..length]), Err(due));
+    }
+    let words = read(&file, EIGHT, &id[..3]).unwrap_err().to_string();
+    assert_eq!(words, "the ID has 3 bytes, and the heap's IDs have 8");
+    let longer = with_id_length(file, EIGHT, 10);
+    assert_eq!(read(&longer, EIGHT, &id[..10]), Ok(OBJECT));
+    let words = read(&longer, EIGHT, &id[..8]).unwrap_err().to_string();
+    assert_eq!(words, "the ID has 8 bytes, and the heap's IDs have 10");
+}
+
+#[test]
+fn a_header_that_is_not_sound_is_refused_before_the_ids_length() {
+    let mut file = direct_heap(EIGHT);
+    file[AT + 5] = 9;
+    let id = id_at(EIGHT.block_header());
+    for id in [&id[..3], &id[..], &[&id[..], &[0]].concat()] {
+        let Err(Error::Refused(refusal)) = read(&file, EIGHT, id) else {
+            panic!("an ID of {} bytes is not refused", id.len());
+        };
+        assert_eq!(refusal.number(), 7, "{refusal}");
+    }
+}
+
+#[test]
+fn an_id_of_any_length_is_taken_as_the_library_takes_it() {
+    let file = direct_heap(EIGHT);
+    let id = id_at(EIGHT.block_header());
+    let heap = heap(&file, EIGHT);
+    let offset = EIGHT.block_header() as u64;
+    // Without the two bytes of the length there is none.
+    for length in [3, 6] {
+        let short = &id[..length];
+        assert_eq!(heap.decode_managed_id_of_any_length(short), Ok((offset, 0)));
+        assert_eq!(heap.read_managed_object_of_any_length(short), Ok(&b""[..]));
+    }
+    assert_eq!(heap.read_managed_object_of_any_length(&id), Ok(OBJECT));
+    assert_eq!(
+        heap.decode_managed_id_of_any_length(b""),
+        Err(Refusal::new(1, 1, 0))
+    );
+}
+
 #[test]
 fn another_signature_is_refused_by_4() {
     let mut file = direct_heap(EIGHT);

@@ -1,15 +1,31 @@
 //! The superblock of an HDF5 file: where it is, which is the base of the file's addresses, and what it says of sizes.
 //! HDF5 File Format Specification, II.A.
+use crate::Heap;
 
 const SIGNATURE: &[u8] = b"\x89HDF\r\n\x1a\n";
 
-/// What a superblock says that matters here.
-#[derive(Debug, PartialEq, Eq)]
+/// Where a file's superblock is, and what it says that matters here.
+///
+/// In front of it may be a user block, which HDF5 passes over: its addresses count from the superblock on.
+///
+/// ```no_run
+/// use fractal_heap::Superblock;
+///
+/// let bytes = std::fs::read("notes.h5")?;
+/// let superblock = Superblock::find(&bytes).ok_or("no HDF5 file")?;
+/// // The address of the heap's header, as HDF5 and its tools tell it.
+/// let heap = superblock.heap(&bytes, 1064).ok_or("a superblock that is not known here")?;
+/// let note = heap.read_managed_object(&[0x00, 0x16, 0x00, 0x00, 0x00, 0x00, 0x1C, 0x00])?;
+/// # Ok::<(), Box<dyn std::error::Error>>(())
+/// ```
+#[derive(Debug, Clone, Copy, PartialEq, Eq)]
+#[non_exhaustive]
 pub struct Superblock {
     /// Where it is in the file: HDF5 takes this for the base, whatever the field says.
     pub at: u64,
+    /// Its version; 0 to 3 are known here.
     pub version: u8,
-    /// Offset size and length size; None where the layout is not known, or the file ends before.
+    /// Offset size and length size; None where the version is not known, or the file ends before.
     pub sizes: Option<(u8, u8)>,
     /// The base address field; None where it is not known.
     pub base: Option<u64>,
@@ -45,7 +61,7 @@ fn field(bytes: &[u8], at: usize, width: u8) -> Option<u64> {
 }
 
 impl Superblock {
-    /// The superblock at 0, 512, 1,024, 2,048 .., if there is one.
+    /// The superblock of a whole file: the first signature at 0, 512, 1,024, 2,048 .., if there is one.
     pub fn find(file: &[u8]) -> Option<Self> {
         let mut at = 0;
         while let Some(rest) = file.get(at..) {
@@ -55,6 +71,18 @@ impl Superblock {
             at = at.checked_mul(2)?.max(512);
         }
         None
+    }
+
+    /// The heap whose header is at an address of this superblock's file, which is given whole; None where the sizes are
+    /// not known, or the file ends before the superblock.
+    pub fn heap<'f>(&self, file: &'f [u8], address: u64) -> Option<Heap<'f>> {
+        let (offset_size, length_size) = self.sizes?;
+        Some(Heap {
+            file: file.get(usize::try_from(self.at).ok()?..)?,
+            header_at: address,
+            offset_size,
+            length_size,
+        })
     }
 
     fn parse(bytes: &[u8], at: u64) -> Option<Self> {
@@ -115,6 +143,25 @@ mod tests {
                 }
             }
         }
+    }
+
+    #[test]
+    fn a_heap_is_in_the_file_from_the_superblock_on() {
+        let bytes = file(3, 512, 4, 512);
+        let superblock = Superblock::find(&bytes).unwrap();
+        let heap = superblock.heap(&bytes, 48).unwrap();
+        assert_eq!(
+            (
+                heap.file,
+                heap.header_at,
+                heap.offset_size,
+                heap.length_size
+            ),
+            (&bytes[512..], 48, 4, 4)
+        );
+        assert!(superblock.heap(&bytes[..511], 48).is_none());
+        let unknown = Superblock::find(&file(9, 512, 8, 512)).unwrap();
+        assert!(unknown.heap(&bytes, 48).is_none());
     }
 
     #[test]

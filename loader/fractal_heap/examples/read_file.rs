@@ -1,0 +1,43 @@
+//! Prints managed objects of a heap in an HDF5 file, which may have a user block.
+//!     read_file FILE ADDRESS ID...
+//! ADDRESS is that of the heap's header, as HDF5 and its tools tell it; an ID is hexadecimal digits, two a byte.
+use fractal_heap::Superblock;
+use std::error::Error;
+use std::io::Write;
+use std::process::ExitCode;
+use std::{env, fs, io};
+
+fn id_of(digits: &str) -> Result<Vec<u8>, Box<dyn Error>> {
+    if digits.len() % 2 != 0 || !digits.bytes().all(|digit| digit.is_ascii_hexdigit()) {
+        return Err(format!("{digits:?} has not two hexadecimal digits a byte").into());
+    }
+    let byte = |i| u8::from_str_radix(&digits[i..i + 2], 16);
+    Ok((0..digits.len())
+        .step_by(2)
+        .map(byte)
+        .collect::<Result<_, _>>()?)
+}
+
+fn print(words: &[String]) -> Result<(), Box<dyn Error>> {
+    let [_, name, address, ids @ ..] = words else {
+        return Err("read_file FILE ADDRESS ID...".into());
+    };
+    let file = fs::read(name)?;
+    let superblock = Superblock::find(&file).ok_or("it is no HDF5 file")?;
+    let heap = superblock
+        .heap(&file, address.parse()?)
+        .ok_or("the superblock's version is not known here")?;
+    for digits in ids {
+        io::stdout().write_all(heap.read_managed_object(&id_of(digits)?)?)?;
+    }
+    Ok(())
+}
+
+fn main() -> ExitCode {
+    let words: Vec<String> = env::args().collect();
+    let Err(error) = print(&words) else {
+        return ExitCode::SUCCESS;
+    };
+    eprintln!("read_file: {error}");
+    ExitCode::FAILURE
+}

@@ -1,0 +1,64 @@
+//! The C functions of the proved fractal heap, as the libraries export them; the crate `fractal_heap` makes those of the
+//! first library safe to call. What each answers is said in `loader/fractal_heap.h`, to which a test holds what stands
+//! here, as it does to the functions that are proved, in `crates/fractal_heap_c` and `crates/tools_c`.
+//!
+//! With the feature `tools` the functions of the library `tools_c`, which the command and the comparison call, are here,
+//! too.
+//!
+//! # Safety
+//!
+//! Each pointer is to as many elements as the length behind it says, for reading where it is `*const`, for writing
+//! where it is `*mut`; of no elements it may be anything that is not read. What is written overlaps nothing else that is
+//! lent to the call. Nothing is kept after it.
+
+#[cfg(feature = "tools")]
+mod tools;
+
+#[cfg(feature = "tools")]
+pub use tools::*;
+
+// What the functions with a slot return: 0, or why they refuse.
+pub const FRACTAL_HEAP_OK: u32 = 0;
+pub const FRACTAL_HEAP_UNEXPECTED_EOF: u32 = 1;
+pub const FRACTAL_HEAP_INVALID_OFFSET_SIZE: u32 = 2;
+pub const FRACTAL_HEAP_INVALID_LENGTH_SIZE: u32 = 3;
+pub const FRACTAL_HEAP_INVALID_SIGNATURE: u32 = 4;
+pub const FRACTAL_HEAP_INVALID_VERSION: u32 = 5;
+pub const FRACTAL_HEAP_INVALID_HEAP_ID_TYPE: u32 = 6;
+pub const FRACTAL_HEAP_CHECKSUM_MISMATCH: u32 = 7;
+pub const FRACTAL_HEAP_UNSUPPORTED_FILTERED_HEAP_OBJECT: u32 = 8;
+pub const FRACTAL_HEAP_OFFSET_OVERFLOW: u32 = 9;
+pub const FRACTAL_HEAP_DEPTH_EXCEEDED: u32 = 10;
+pub const FRACTAL_HEAP_OBJECT_TOO_LARGE: u32 = 11;
+pub const FRACTAL_HEAP_HEAP_SPACE_EXHAUSTED: u32 = 12;
+pub const FRACTAL_HEAP_SLICE_TOO_SHORT: u32 = 13;
+pub const FRACTAL_HEAP_OBJECT_BYTES_MISMATCH: u32 = 14;
+pub const FRACTAL_HEAP_ADDRESS_TOO_LARGE: u32 = 15;
+pub const FRACTAL_HEAP_HEAP_ID_TOO_LARGE: u32 = 16;
+
+#[link(name = "fractal_heap_c", kind = "static")]
+unsafe extern "C" {
+    pub fn fractal_heap_checksum(bytes: *const u8, bytes_len: usize) -> u32;
+    pub fn fractal_heap_decode_managed_id(
+        file: *const u8,
+        file_len: usize,
+        at: u64,
+        offset_size: u8,
+        length_size: u8,
+        id: *const u8,
+        id_len: usize,
+        slot: *mut u8,
+        slot_len: usize,
+    ) -> u32;
+    pub fn fractal_heap_read_managed_object(
+        file: *const u8,
+        file_len: usize,
+        at: u64,
+        offset_size: u8,
+        length_size: u8,
+        id: *const u8,
+        id_len: usize,
+        slot: *mut u8,
+        slot_len: usize,
+    ) -> u32;
+}

@@ -1,0 +1,300 @@
+//! Holds the declarations for Rust to those for C and to the functions that are proved: names, parameters in their
+//! order, types, and the numbers of refusals. All are read from the sources, so that none can be changed alone. In a
+//! copy of this crate outside of the repository there is nothing to hold them to.
+use std::collections::{BTreeMap, BTreeSet};
+use std::fs;
+use std::path::{Path, PathBuf};
+
+/// Functions, each in one line as Rust declares it: `name(parameter: type, ..) -> type`.
+type Functions = BTreeSet<String>;
+
+/// The repository, if this crate's folder is in it.
+fn repository() -> Option<PathBuf> {
+    let root = Path::new(env!("CARGO_MANIFEST_DIR")).join("../../..");
+    root.join("crates.txt").exists().then_some(root)
+}
+
+fn text(root: &Path, name: &str) -> String {
+    fs::read_to_string(root.join(name)).unwrap_or_else(|error| panic!("{name}: {error}"))
+}
+
+/// What this crate declares.
+fn rust(root: &Path, name: &str) -> String {
+    text(
+        root,
+        &format!("loader/fractal_heap/fractal_heap_sys/src/{name}.rs"),
+    )
+}
+
+/// The sources of a crate that is proved, those of its submodules, too.
+fn proved(folder: &Path) -> String {
+    let entries = fs::read_dir(folder).unwrap_or_else(|error| panic!("{folder:?}: {error}"));
+    let mut all = String::new();
+    for path in entries.map(|entry| entry.unwrap().path()) {
+        if path.is_dir() {
+            all += &proved(&path);
+        } else if path.extension().is_some_and(|ending| ending == "rt") {
+            all += &fs::read_to_string(path).unwrap();
+        }
+    }
+    all
+}
+
+fn declared(name: &str, parameters: &[(String, String)], answer: &str) -> String {
+    let parameters: Vec<String> = parameters
+        .iter()
+        .map(|(name, kind)| format!("{name}: {kind}"))
+        .collect();
+    format!("{name}({}) -> {answer}", parameters.join(", "))
+}
+
+/// Text without what follows two slashes in a line.
+fn without_line_comments(text: &str) -> String {
+    let code = |line: &str| line.split("//").next().unwrap_or_default().to_owned();
+    text.lines().map(code).collect::<Vec<_>>().join("\n")
+}
+
+/// A slice is a pointer and a length for C.
+fn pointer_and_length(name: &str, kind: &str) -> Vec<(String, String)> {
+    let pointer = match kind {
+        "&[u8]" => "*const u8",
+        "&[u64]" => "*const u64",
+        "&mut [u8]" => "*mut u8",
+        "&mut [u64]" => "*mut u64",
+        _ => return vec![(name.into(), kind.into())],
+    };
+    vec![
+        (name.into(), pointer.into()),
+        (format!("{name}_len"), "usize".into()),
+    ]
+}
+
+/// The functions of Rust's or Rattle's that begin with these words.
+fn functions_after(words: &str, text: &str) -> Functions {
+    let text = without_line_comments(text);
+    let function = |rest: &str| {
+        let (name, rest) = rest.split_once('(').expect("parameters");
+        let (parameters, rest) = rest.split_once(')').expect("an end of the parameters");
+        let answer = rest.trim_start().strip_prefix("->").expect("an answer");
+        let answer = answer
+            .split([';', ' ', '\n'])
+            .find(|word| !word.is_empty())
+            .unwrap();
+        let parameters: Vec<(String, String)> = parameters
+            .split(',')
+            .filter_map(|parameter| parameter.trim().split_once(": "))
+            .flat_map(|(name, kind)| pointer_and_length(name, kind))
+            .collect();
+        declared(name.trim(), &parameters, answer)
+    };
+    text.split(words).skip(1).map(function).collect()
+}
+
+fn rust_functions(text: &str) -> Functions {
+    functions_after("pub fn ", text)
+}
+
+fn proved_functions(text: &str) -> Functions {
+    functions_after("pub extern \"C\" fn ", text)
+}
+
+/// C without comments, lines for the preprocessor, and what is in braces; a brace ends a statement.
+fn c_statements(text: &str) -> Vec<String> {
+    let mut code = String::new();
+    let mut rest = text;
+    while let Some((before, comment)) = rest.split_once("/*") {
+        code += before;
+        rest = comment.split_once("*/").expect("an end of a comment").1;
+    }
+    code += rest;
+    let lines = code
+        .lines()
+        .filter(|line| !line.trim_start().starts_with('#'));
+    let code = lines.collect::<Vec<_>>().join("\n");
+    let mut outside = String::new();
+    let mut depth = 0;
+    for c in code.replace("extern \"C\" {", "").chars() {
+        match c {
+            '{' => depth += 1,
+            '}' if depth > 0 => {
+                depth -= 1;
+                outside.push(';');
+            }
+            '}' => {} // that of extern "C"
+            _ if depth == 0 => outside.push(c),
+            _ => {}
+        }
+    }
+    let one_line = |statement: &str| statement.split_whitespace().collect::<Vec<_>>().join(" ");
+    outside.split(';').map(one_line).collect()
+}
+
+/// A type of C's as Rust has it.
+fn c_type(kind: &str) -> String {
+    let (kind, pointer) = match kind.trim().strip_suffix('*') {
+        Some(to) => match to.trim().strip_prefix("const ") {
+            Some(to) => (to, "*const "),
+            None => (to.trim(), "*mut "),
+        },
+        None => (kind.trim(), ""),
+    };
+    let kind = match kind {
+        "uint8_t" => "u8",
+        "uint16_t" => "u16",
+        "uint32_t" => "u32",
+        "uint64_t" => "u64",
+        "size_t" => "usize",
+        _ => panic!("{kind:?} is no type that a function here has"),
+    };
+    format!("{pointer}{kind}")
+}
+
+/// A parameter's or a function's type and name.
+fn c_name(words: &str) -> (String, String) {
+    let name = words.trim().rsplit([' ', '*']).next().unwrap_or_default();
+    let kind = words.trim().strip_suffix(name).unwrap_or_default();
+    (name.into(), c_type(kind))
+}
+
+/// The functions that C's text declares and does not define.
+fn c_functions(text: &str) -> Functions {
+    let is_ours = |statement: &&String| {
+        !statement.starts_with("static ")
+            && (statement.contains(" fractal_heap_") || statement.contains(" tools_"))
+            && statement.ends_with(')')
+    };
+    let function = |statement: &String| {
+        let (head, parameters) = statement.split_once('(').expect("parameters");
+        let (name, answer) = c_name(head);
+        let parameters: Vec<(String, String)> = parameters
+            .trim_end_matches(')')
+            .split(',')
+            .map(c_name)
+            .collect();
+        declared(&name, &parameters, &answer)
+    };
+    c_statements(text)
+        .iter()
+        .filter(is_ours)
+        .map(function)
+        .collect()
+}
+
+/// A refusal's name and number, if the line has them: `pub const NAME: u32 = 1;` in Rust, `NAME = 1,` in C's enum.
+fn number(line: &str) -> Option<(String, u32)> {
+    let line = line.trim();
+    let (name, rest) = line
+        .strip_prefix("pub const ")
+        .unwrap_or(line)
+        .split_once(" = ")?;
+    let name = name.strip_suffix(": u32").unwrap_or(name);
+    let digits = rest.split([',', ';', ' ']).next()?;
+    let is_name = name.starts_with("FRACTAL_HEAP_") && !name.contains(' ');
+    is_name.then_some((name.to_owned(), digits.parse().ok()?))
+}
+
+fn numbers(text: &str) -> BTreeMap<String, u32> {
+    text.lines().filter_map(number).collect()
+}
+
+#[test]
+fn the_header_declares_what_rust_is_declared() {
+    let Some(root) = repository() else { return };
+    let (header, rust) = (text(&root, "loader/fractal_heap.h"), rust(&root, "lib"));
+    assert_eq!(c_functions(&header), rust_functions(&rust));
+    assert_eq!(rust_functions(&rust).len(), 3);
+    assert_eq!(numbers(&header), numbers(&rust));
+    assert_eq!(numbers(&rust).len(), 17);
+}
+
+#[test]
+fn the_functions_of_fractal_heap_c_are_those_declared() {
+    let Some(root) = repository() else { return };
+    let sources = proved(&root.join("crates/fractal_heap_c/src"));
+    assert_eq!(
+        proved_functions(&sources),
+        rust_functions(&rust(&root, "lib"))
+    );
+}
+
+#[test]
+fn the_functions_of_tools_c_are_those_declared() {
+    let Some(root) = repository() else { return };
+    let sources = proved(&root.join("crates/tools_c/src"));
+    assert_eq!(
+        proved_functions(&sources),
+        rust_functions(&rust(&root, "tools"))
+    );
+}
+
+#[test]
+fn what_a_c_program_declares_of_tools_c_is_declared_here() {
+    let Some(root) = repository() else { return };
+    let program = c_functions(&text(&root, "loader/write_region.c"));
+    let rust = rust_functions(&rust(&root, "tools"));
+    assert_eq!(program.len(), 2);
+    assert_eq!(program.difference(&rust).collect::<Vec<_>>(), [""; 0]);
+}
+
+/// What is changed on one side alone is seen, or the tests above would say nothing.
+#[test]
+fn a_change_of_one_side_is_seen() {
+    let Some(root) = repository() else { return };
+    let (header, rust) = (text(&root, "loader/fractal_heap.h"), rust(&root, "lib"));
+    let sources = proved(&root.join("crates/fractal_heap_c/src"));
+    let same = |header: &str, rust: &str, sources: &str| {
+        c_functions(header) == rust_functions(rust)
+            && proved_functions(sources) == rust_functions(rust)
+            && numbers(header) == numbers(rust)
+    };
+    let changed = |text: &str, from: &str, to: &str| {
+        assert!(text.contains(from), "{from}");
+        text.replace(from, to)
+    };
+    assert!(same(&header, &rust, &sources));
+    for (from, to) in [
+        ("uint64_t at", "uint32_t at"),
+        ("const uint8_t *id", "uint8_t *id"),
+        ("size_t id_len", "uint64_t id_len"),
+        (
+            "uint8_t offset_size, uint8_t length_size",
+            "uint8_t length_size, uint8_t offset_size",
+        ),
+        ("uint8_t *slot, size_t slot_len", "uint8_t *slot"),
+        (
+            "uint32_t fractal_heap_checksum",
+            "uint64_t fractal_heap_checksum",
+        ),
+        ("fractal_heap_checksum(const", "fractal_heap_sum(const"),
+        ("SLICE_TOO_SHORT = 13", "SLICE_TOO_SHORT = 12"),
+        ("FRACTAL_HEAP_DEPTH_EXCEEDED", "FRACTAL_HEAP_DEPTH"),
+    ] {
+        assert!(
+            !same(&changed(&header, from, to), &rust, &sources),
+            "{from}"
+        );
+    }
+    for (from, to) in [
+        ("at: u64", "at: u32"),
+        ("id: *const u8", "id: *mut u8"),
+        ("id_len: usize", "id_len: u64"),
+        ("bytes_len: usize) -> u32", "bytes_len: usize) -> u64"),
+        ("SLICE_TOO_SHORT: u32 = 13", "SLICE_TOO_SHORT: u32 = 14"),
+        ("pub const FRACTAL_HEAP_OK: u32 = 0;", ""),
+    ] {
+        assert!(
+            !same(&header, &changed(&rust, from, to), &sources),
+            "{from}"
+        );
+    }
+    for (from, to) in [
+        ("id: &[u8]", "id: &mut [u8]"),
+        ("at: u64", "at: u32"),
+        ("fractal_heap_checksum", "checksum_of"),
+    ] {
+        assert!(
+            !same(&header, &rust, &changed(&sources, from, to)),
+            "{from}"
+        );
+    }
+}
