@@ -136,8 +136,16 @@ impl Output {
         unwritten(&self.name, error)
     }
 
-    /// Gives the file its name, when all of it is on the disk.
+    /// Gives the file its name, when all of it is on the disk, and has the name there, too.
     pub fn finish(self, is_input: impl Fn(Identity) -> bool) -> Result<(), Failure> {
+        let folder = self.folder().to_path_buf();
+        self.give_name(is_input)?;
+        sync_folder(&folder);
+        Ok(())
+    }
+
+    /// Gives the file its name, when all of it is on the disk. The name is there when its folder is synced.
+    pub fn give_name(self, is_input: impl Fn(Identity) -> bool) -> Result<(), Failure> {
         let name = &self.name;
         let unwritten = |error| unwritten(name, error);
         may_go(name, self.force, is_input).or_else(|failure| match self.force {
@@ -158,10 +166,13 @@ impl Output {
             Unfinished::Named(file) => persist(file, name, self.force)?,
         }
         signals::set_unfinished(None);
-        // The name is on the disk when its folder is; a folder that cannot be synced does not undo the file.
-        let _ = File::open(folder(name)).and_then(|folder| folder.sync_all());
         Ok(())
     }
+}
+
+/// Has the names in a folder on the disk; a folder that cannot be synced does not undo the files.
+pub fn sync_folder(folder: &Path) {
+    let _ = File::open(folder).and_then(|folder| folder.sync_all());
 }
 
 /// What a file that is replaced has of owner, group and rights goes to the new one, but for what makes a program run as

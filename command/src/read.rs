@@ -484,16 +484,20 @@ impl Printing<'_> {
         names.any(|name| inputs::identity_of(name) == Some(file))
     }
 
-    /// Puts objects into one file.
-    fn keep(&self, name: &Path, objects: &[Object]) -> Result<(), Failure> {
-        let is_input = |file| self.is_input(file);
-        let output = Output::begin(name, self.arguments.force, is_input)?;
+    /// Puts objects into one file, which has no name yet.
+    fn lay(&self, name: &Path, objects: &[Object]) -> Result<Output, Failure> {
+        let output = Output::begin(name, self.arguments.force, |file| self.is_input(file))?;
         for object in objects {
             self.put(object.bytes, &mut output.file(), |error| {
                 output.failed(error)
             })?;
         }
-        output.finish(is_input)
+        Ok(output)
+    }
+
+    /// Puts objects into one file.
+    fn keep(&self, name: &Path, objects: &[Object]) -> Result<(), Failure> {
+        self.lay(name, objects)?.finish(|file| self.is_input(file))
     }
 
     /// Puts each object into a file of its own. All names are looked at before the first is written.
@@ -509,11 +513,14 @@ impl Printing<'_> {
             output::may_go(&path(object), self.arguments.force, is_input)?;
         }
         let mut progress = Progress::new("writing the objects", objects.len() as u64);
-        for object in objects {
-            self.keep(&path(object), std::slice::from_ref(object))?;
+        let kept = objects.iter().try_for_each(|object| {
+            let output = self.lay(&path(object), std::slice::from_ref(object))?;
+            output.give_name(|file| self.is_input(file))?;
             progress.step();
-        }
-        Ok(())
+            Ok(())
+        });
+        output::sync_folder(folder);
+        kept
     }
 
     fn print(&self, objects: &[Object]) -> Result<(), Failure> {
