@@ -37,9 +37,11 @@ and compared. A file has at most 65,514 bytes (at offset size 8).
 Every ID is planned anew from all sizes so far, so that twice as many files take four
 times as long: 100,000 take some 20 seconds.
 
-IMAGE appears whole or not at all: it is written under another name in the same folder
-(.poilures-*, to be deleted where the computer stopped or the program was killed in
-between), then renamed. An image holds the heap alone: it is no HDF5 file, and HDF5's
+IMAGE appears whole or not at all: it has no name, or where the file system has no such
+files another one (.poilures-*, to be deleted where the computer stopped or the program
+was killed in between), until all of it is on the disk. Objects of more than 256 MB are
+joined in a file without a name in the same folder, so that the disk has to have room
+for them and for IMAGE. An image holds the heap alone: it is no HDF5 file, and HDF5's
 tools do not open it.
 
 INDEX appears in the same way, after IMAGE. It has a line of JSON for each object, with

@@ -8,6 +8,7 @@ use std::fs::File;
 use std::io;
 use std::ops::Range;
 use std::os::fd::AsRawFd;
+use std::os::unix::fs::FileExt;
 
 /// What begins a heap's header.
 pub const SIGNATURE: &[u8] = b"FRHP";
@@ -144,17 +145,30 @@ impl Layout {
             take_room(file, part)?;
         }
         // SAFETY: the file is new, nobody else writes into it, and what its disk does is met by the signal's handler.
-        Ok(self.image(unsafe { MmapMut::map_mut(file) }?))
+        match unsafe { MmapMut::map_mut(file) } {
+            Ok(map) => Ok(self.image(map)),
+            Err(error) if maps_no_writing(&error) => Ok(Image {
+                file: Some(file.try_clone()?),
+                ..self.image(MmapMut::map_anon(self.size as usize)?)
+            }),
+            Err(error) => Err(error),
+        }
     }
 
     fn image(&self, map: MmapMut) -> Image {
         let part = |part: &Range<u64>| part.start as usize..part.end as usize;
         Image {
+            file: None,
             map,
             header: part(&self.header),
             region: part(&self.region),
         }
     }
+}
+
+/// How a file system refuses to map a file for writing, as some that are shared over a network do.
+fn maps_no_writing(error: &io::Error) -> bool {
+    matches!(error.raw_os_error(), Some(libc::ENODEV | libc::EINVAL))
 }
 
 /// Has the disk keep room for this part of a file.
@@ -170,6 +184,8 @@ fn take_room(file: &File, part: &Range<u64>) -> io::Result<()> {
 
 /// An image that is being written: zeros but for its header and its region.
 pub struct Image {
+    /// Where it is to be put, unless it is mapped from there.
+    file: Option<File>,
     map: MmapMut,
     header: Range<usize>,
     region: Range<usize>,
@@ -184,6 +200,11 @@ impl Image {
     /// The image with its header, whole.
     pub fn finish(mut self, header: &[u8]) -> io::Result<Mmap> {
         self.map[self.header.clone()].copy_from_slice(header);
+        if let Some(file) = &self.file {
+            for part in [&self.header, &self.region] {
+                file.write_all_at(&self.map[part.clone()], part.start as u64)?;
+            }
+        }
         self.map.make_read_only()
     }
 }

@@ -1,5 +1,5 @@
-//! HDF5's messages, which are the objects of the heaps of an HDF5 file: whether bytes begin as one does. HDF5 File Format
-//! Specification, IV.A.2.m.
+//! HDF5's messages, which are the objects of the heaps of an HDF5 file: whether bytes begin as one does. HDF5 File
+//! Format Specification, IV.A.2.m.
 
 /// Whether these bytes are those of an attribute's message: a version, flags or zero, and the sizes of name, type and
 /// space, which stand behind them, each in two bytes. Version 3 has a character set before the name; version 1 pads the

@@ -28,8 +28,8 @@ fn plain_text(bytes: &[u8]) -> Option<&str> {
     text.chars().all(has_picture).then_some(text)
 }
 
-/// A name as a word of any POSIX shell, which is this name and nothing else. One that begins with a hyphen gets a folder
-/// before it, so that it is not an option. The word has all bytes of the name: `line` or `program` shows it.
+/// A name as a word of any POSIX shell, which is this name and nothing else. One that begins with a hyphen gets a
+/// folder before it, so that it is not an option. The word has all bytes of the name: `line` or `program` shows it.
 pub fn word(name: impl AsRef<OsStr>) -> Vec<u8> {
     let name = name.as_ref().as_bytes();
     let plain = |byte: &u8| byte.is_ascii_alphanumeric() || b"_-./,:@%+".contains(byte);

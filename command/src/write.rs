@@ -81,23 +81,26 @@ impl Destination {
         }
     }
 
+    /// Why the image cannot be where it is to be.
+    fn failed(&self, error: io::Error) -> Failure {
+        match self {
+            Destination::File(output) => output.failed(error),
+            _ => joined::failed(&env::temp_dir(), error),
+        }
+    }
+
     /// The image in the file, from which it is read back, or where there is none in memory. One that is only handed on
     /// is in a file without a name where it is large.
     fn image(&self, layout: &Layout) -> Result<Image, Failure> {
+        let failed = |error| self.failed(error);
+        signals::set_mapped(&failed(io::Error::other(DISK_FAILED)));
         match self {
+            Destination::File(output) => layout.in_file(output.file()).map_err(failed),
             Destination::Standard if layout.size > joined::MOST_IN_MEMORY => {
-                let folder = env::temp_dir();
-                let failed = |error| joined::failed(&folder, error);
-                signals::set_mapped(&failed(io::Error::other(DISK_FAILED)));
-                let file = joined::unnamed(&folder).map_err(failed)?;
+                let file = joined::unnamed(&env::temp_dir()).map_err(failed)?;
                 layout.in_file(&file).map_err(failed)
             }
-            Destination::Nowhere | Destination::Standard => layout.in_memory(),
-            Destination::File(output) => {
-                let failed = |error| output.failed(error);
-                signals::set_mapped(&failed(io::Error::other(DISK_FAILED)));
-                layout.in_file(output.file()).map_err(failed)
-            }
+            _ => layout.in_memory(),
         }
     }
 }
@@ -298,8 +301,7 @@ fn written(
         ));
     }
     let image = image.finish(&header);
-    let image =
-        image.map_err(|error| Failure::Use(format!("the image cannot be read: {error}")))?;
+    let image = image.map_err(|error| destination.failed(error))?;
     let heap = Written {
         lists,
         totals,
