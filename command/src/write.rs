@@ -92,16 +92,20 @@ impl Destination {
     /// The image in the file, from which it is read back, or where there is none in memory. One that is only handed on
     /// is in a file without a name where it is large.
     fn image(&self, layout: &Layout) -> Result<Image, Failure> {
+        match self {
+            Destination::Nowhere => return layout.in_memory(),
+            Destination::Standard if layout.size <= joined::MOST_IN_MEMORY => {
+                return layout.in_memory();
+            }
+            _ => {}
+        }
         let failed = |error| self.failed(error);
         signals::set_mapped(&failed(io::Error::other(DISK_FAILED)));
-        match self {
-            Destination::File(output) => layout.in_file(output.file()).map_err(failed),
-            Destination::Standard if layout.size > joined::MOST_IN_MEMORY => {
-                let file = joined::unnamed(&env::temp_dir()).map_err(failed)?;
-                layout.in_file(&file).map_err(failed)
-            }
-            _ => layout.in_memory(),
-        }
+        let image = match self {
+            Destination::File(output) => layout.in_file(output.file()),
+            _ => joined::unnamed(&env::temp_dir()).and_then(|file| layout.in_file(&file)),
+        };
+        image.map_err(failed)
     }
 }
 
