@@ -1,6 +1,7 @@
 //! The words of the command line: what there is to say, and how numbers and IDs are written.
 use crate::id::HeapId;
-use clap::{ArgGroup, Args, Parser, Subcommand};
+use crate::quoting;
+use clap::{ArgGroup, Args, Command, CommandFactory, FromArgMatches, Parser, Subcommand};
 use std::ffi::OsString;
 use std::path::PathBuf;
 
@@ -10,12 +11,19 @@ const VERSION: &str = concat!(
     env!("POILURES_KIT")
 );
 
+/// Stands in the examples for the program's name, as it was called.
+const PROGRAM: &str = "PROGRAM";
+
+// An example is at most 63 columns wide without the name, so that a terminal of 80 does not break it.
 const EXAMPLES: &str = "\
 Examples, one after another:
   printf 'gauge 7 was replaced at noon' >note
-  poilures write --map --out heap.image note
-  poilures read heap.image 0 00:16:00:00:00:00:1C:00
-  poilures explain 1 5120 4096
+  PROGRAM write --map --out heap.image note
+  PROGRAM read heap.image 0 00:16:00:00:00:00:1C:00
+  PROGRAM explain 1 5120 4096
+
+Of an HDF5 file, after the command that makes one in the help of read:
+  PROGRAM read --hex gauges.h5 606 00:16:00:00:00:00:38:00
 
 Numbers are decimal, 5,120 or 5120, or hexadecimal, 0x1400.
 Exit status: 0 all well; 1 refused, or not as it should be; 2 wrong use, or a file
@@ -29,18 +37,29 @@ and compared. A file has at most 65,514 bytes (at offset size 8).
 Every ID is planned anew from all sizes so far, so that twice as many files take four
 times as long: 100,000 take some 20 seconds.
 
-IMAGE appears whole or not at all: it is written under another name in the same folder
-(.poilures-*, to be deleted where the computer stopped or the program was killed in
-between), then renamed. An image holds the heap alone: it is no HDF5 file, and HDF5's
+IMAGE appears whole or not at all: it has no name, or where the file system has no such
+files another one (.poilures-*, to be deleted where the computer stopped or the program
+was killed in between), until all of it is on the disk. Objects of more than 256 MB are
+joined in a file without a name in the same folder, so that the disk has to have room
+for them and for IMAGE. An image holds the heap alone: it is no HDF5 file, and HDF5's
 tools do not open it.
+
+INDEX appears in the same way, after IMAGE. It has a line of JSON for each object, with
+its id, its length and the name of its file; of a name that is no UTF-8 it has the bytes
+as name_hex, too. read --ids-from takes it.
 
 Examples, one after another:
   printf 'gauge 7 was replaced at noon' >note
-  poilures write note
-  poilures write --out one.image note
-  poilures write --json note
-  printf 'note\\0' | poilures write --quiet --files0-from -
-  date | poilures write -";
+  PROGRAM write note
+  PROGRAM write --out one.image --index one.index note
+  PROGRAM write --json note
+  printf 'note\\0' | PROGRAM write --quiet --files0-from -
+  date | PROGRAM write -";
+
+const EXPLAIN_MORE: &str = "\
+Examples:
+  PROGRAM explain 1 5120 4096
+  PROGRAM explain 7";
 
 const READ_MORE: &str = "\
 The blocks of the heap are not checked: a damaged block gives its damaged bytes.
@@ -53,13 +72,36 @@ bytes look like one, --base 0 says so. The file is not changed.
 All objects are found before the first is printed. A file that is written appears whole
 or not at all; of a folder's files those stay that were written before one failed.
 
+A list of IDs has one a line, as write --quiet prints them, or a line of JSON that has
+an id, as write --index keeps it. There an empty object that no block holds is empty,
+where its ID alone is refused by 1. --json has of each object its id, type and length; of
+a managed one its heap_offset and its position in the file (null of such an empty one),
+of a tiny one its position_in_id.
+
 Examples, one after another:
   printf 'gauge 7 was replaced at noon' >note
-  poilures write --out gauges.image note
-  poilures read gauges.image 0 00:16:00:00:00:00:1C:00
-  poilures read --hex gauges.image 0 '00 16 00 00 00 00 07 00'
-  poilures read --out gauge gauges.image 0 00:16:00:00:00:00:07:00
-  poilures read --out-dir parts gauges.image 0 0016000000000700 0016000000001c00";
+  PROGRAM write --out gauges.image --index gauges.index note
+  PROGRAM read gauges.image 0 00:16:00:00:00:00:1C:00
+  PROGRAM read --hex gauges.image 0 '00 16 00 00 00 00 07 00'
+  PROGRAM read --out gauge gauges.image 0 00:16:00:00:00:00:07:00
+  PROGRAM read --out-dir parts gauges.image 0 0016000000000700
+  PROGRAM read --json --ids-from gauges.index gauges.image 0
+
+Of an HDF5 file comes HDF5's message, as it lies in the heap. That of an attribute has
+9 bytes first (its version, its flags, the sizes of the next three, its character set),
+then its name with a zero byte, its type (8 bytes of a text), its space (4 bytes of one
+value), and only then the value: 28 bytes before a note below. Of a value of variable
+length, as h5py writes a str, it has no byte, but the place where the file has it.
+
+h5debug tells the address of the heap, and the IDs in the leaves of its index. It prints
+the ID of a link as it is, and that of an attribute backwards, byte by byte: where it
+says {0038000000001600, ..}, the ID is 00:16:00:00:00:00:38:00.
+
+With such a file, which h5py makes:
+  python3 -c \"import h5py, numpy; f = h5py.File(
+    'gauges.h5', 'w', libver='latest'); [f.attrs.create(f'note {i}',
+    numpy.bytes_(f'gauge {i} was replaced at noon')) for i in range(9)]\"
+  PROGRAM read --hex gauges.h5 606 00:16:00:00:00:00:38:00";
 
 /// A proved fractal heap: files as objects of an HDF5 heap, and objects by their IDs.
 #[derive(Parser)]
@@ -94,7 +136,10 @@ pub struct Write {
     /// Put the file image with header and heap into IMAGE; - is standard output.
     #[arg(short, long, value_name = "IMAGE")]
     pub out: Option<PathBuf>,
-    /// Replace IMAGE where it is there already.
+    /// Keep a line of JSON for each object in INDEX: its ID, its length, its file's name.
+    #[arg(long, value_name = "INDEX", requires = "out")]
+    pub index: Option<PathBuf>,
+    /// Replace IMAGE and INDEX where they are there already.
     #[arg(long, requires = "out")]
     pub force: bool,
     /// Draw the heap: its rows, slots and blocks.
@@ -134,8 +179,11 @@ pub struct Read {
     #[arg(value_parser = number)]
     pub place: u64,
     /// Hexadecimal digits in one word, with colons between the bytes or without.
-    #[arg(value_name = "ID", required = true)]
+    #[arg(value_name = "ID", required_unless_present = "ids_from")]
     pub ids: Vec<HeapId>,
+    /// Take the IDs from FILE, one a line; - is standard input.
+    #[arg(long, value_name = "FILE", conflicts_with = "ids")]
+    pub ids_from: Option<OsString>,
     /// PLACE is an HDF5 address, as HDF5's tools print it, counted from the base.
     #[arg(long)]
     pub address: bool,
@@ -148,6 +196,9 @@ pub struct Read {
     /// Print a dump.
     #[arg(long)]
     pub hex: bool,
+    /// Print a line of JSON for each object, what it is and where, in place of its bytes.
+    #[arg(long, conflicts_with = "hex")]
+    pub json: bool,
     /// Put the bytes of all objects into FILE; - is standard output.
     #[arg(short, long, value_name = "FILE")]
     pub out: Option<PathBuf>,
@@ -157,7 +208,7 @@ pub struct Read {
     /// Replace files that are there already.
     #[arg(long, requires = "kept")]
     pub force: bool,
-    /// Say nothing on standard error but why something fails.
+    /// Say nothing on standard error but why something fails, and what is wrong with the file.
     #[arg(short, long)]
     pub quiet: bool,
     /// Bytes of an address, 2, 4 or 8 [default: the superblock's, else 8].
@@ -170,17 +221,42 @@ pub struct Read {
 
 /// Says in words what a refusal by this number with its two values means.
 #[derive(Args)]
-#[command(after_help = "Example:\n  poilures explain 1 5120 4096")]
+#[command(after_help = EXPLAIN_MORE)]
 pub struct Explain {
     /// The refusal's number, which a C function returns.
     #[arg(value_parser = number)]
     pub number: u64,
-    /// The first of its two values, which the slot has.
-    #[arg(value_parser = number, default_value = "0")]
-    pub first: u64,
+    /// The first of its two values, which the slot has; without it only the cause is told.
+    #[arg(value_parser = number)]
+    pub first: Option<u64>,
     /// The second.
     #[arg(value_parser = number, default_value = "0")]
     pub second: u64,
+}
+
+impl Arguments {
+    /// What the words say. The help's examples name the program as the first word calls it, so that they can be pasted.
+    pub fn of(words: impl IntoIterator<Item = OsString>) -> Result<Self, clap::Error> {
+        let words: Vec<OsString> = words.into_iter().collect();
+        let program = quoting::program(words.first().map(OsString::as_os_str));
+        let mut command = named(Arguments::command(), &program).bin_name(program);
+        let mut matches = command.try_get_matches_from_mut(words)?;
+        let arguments = Arguments::from_arg_matches_mut(&mut matches);
+        arguments.map_err(|error| error.format(&mut command))
+    }
+}
+
+/// The command and all below it, with the program's name in their help.
+fn named(mut command: Command, program: &str) -> Command {
+    let help = command.get_after_help().map(|help| help.to_string());
+    if let Some(help) = help {
+        command = command.after_help(help.replace(PROGRAM, program));
+    }
+    let below = command.get_subcommands().map(|c| c.get_name().to_owned());
+    for name in below.collect::<Vec<_>>() {
+        command = command.mut_subcommand(name, |below| named(below, program));
+    }
+    command
 }
 
 /// A decimal number, commas only between groups of three digits; or 0x..
@@ -214,10 +290,9 @@ fn size(word: &str) -> Result<u8, String> {
 #[cfg(test)]
 mod tests {
     use super::*;
-    use clap::CommandFactory;
 
     fn parsed(words: &[&str]) -> Result<Arguments, clap::Error> {
-        Arguments::try_parse_from(["poilures"].iter().chain(words))
+        Arguments::of(["poilures"].iter().chain(words).map(OsString::from))
     }
 
     #[test]
@@ -282,12 +357,40 @@ mod tests {
         assert!(parsed(&["write", "--force"]).is_err());
         assert!(parsed(&["write", "--map", "--json"]).is_err());
         assert!(parsed(&["write", "--files0-from", "x", "y"]).is_err());
+        assert!(parsed(&["write", "--index", "x"]).is_err());
+        assert!(parsed(&["write", "--index", "x", "--out", "y"]).is_ok());
         assert!(parsed(&["read", "f", "0"]).is_err());
+        assert!(parsed(&["read", "f", "0", "--ids-from", "x"]).is_ok());
+        assert!(parsed(&["read", "f", "0", "00", "--ids-from", "x"]).is_err());
+        assert!(parsed(&["read", "f", "0", "00", "--json", "--hex"]).is_err());
         assert!(parsed(&["read", "f", "0", "00", "-o", "x", "--out-dir", "y"]).is_err());
         assert!(parsed(&["read", "f", "0", "00", "--force"]).is_err());
         assert!(parsed(&["read", "f", "0", "00", "--force", "-o", "x"]).is_ok());
         assert!(parsed(&["read", "f", "0", "00", "--force", "--out-dir", "x"]).is_ok());
         assert!(parsed(&[]).is_err());
+    }
+
+    #[test]
+    fn examples_name_the_program_as_it_is_called() {
+        for (program, due) in [
+            ("./poilures", "\n  ./poilures read"),
+            ("a b", "\n  'a b' read"),
+        ] {
+            let words = [program, "read", "--help"].map(OsString::from);
+            let help = Arguments::of(words).err().unwrap().to_string();
+            assert!(help.contains(due) && !help.contains(PROGRAM), "{help}");
+        }
+    }
+
+    #[test]
+    fn no_example_is_wide() {
+        let helps = [EXAMPLES, WRITE_MORE, READ_MORE, EXPLAIN_MORE];
+        let lines = || helps.iter().flat_map(|help| help.lines());
+        for line in lines().filter(|line| line.starts_with("  ")) {
+            let columns = line.chars().count();
+            let most = if line.contains(PROGRAM) { 63 + 7 } else { 80 };
+            assert!(columns <= most, "{columns}: {line}");
+        }
     }
 
     #[test]
@@ -311,7 +414,7 @@ mod tests {
         let words = words.into_iter().chain([out, file]);
         let Ok(Arguments {
             subcommand: Subcommands::Write(write),
-        }) = Arguments::try_parse_from(words)
+        }) = Arguments::of(words)
         else {
             panic!("not taken");
         };

@@ -10,6 +10,8 @@ pub enum Failure {
     Use(String),
     /// Refused, or not as it should be: 1.
     Not(String),
+    /// As `Use`, where standard error is a file that is not to be changed.
+    Mute(String),
     /// Nobody takes what we print, as when it is piped to `head`: 1, and nothing is said.
     Closed,
 }
@@ -35,7 +37,7 @@ impl Failure {
 
     pub fn exit_status(&self) -> u8 {
         match self {
-            Failure::Use(_) => 2,
+            Failure::Use(_) | Failure::Mute(_) => 2,
             Failure::Not(_) | Failure::Closed => 1,
         }
     }
@@ -45,18 +47,4 @@ impl From<Refusal> for Failure {
     fn from(refusal: Refusal) -> Self {
         Failure::Not(refusal.to_string())
     }
-}
-
-/// Memory for so many bytes, or why there is none.
-pub fn room(size: u64) -> Result<Vec<u8>, Failure> {
-    let mut bytes = Vec::new();
-    match usize::try_from(size).map(|size| bytes.try_reserve_exact(size)) {
-        Ok(Ok(())) => Ok(bytes),
-        _ => Err(no_room(size)),
-    }
-}
-
-pub fn no_room(size: u64) -> Failure {
-    let size = fractal_heap::count(size, "byte");
-    Failure::Use(format!("there is no memory for {size}"))
 }

@@ -1,4 +1,5 @@
-//! Heap IDs as one word, to print and to take back.
+//! Heap IDs as one word, to print and to take back; lists of them.
+use serde_json::Value;
 use std::fmt;
 use std::str::FromStr;
 
@@ -13,6 +14,11 @@ impl HeapId {
 
     pub fn bytes(&self) -> &[u8] {
         &self.0
+    }
+
+    /// Its bytes in the other order.
+    pub fn reversed(&self) -> Self {
+        HeapId(self.0.iter().rev().copied().collect())
     }
 
     /// Its digits alone, which any file system takes for a name.
@@ -57,6 +63,29 @@ impl FromStr for HeapId {
     }
 }
 
+/// The IDs in a list: one a line, as a word or as the `id` of a line of JSON. Empty lines are passed over.
+pub fn listed(list: &[u8]) -> Result<Vec<HeapId>, String> {
+    let mut ids = Vec::new();
+    for (i, line) in list.split(|&byte| byte == b'\n').enumerate() {
+        match line.trim_ascii() {
+            b"" => {}
+            line => ids.push(in_line(line).map_err(|why| format!("line {}: {why}", i + 1))?),
+        }
+    }
+    Ok(ids)
+}
+
+fn in_line(line: &[u8]) -> Result<HeapId, String> {
+    if !line.starts_with(b"{") {
+        let word = std::str::from_utf8(line).map_err(|_| "it is no text")?;
+        return word.parse();
+    }
+    let value: Result<Value, _> = serde_json::from_slice(line);
+    let value = value.map_err(|why| format!("it is no JSON from column {} on", why.column()))?;
+    let id = value.get("id").and_then(Value::as_str);
+    id.ok_or("no id with an ID's digits is in it")?.parse()
+}
+
 #[cfg(test)]
 mod tests {
     use super::*;
@@ -83,5 +112,32 @@ mod tests {
         ] {
             assert!(word.parse::<HeapId>().is_err(), "{word:?}");
         }
+    }
+
+    #[test]
+    fn a_list_has_words_or_lines_of_json() {
+        let list = b"00:16\n\n 0020\r\n{\"name\":\"a\\nb\",\"id\":\"00:30\"}\n{\"id\": \"0040\"}";
+        let due = [[0, 0x16], [0, 0x20], [0, 0x30], [0, 0x40]];
+        assert_eq!(listed(list), Ok(due.map(|id| HeapId::new(&id)).to_vec()));
+        assert_eq!(listed(b""), Ok(vec![]));
+        assert_eq!(listed(b"\n"), Ok(vec![]));
+    }
+
+    #[test]
+    fn a_list_says_which_line_is_wrong() {
+        for line in [
+            "x",
+            "00:1",
+            "\u{e9}",
+            "{",
+            "{}",
+            r#"{"id":7}"#,
+            r#"{"id":"x"}"#,
+        ] {
+            let list = format!("00:16\n\n{line}\n00:20\n");
+            let why = listed(list.as_bytes()).unwrap_err();
+            assert!(why.starts_with("line 3: "), "{why}");
+        }
+        assert_eq!(listed(b"\xff"), Err("line 1: it is no text".into()));
     }
 }

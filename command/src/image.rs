@@ -1,11 +1,17 @@
 //! A file image: a heap's header and its region, each at its place, and nothing around them.
-use crate::failure::{Failure, no_room};
+use crate::failure::Failure;
 use crate::library::Totals;
+use crate::memory::no_room;
 use fractal_heap::{Heap, checksum, grouped};
 use memmap2::{Mmap, MmapMut};
 use std::fs::File;
 use std::io;
+use std::ops::Range;
+use std::os::fd::AsRawFd;
 use std::os::unix::fs::FileExt;
+
+/// What begins a heap's header.
+pub const SIGNATURE: &[u8] = b"FRHP";
 
 /// The fixed geometry.
 pub const STARTING: u64 = 1024;
@@ -70,7 +76,8 @@ impl Fields {
 pub fn header(place: &Place, totals: &Totals, objects: u64) -> Result<Vec<u8>, Failure> {
     let (w, l) = (place.offset_size, place.length_size);
     let undefined = u64::MAX;
-    let mut fields = Fields(b"FRHP\0".to_vec());
+    let mut fields = Fields(SIGNATURE.to_vec());
+    fields.fill(1, 0); // version
     fields.fill(2, 8); // an ID's length
     fields.fill(2, 0); // no filters
     fields.fill(1, 2); // flags: direct blocks have checksums
@@ -98,55 +105,112 @@ pub fn header(place: &Place, totals: &Totals, objects: u64) -> Result<Vec<u8>, F
     Ok(fields.0)
 }
 
-/// Header and region of a written heap, and the size of the image that holds them.
-pub struct Image {
-    header: (u64, Vec<u8>),
-    region: (u64, Vec<u8>),
-    size: u64,
+/// Where header and region of a written heap lie in an image, and how large that is.
+pub struct Layout {
+    header: Range<u64>,
+    region: Range<u64>,
+    pub size: u64,
 }
 
-impl Image {
-    pub fn new(place: &Place, header: Vec<u8>, region: Vec<u8>) -> Result<Self, Failure> {
-        let size = size(place, region.len() as u64)?;
+impl Layout {
+    pub fn new(place: &Place, region_size: u64) -> Result<Self, Failure> {
+        let size = size(place, region_size)?;
         if i64::try_from(size).is_err() {
             let size = grouped(size);
             return Err(Failure::Use(format!(
                 "an image of {size} bytes is larger than a file can be"
             )));
         }
-        Ok(Image {
-            header: (place.header_at, header),
-            region: (place.region_at, region),
+        let header = header_size(place.offset_size, place.length_size);
+        Ok(Layout {
+            header: place.header_at..place.header_at + header,
+            region: place.region_at..place.region_at + region_size,
             size,
         })
     }
 
-    fn parts(&self) -> [(u64, &[u8]); 2] {
-        [&self.header, &self.region].map(|(at, bytes)| (*at, &bytes[..]))
-    }
-
-    /// The whole image in memory, of which only what is written takes room.
-    pub fn in_memory(&self) -> Result<Mmap, Failure> {
-        let no_room = |_: io::Error| no_room(self.size);
-        let mut map = MmapMut::map_anon(self.size as usize).map_err(no_room)?;
-        for (at, bytes) in self.parts() {
-            map[at as usize..][..bytes.len()].copy_from_slice(bytes);
+    /// An image in memory, of which only what is written takes room.
+    pub fn in_memory(&self) -> Result<Image, Failure> {
+        match MmapMut::map_anon(self.size as usize) {
+            Ok(map) => Ok(self.image(map)),
+            Err(_) => Err(no_room(self.size)),
         }
-        map.make_read_only().map_err(no_room)
     }
 
-    /// Into a file, which takes no room on the disk where nothing is written.
-    pub fn put(&self, file: &File) -> io::Result<()> {
+    /// An image in a new file, which takes no room on the disk where nothing is written. The rest of the room is taken
+    /// now: a disk that is full could say so by a signal alone when the bytes are put.
+    pub fn in_file(&self, file: &File) -> io::Result<Image> {
         file.set_len(self.size)?;
-        for (at, bytes) in self.parts() {
-            file.write_all_at(bytes, at)?;
+        for part in [&self.header, &self.region] {
+            take_room(file, part)?;
         }
-        Ok(())
+        // SAFETY: the file is new, nobody else writes into it, and what its disk does is met by the signal's handler.
+        match unsafe { MmapMut::map_mut(file) } {
+            Ok(map) => Ok(self.image(map)),
+            Err(error) if maps_no_writing(&error) => Ok(Image {
+                file: Some(file.try_clone()?),
+                ..self.image(MmapMut::map_anon(self.size as usize)?)
+            }),
+            Err(error) => Err(error),
+        }
+    }
+
+    fn image(&self, map: MmapMut) -> Image {
+        let part = |part: &Range<u64>| part.start as usize..part.end as usize;
+        Image {
+            file: None,
+            map,
+            header: part(&self.header),
+            region: part(&self.region),
+        }
+    }
+}
+
+/// How a file system refuses to map a file for writing, as some that are shared over a network do.
+fn maps_no_writing(error: &io::Error) -> bool {
+    matches!(error.raw_os_error(), Some(libc::ENODEV | libc::EINVAL))
+}
+
+/// Has the disk keep room for this part of a file.
+fn take_room(file: &File, part: &Range<u64>) -> io::Result<()> {
+    let (start, length) = (part.start as i64, (part.end - part.start) as i64);
+    // SAFETY: the call is about an open file, and no memory.
+    match unsafe { libc::posix_fallocate64(file.as_raw_fd(), start, length) } {
+        // Where a disk cannot promise it, the signal's handler has the word.
+        0 | libc::EOPNOTSUPP => Ok(()),
+        error => Err(io::Error::from_raw_os_error(error)),
+    }
+}
+
+/// An image that is being written: zeros but for its header and its region.
+pub struct Image {
+    /// Where it is to be put, unless it is mapped from there.
+    file: Option<File>,
+    map: MmapMut,
+    header: Range<usize>,
+    region: Range<usize>,
+}
+
+impl Image {
+    /// The place of the region.
+    pub fn region(&mut self) -> &mut [u8] {
+        &mut self.map[self.region.clone()]
+    }
+
+    /// The image with its header, whole.
+    pub fn finish(mut self, header: &[u8]) -> io::Result<Mmap> {
+        self.map[self.header.clone()].copy_from_slice(header);
+        if let Some(file) = &self.file {
+            for part in [&self.header, &self.region] {
+                file.write_all_at(&self.map[part.clone()], part.start as u64)?;
+            }
+        }
+        self.map.make_read_only()
     }
 }
 
 /// The size of the image; header and region must not overlap.
-pub fn size(place: &Place, region_size: u64) -> Result<u64, Failure> {
+fn size(place: &Place, region_size: u64) -> Result<u64, Failure> {
     let header = header_size(place.offset_size, place.length_size);
     let ends = [
         place.header_at.saturating_add(header),
@@ -161,5 +225,12 @@ pub fn size(place: &Place, region_size: u64) -> Result<u64, Failure> {
             grouped(ends[1])
         )));
     }
-    Ok(ends[0].max(ends[1]))
+    let size = ends[0].max(ends[1]);
+    if i64::try_from(size).is_err() {
+        let size = grouped(size);
+        return Err(Failure::Use(format!(
+            "an image of {size} bytes is larger than a file can be"
+        )));
+    }
+    Ok(size)
 }

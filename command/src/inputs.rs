@@ -1,20 +1,27 @@
 //! Files in, with a plain sentence where one cannot be read.
 use crate::failure::Failure;
 use crate::image::LARGEST_DIRECT;
+use crate::joined::Joined;
+use crate::memory;
 use crate::quoting::shown;
-use crate::signals::{self, CUT};
+use crate::signals;
+use crate::streams;
 use memmap2::Mmap;
-use std::ffi::{OsStr, OsString};
+use std::ffi::OsStr;
 use std::fmt::Display;
 use std::fs::{self, File, FileType, Metadata};
 use std::io::{self, Read, Seek};
 use std::ops::Deref;
 use std::os::fd::AsFd;
-use std::os::unix::ffi::OsStringExt;
+use std::os::unix::ffi::OsStrExt;
 use std::os::unix::fs::{FileTypeExt, MetadataExt};
 
 /// No more is taken from a pipe.
 const LARGEST_PIPE: u64 = 1 << 30;
+/// Bytes that are read at once from it.
+const STRIDE: usize = 1 << 16;
+/// Why the bytes of a mapped file cannot be had.
+const CUT: &str = "it was cut short while it was read, or its disk failed";
 
 /// Which file it is, whatever its name.
 pub type Identity = (u64, u64);
@@ -45,10 +52,11 @@ struct Open {
 }
 
 /// Opens a file or a pipe; `-` is standard input, which may also be a terminal. A device is not even opened: some do
-/// something then.
+/// something then. What is written to as well is refused.
 fn open(name: &OsStr) -> Result<Open, Failure> {
     let unread = |error: io::Error| Failure::file(name, "read", error);
     let file = if is_standard(name) {
+        streams::check_input().map_err(unread)?;
         File::from(io::stdin().as_fd().try_clone_to_owned().map_err(unread)?)
     } else {
         let kind = fs::metadata(name).map_err(unread)?.file_type();
@@ -58,16 +66,22 @@ fn open(name: &OsStr) -> Result<Open, Failure> {
         File::open(name).map_err(unread)?
     };
     let known = file.metadata().map_err(unread)?;
+    streams::refuse_input(identity(&known))?;
     Ok(Open { file, known })
 }
 
 /// Which file a name stands for, if there is one.
 pub fn identity_of(name: &OsStr) -> Option<Identity> {
     let known = match is_standard(name) {
-        true => open(name).ok()?.known,
-        false => fs::metadata(name).ok()?,
+        true => File::from(io::stdin().as_fd().try_clone_to_owned().ok()?).metadata(),
+        false => fs::metadata(name),
     };
-    Some(identity(&known))
+    Some(identity(&known.ok()?))
+}
+
+/// Refuses inputs that are written to as well, before a byte is written; no file is opened for that.
+pub fn refuse_written<'n>(mut names: impl Iterator<Item = &'n OsStr>) -> Result<(), Failure> {
+    names.try_for_each(|name| identity_of(name).map_or(Ok(()), streams::refuse_input))
 }
 
 /// A file that was taken in: which, and how large it is.
@@ -76,15 +90,20 @@ pub struct Taken {
     pub size: u64,
 }
 
-/// Appends a file to the objects. Of a file that is too large for an object only the size is of use, so no more of it
-/// is read than shows that.
-pub fn take_in(name: &OsStr, objects: &mut Vec<u8>) -> Result<Taken, Failure> {
+/// Room for what `take_in` reads of a file, so that reading asks for no more.
+pub fn room_for_one() -> Result<Vec<u8>, Failure> {
+    memory::list(2 * LARGEST_DIRECT as usize)
+}
+
+/// Reads a file as an object. Of a file that is too large for an object only the size is of use, so no more of it is
+/// read than shows that.
+pub fn take_in(name: &OsStr, object: &mut Vec<u8>) -> Result<Taken, Failure> {
     let Open { file, known } = open(name)?;
-    let before = objects.len();
-    let read = file.take(LARGEST_DIRECT + 1).read_to_end(objects);
+    object.clear();
+    let read = file.take(LARGEST_DIRECT + 1).read_to_end(object);
     let mut size = read.map_err(|error| Failure::file(name, "read", error))? as u64;
     if size > LARGEST_DIRECT {
-        objects.truncate(before);
+        object.clear();
         size = size.max(known.len());
     }
     Ok(Taken {
@@ -94,39 +113,55 @@ pub fn take_in(name: &OsStr, objects: &mut Vec<u8>) -> Result<Taken, Failure> {
 }
 
 /// What comes from a pipe, or from a file that is not taken from its start.
-fn read_on(name: &OsStr, file: File) -> Result<Vec<u8>, Failure> {
+fn read_on(name: &OsStr, mut file: File) -> Result<Bytes, Failure> {
     let unread = |why: &dyn Display| Failure::file(name, "read", why);
     let known = file.metadata().map_err(|error| unread(&error))?;
     if let Some(kind) = other_kind(known.file_type()) {
         return Err(unread(&kind));
     }
-    let mut bytes = Vec::new();
-    let read = file.take(LARGEST_PIPE + 1).read_to_end(&mut bytes);
-    match read.map_err(|error| unread(&error))? as u64 {
-        0..=LARGEST_PIPE => Ok(bytes),
-        _ => Err(unread(
-            &"more than 1 GiB comes from it, and it is no whole file",
-        )),
+    let mut joined = Joined::in_memory();
+    let mut part = memory::list(STRIDE)?;
+    part.resize(STRIDE, 0);
+    loop {
+        match file.read(&mut part) {
+            Ok(0) => return joined.finish(),
+            Ok(length) => joined.add(&part[..length])?,
+            Err(error) if error.kind() == io::ErrorKind::Interrupted => {}
+            Err(error) => return Err(unread(&error)),
+        }
+        if joined.size() > LARGEST_PIPE {
+            let why = "more than 1 GiB comes from it, and it is no whole file";
+            return Err(unread(&why));
+        }
     }
 }
 
+/// A list of names, as it was read.
+pub fn list(name: &OsStr) -> Result<Bytes, Failure> {
+    read_on(name, open(name)?.file)
+}
+
 /// The names in a list, each ended by a zero byte.
-pub fn names(list: &OsStr) -> Result<Vec<OsString>, Failure> {
-    let bytes = read_on(list, open(list)?.file)?;
+pub fn names<'l>(list: &OsStr, bytes: &'l [u8]) -> Result<Vec<&'l OsStr>, Failure> {
     if bytes.is_empty() {
         return Ok(Vec::new());
     }
-    let bytes = bytes.strip_suffix(b"\0").unwrap_or(&bytes);
-    let names = bytes.split(|&byte| byte == 0).enumerate();
-    let name = |(i, name): (usize, &[u8])| match name {
-        b"" => Err(format!("name {} in {} is empty", i + 1, shown(list))),
-        b"-" if is_standard(list) => Err("standard input is the list already".into()),
-        name => Ok(OsString::from_vec(name.to_vec())),
-    };
-    names
-        .map(name)
-        .collect::<Result<_, _>>()
-        .map_err(Failure::Use)
+    let bytes = bytes.strip_suffix(b"\0").unwrap_or(bytes);
+    let each = || bytes.split(|&byte| byte == 0);
+    let mut names = memory::list(each().count())?;
+    for (i, name) in each().enumerate() {
+        match name {
+            b"" => {
+                let list = shown(list);
+                return Err(Failure::Use(format!("name {} in {list} is empty", i + 1)));
+            }
+            b"-" if is_standard(list) => {
+                return Err(Failure::Use("standard input is the list already".into()));
+            }
+            name => names.push(OsStr::from_bytes(name)),
+        }
+    }
+    Ok(names)
 }
 
 /// Bytes that are looked at: of a file that is mapped, of memory, of a pipe.
@@ -162,12 +197,12 @@ impl Bytes {
 }
 
 /// A mapped file. Nothing of it is read before it is looked at.
-pub fn map(file: File, name: &str) -> io::Result<Bytes> {
+fn map(file: File, name: &OsStr) -> io::Result<Bytes> {
     // A mapping has at least one byte.
     if file.metadata()?.len() == 0 {
         return Ok(Bytes::Read(Vec::new()));
     }
-    signals::set_mapped(name);
+    signals::set_mapped(&Failure::file(name, "read", CUT));
     // SAFETY: this takes for granted that nobody writes into the file while it is read, as the proofs of the library
     // do. A file that is cut is met by the signal's handler and by check_whole.
     let map = unsafe { Mmap::map(&file) }?;
@@ -179,8 +214,8 @@ pub fn whole(name: &OsStr) -> Result<Bytes, Failure> {
     let Open { mut file, known } = open(name)?;
     let from_start = file.stream_position().is_ok_and(|at| at == 0);
     match known.is_file() && from_start {
-        true => map(file, &shown(name)).map_err(|error| Failure::file(name, "read", error)),
-        false => read_on(name, file).map(Bytes::Read),
+        true => map(file, name).map_err(|error| Failure::file(name, "read", error)),
+        false => read_on(name, file),
     }
 }
 
@@ -189,18 +224,21 @@ mod tests {
     use super::*;
     use std::io::Write;
 
-    fn listed(bytes: &[u8]) -> Result<Vec<OsString>, Failure> {
-        let mut list = tempfile::NamedTempFile::new().unwrap();
-        list.write_all(bytes).unwrap();
-        names(list.path().as_os_str())
+    fn listed(bytes: &[u8]) -> Result<Vec<&OsStr>, Failure> {
+        names(OsStr::new("a list"), bytes)
+    }
+
+    #[test]
+    fn a_list_is_read_whole() {
+        let mut file = tempfile::NamedTempFile::new().unwrap();
+        let due = b"name\0".repeat(STRIDE);
+        file.write_all(&due).unwrap();
+        assert_eq!(&*list(file.path().as_os_str()).unwrap(), due);
     }
 
     #[test]
     fn names_end_with_a_zero_byte() {
-        let due = [
-            OsString::from("a b"),
-            OsString::from_vec(b"\n\xff".to_vec()),
-        ];
+        let due = [OsStr::new("a b"), OsStr::from_bytes(b"\n\xff")];
         assert_eq!(listed(b"a b\0\n\xff\0").unwrap(), due);
         assert_eq!(
             listed(b"a b\0\n\xff").unwrap(),

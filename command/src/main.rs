@@ -5,32 +5,40 @@ mod check;
 mod failure;
 mod id;
 mod image;
+mod index;
 mod inputs;
+mod joined;
 mod library;
 mod map;
+mod memory;
+mod message;
 mod output;
 mod progress;
 mod quoting;
 mod read;
 mod signals;
+mod streams;
 mod table;
 mod talk;
 mod write;
 
 use arguments::{Arguments, Explain, Subcommands};
+use clap::CommandFactory;
 use clap::error::ErrorKind;
-use clap::{CommandFactory, Parser};
 use clap_complete::Shell;
 use failure::Failure;
 use fractal_heap::Refusal;
+use std::ffi::{OsStr, OsString};
 use std::io::{self, Write};
+use std::os::unix::ffi::OsStrExt;
 use std::process::ExitCode;
 use talk::tell;
 
 /// Text on standard output.
 fn print(text: &[u8]) -> Result<(), Failure> {
     let mut out = io::stdout().lock();
-    let printed = out.write_all(text).and_then(|()| out.flush());
+    let printed = streams::check_output().and_then(|()| out.write_all(text));
+    let printed = printed.and_then(|()| out.flush());
     printed.map_err(|error| Failure::printing(&error))
 }
 
@@ -42,8 +50,14 @@ fn explain(arguments: &Explain) -> Result<(), Failure> {
             "refusals have the numbers {first} to {last}"
         )));
     };
-    let refusal = Refusal::new(number, arguments.first, arguments.second);
-    print(format!("{refusal}\n").as_bytes())
+    let words = match (arguments.first, Refusal::cause(number)) {
+        (None, Some(cause)) => format!("refused by {number}: {cause}\n"),
+        (first, _) => {
+            let refusal = Refusal::new(number, first.unwrap_or(0), arguments.second);
+            format!("{refusal}\n")
+        }
+    };
+    print(words.as_bytes())
 }
 
 fn completions(shell: Shell) -> Result<(), Failure> {
@@ -64,15 +78,24 @@ fn not_parsed(error: &clap::Error) -> Result<(), Failure> {
         }
         _ => text.strip_prefix("error: ").unwrap_or(&text).into(),
     };
-    Err(Failure::Use(words.trim_end().into()))
+    let words = words.trim_end().into();
+    // Which words are inputs is not known, so standard error is none of them.
+    let is_error = |word: OsString| {
+        let value = word.as_bytes().split(|&byte| byte == b'=').nth(1);
+        streams::is_error(&word) || value.is_some_and(|v| streams::is_error(OsStr::from_bytes(v)))
+    };
+    match std::env::args_os().skip(1).any(is_error) {
+        true => Err(Failure::Mute(words)),
+        false => Err(Failure::Use(words)),
+    }
 }
 
 fn run() -> Result<(), Failure> {
-    let arguments = match Arguments::try_parse() {
+    signals::install();
+    let arguments = match Arguments::of(std::env::args_os()) {
         Ok(arguments) => arguments,
         Err(error) => return not_parsed(&error),
     };
-    signals::install();
     match &arguments.subcommand {
         Subcommands::Write(arguments) => write::write(arguments),
         Subcommands::Read(arguments) => read::read(arguments),
@@ -87,6 +110,7 @@ fn main() -> ExitCode {
     };
     match &failure {
         Failure::Use(words) | Failure::Not(words) => tell(&format!("poilures: {words}")),
+        Failure::Mute(words) => streams::tell_terminal(&format!("poilures: {words}")),
         Failure::Closed => {}
     }
     ExitCode::from(failure.exit_status())

@@ -2,22 +2,31 @@
 use crate::failure::Failure;
 use crate::inputs::{Identity, identity, other_kind};
 use crate::signals;
-use std::fs::{self, File, Metadata, Permissions};
+use std::ffi::CString;
+use std::fs::{self, File, Metadata, OpenOptions, Permissions};
 use std::io;
-use std::os::fd::AsFd;
+use std::os::fd::AsRawFd;
 use std::os::unix::ffi::OsStrExt;
-use std::os::unix::fs::{FileTypeExt, PermissionsExt};
+use std::os::unix::fs::{FileTypeExt, MetadataExt, OpenOptionsExt, PermissionsExt, fchown};
 use std::path::{Path, PathBuf};
+use std::process;
 use tempfile::{NamedTempFile, PersistError};
 
 /// The names of unfinished files begin so.
 const PREFIX: &str = ".poilures-";
 
-/// A file that is being written under another name in the same folder.
+/// A file that is not yet what it is to become.
 pub struct Output {
     name: PathBuf,
     force: bool,
-    file: NamedTempFile,
+    file: Unfinished,
+}
+
+enum Unfinished {
+    /// In the same folder, without a name: whatever ends the program, nothing is left.
+    Unnamed(File),
+    /// Under another name in the same folder.
+    Named(NamedTempFile),
 }
 
 fn unwritten(name: &Path, error: impl std::fmt::Display) -> Failure {
@@ -25,7 +34,7 @@ fn unwritten(name: &Path, error: impl std::fmt::Display) -> Failure {
 }
 
 /// The folder of a file.
-fn folder(name: &Path) -> &Path {
+pub fn folder(name: &Path) -> &Path {
     match name.parent() {
         Some(folder) if folder != Path::new("") => folder,
         _ => Path::new("."),
@@ -100,12 +109,10 @@ impl Output {
     ) -> Result<Self, Failure> {
         let name = name.to_path_buf();
         may_go(&name, force, is_input)?;
-        let file = signals::uninterrupted(|| {
-            let mut builder = tempfile::Builder::new();
-            let file = builder.prefix(PREFIX).tempfile_in(folder(&name));
-            signals::set_unfinished(file.as_ref().ok().map(NamedTempFile::path));
-            file
-        });
+        let file = match unnamed(folder(&name)) {
+            Ok(file) => Ok(Unfinished::Unnamed(file)),
+            Err(_) => named(folder(&name)).map(Unfinished::Named),
+        };
         match file {
             Ok(file) => Ok(Output { name, force, file }),
             Err(error) => Err(unwritten(&name, plain(error))),
@@ -113,7 +120,15 @@ impl Output {
     }
 
     pub fn file(&self) -> &File {
-        self.file.as_file()
+        match &self.file {
+            Unfinished::Unnamed(file) => file,
+            Unfinished::Named(file) => file.as_file(),
+        }
+    }
+
+    /// The folder that it will be in.
+    pub fn folder(&self) -> &Path {
+        folder(&self.name)
     }
 
     /// Says why writing failed.
@@ -121,28 +136,131 @@ impl Output {
         unwritten(&self.name, error)
     }
 
-    /// Gives the file its name, when all of it is on the disk.
+    /// Gives the file its name, when all of it is on the disk, and has the name there, too.
     pub fn finish(self, is_input: impl Fn(Identity) -> bool) -> Result<(), Failure> {
-        let Output { name, force, file } = self;
-        let unwritten = |error| unwritten(&name, error);
-        may_go(&name, force, is_input).or_else(|failure| match force {
+        let folder = self.folder().to_path_buf();
+        self.give_name(is_input)?;
+        sync_folder(&folder);
+        Ok(())
+    }
+
+    /// Gives the file its name, when all of it is on the disk. The name is there when its folder is synced.
+    pub fn give_name(self, is_input: impl Fn(Identity) -> bool) -> Result<(), Failure> {
+        let name = &self.name;
+        let unwritten = |error| unwritten(name, error);
+        may_go(name, self.force, is_input).or_else(|failure| match self.force {
             true => Err(failure),
             false => Ok(()), // what appeared meanwhile is met below
         })?;
-        let mode = match standing(&name)? {
-            Some(old) if old.is_file() => old.permissions().mode() & 0o7777,
-            _ => new_mode(),
-        };
-        let permissions = Permissions::from_mode(mode);
-        file.as_file()
-            .set_permissions(permissions)
-            .map_err(unwritten)?;
-        file.as_file().sync_all().map_err(unwritten)?;
-        persist(file, &name, force)?;
+        let file = self.file();
+        match standing(name)? {
+            Some(old) if old.is_file() => take_over(file, &old),
+            _ => file.set_permissions(Permissions::from_mode(new_mode())),
+        }
+        .map_err(unwritten)?;
+        file.sync_all().map_err(unwritten)?;
+        match self.file {
+            Unfinished::Unnamed(file) => {
+                give_name(&file, name, self.force).map_err(|error| taken(name, error))?
+            }
+            Unfinished::Named(file) => persist(file, name, self.force)?,
+        }
         signals::set_unfinished(None);
-        // The name is on the disk when its folder is; a folder that cannot be synced does not undo the file.
-        let _ = File::open(folder(&name)).and_then(|folder| folder.sync_all());
         Ok(())
+    }
+}
+
+/// Has the names in a folder on the disk; a folder that cannot be synced does not undo the files.
+pub fn sync_folder(folder: &Path) {
+    let _ = File::open(folder).and_then(|folder| folder.sync_all());
+}
+
+/// What a file that is replaced has of owner, group and rights goes to the new one, but for what makes a program run as
+/// its owner. Only root gives files away; where the group is another one, it may do what it might and all may.
+fn take_over(file: &File, old: &Metadata) -> io::Result<()> {
+    let own = file.metadata()?;
+    let mut mode = old.permissions().mode() & 0o777;
+    if own.uid() != old.uid() {
+        let _ = fchown(file, Some(old.uid()), None);
+    }
+    if own.gid() != old.gid() && fchown(file, None, Some(old.gid())).is_err() {
+        mode &= 0o707 | (mode & 0o007) << 3;
+    }
+    file.set_permissions(Permissions::from_mode(mode))
+}
+
+/// Where the system shows an open file.
+fn shown_at(file: &File) -> PathBuf {
+    format!("/proc/self/fd/{}", file.as_raw_fd()).into()
+}
+
+/// A file without a name, which can be given one. Not all file systems have such files, and the name needs /proc.
+fn unnamed(folder: &Path) -> io::Result<File> {
+    let mut options = OpenOptions::new();
+    options.read(true).write(true).mode(0o600);
+    let file = options.custom_flags(libc::O_TMPFILE).open(folder)?;
+    fs::read_link(shown_at(&file)).map(|_| file)
+}
+
+/// A file by another name, which signals take away.
+fn named(folder: &Path) -> io::Result<NamedTempFile> {
+    signals::uninterrupted(|| {
+        let mut builder = tempfile::Builder::new();
+        let file = builder.prefix(PREFIX).tempfile_in(folder);
+        signals::set_unfinished(file.as_ref().ok().map(NamedTempFile::path));
+        file
+    })
+}
+
+/// Gives a file without a name this one. It takes the place of another file only where `force` says so, and then under
+/// a third name, for a moment in which no signal comes.
+fn give_name(file: &File, name: &Path, force: bool) -> io::Result<()> {
+    match link(file, name) {
+        Err(error) if force && error.kind() == io::ErrorKind::AlreadyExists => {}
+        linked => return linked,
+    }
+    signals::uninterrupted(|| {
+        let beside = link_beside(file, folder(name))?;
+        fs::rename(&beside, name).inspect_err(|_| {
+            let _ = fs::remove_file(&beside);
+        })
+    })
+}
+
+/// Links a file that has no name to one that no other file has.
+fn link(file: &File, name: &Path) -> io::Result<()> {
+    let [from, to] = [&shown_at(file), name].map(|path| CString::new(path.as_os_str().as_bytes()));
+    let (from, to, here) = (from?, to?, libc::AT_FDCWD);
+    // SAFETY: both are C strings, which outlive the call.
+    let failed = unsafe {
+        let follow = libc::AT_SYMLINK_FOLLOW;
+        libc::linkat(here, from.as_ptr(), here, to.as_ptr(), follow)
+    };
+    match failed {
+        0 => Ok(()),
+        _ => Err(io::Error::last_os_error()),
+    }
+}
+
+/// Links it to a name that none has in the folder.
+fn link_beside(file: &File, folder: &Path) -> io::Result<PathBuf> {
+    let mut number = 0;
+    loop {
+        let beside = folder.join(format!("{PREFIX}{}-{number}", process::id()));
+        match link(file, &beside) {
+            Err(error) if error.kind() == io::ErrorKind::AlreadyExists => number += 1,
+            linked => return linked.map(|()| beside),
+        }
+    }
+}
+
+/// Says why a file did not get its name.
+fn taken(name: &Path, error: io::Error) -> Failure {
+    match error.kind() {
+        io::ErrorKind::AlreadyExists => {
+            unwritten(name, "a file of that name appeared meanwhile, and was left")
+        }
+        _ => unwritten(name, error),
     }
 }
 
@@ -154,15 +272,12 @@ fn persist(file: NamedTempFile, name: &Path, force: bool) -> Result<(), Failure>
     };
     match persisted {
         Ok(_) => Ok(()),
-        Err(PersistError { error, .. }) if error.kind() == io::ErrorKind::AlreadyExists => Err(
-            unwritten(name, "a file of that name appeared meanwhile, and was left"),
-        ),
         Err(PersistError { error, .. }) if !force && has_no_links(&error) => {
             let words =
                 format!("{error}; this file system may have no hard links: --force does without");
             Err(unwritten(name, words))
         }
-        Err(PersistError { error, .. }) => Err(unwritten(name, error)),
+        Err(PersistError { error, .. }) => Err(taken(name, error)),
     }
 }
 
@@ -187,18 +302,6 @@ pub fn make_folder(name: &Path) -> Result<(), Failure> {
     }
 }
 
-/// Standard output where it is a file that is read as well.
-pub fn refuse_input_as_standard(is_input: impl Fn(Identity) -> bool) -> Result<(), Failure> {
-    let file = io::stdout().as_fd().try_clone_to_owned().map(File::from);
-    let known = file.and_then(|file| file.metadata());
-    match known {
-        Ok(known) if known.is_file() && is_input(identity(&known)) => Err(Failure::Use(
-            "standard output is a file that is read as well".into(),
-        )),
-        _ => Ok(()),
-    }
-}
-
 #[cfg(test)]
 mod tests {
     use super::*;
@@ -211,6 +314,22 @@ mod tests {
         output.finish(|_| false)
     }
 
+    /// A file that is begun with another name and without one, where the system has such files.
+    fn begun(name: &Path, force: bool) -> Vec<Output> {
+        let begin = |file| Output {
+            name: name.into(),
+            force,
+            file,
+        };
+        let named = Unfinished::Named(named(folder(name)).unwrap());
+        let unnamed = unnamed(folder(name)).map(Unfinished::Unnamed);
+        [Some(named), unnamed.ok()]
+            .into_iter()
+            .flatten()
+            .map(begin)
+            .collect()
+    }
+
     #[test]
     fn a_file_is_replaced_with_force_alone() {
         let folder = tempfile::tempdir().unwrap();
@@ -218,8 +337,12 @@ mod tests {
         write(&name, false, b"old").unwrap();
         assert!(write(&name, false, b"new").is_err());
         assert_eq!(fs::read(&name).unwrap(), b"old");
-        write(&name, true, b"new").unwrap();
-        assert_eq!(fs::read(&name).unwrap(), b"new");
+        for (turn, output) in begun(&name, true).into_iter().enumerate() {
+            let new = format!("new {turn}");
+            output.file().write_all(new.as_bytes()).unwrap();
+            output.finish(|_| false).unwrap();
+            assert_eq!(fs::read(&name).unwrap(), new.as_bytes());
+        }
         let left = fs::read_dir(folder.path()).unwrap().count();
         assert_eq!(left, 1, "nothing else is left in the folder");
     }
@@ -228,10 +351,35 @@ mod tests {
     fn what_appears_meanwhile_is_left() {
         let folder = tempfile::tempdir().unwrap();
         let name = folder.path().join("image");
-        let output = Output::begin(&name, false, |_| false).unwrap();
+        let begun = begun(&name, false);
         fs::write(&name, b"another's").unwrap();
-        assert!(output.finish(|_| false).is_err());
-        assert_eq!(fs::read(&name).unwrap(), b"another's");
+        for output in begun {
+            assert!(output.finish(|_| false).is_err());
+            assert_eq!(fs::read(&name).unwrap(), b"another's");
+        }
+        let left = fs::read_dir(folder.path()).unwrap().count();
+        assert_eq!(left, 1, "nothing else is left in the folder");
+    }
+
+    #[test]
+    fn a_name_that_is_taken_is_not_used() {
+        let folder = tempfile::tempdir().unwrap();
+        let Ok(file) = unnamed(folder.path()) else {
+            return;
+        };
+        let first = link_beside(&file, folder.path()).unwrap();
+        assert_ne!(link_beside(&file, folder.path()).unwrap(), first);
+    }
+
+    #[test]
+    fn no_bit_that_makes_a_program_run_as_its_owner_is_kept() {
+        let folder = tempfile::tempdir().unwrap();
+        let name = folder.path().join("image");
+        fs::write(&name, b"old").unwrap();
+        fs::set_permissions(&name, Permissions::from_mode(0o6754)).unwrap();
+        write(&name, true, b"new").unwrap();
+        let mode = fs::metadata(&name).unwrap().permissions().mode();
+        assert_eq!(mode & 0o7777, 0o754);
     }
 
     #[test]

@@ -3,6 +3,7 @@
 //! A handler may come at any moment, so it only loads two pointers and calls what a handler may call: write, unlink,
 //! signal, raise, sigemptyset, sigaddset, pthread_sigmask and _exit. Neither handler returns: nothing goes on whose file
 //! is gone.
+use crate::failure::Failure;
 use libc::{c_char, c_int};
 use std::ffi::CString;
 use std::os::unix::ffi::OsStrExt;
@@ -16,16 +17,28 @@ static UNFINISHED: AtomicPtr<c_char> = AtomicPtr::new(null_mut());
 /// What is said where a mapped file fails.
 static MAPPED: OnceLock<String> = OnceLock::new();
 
-/// The signals that end the program, after what is half written was taken away.
-const ENDING: [c_int; 4] = [libc::SIGINT, libc::SIGTERM, libc::SIGHUP, libc::SIGQUIT];
-/// All that a handler is set for.
-const HANDLED: [c_int; 5] = [
-    libc::SIGINT,
-    libc::SIGTERM,
-    libc::SIGHUP,
-    libc::SIGQUIT,
+/// The signals that do not end a program that leaves them alone, the two that cannot be caught, and the three that this
+/// program takes otherwise: SIGPIPE is ignored by Rust, SIGXFSZ by us, and SIGBUS has a handler of its own.
+const OTHERS: [c_int; 12] = [
+    libc::SIGCHLD,
+    libc::SIGCONT,
+    libc::SIGURG,
+    libc::SIGWINCH,
+    libc::SIGTSTP,
+    libc::SIGTTIN,
+    libc::SIGTTOU,
+    libc::SIGKILL,
+    libc::SIGSTOP,
+    libc::SIGPIPE,
+    libc::SIGXFSZ,
     libc::SIGBUS,
 ];
+
+/// The signals that end the program, after what is half written was taken away: all that end one that leaves them alone,
+/// real-time ones too. The C library keeps two for itself, which it does not give out.
+fn ending() -> impl Iterator<Item = c_int> {
+    (1..=libc::SIGRTMAX()).filter(|signal| !OTHERS.contains(signal))
+}
 
 /// From here on signals are taken as this program wants them.
 pub fn install() {
@@ -34,11 +47,11 @@ pub fn install() {
         // A write past the limit then fails as one on a full disk does, and what was written is taken away.
         libc::signal(libc::SIGXFSZ, libc::SIG_IGN);
         // Ending signals may come in this handler: it may have to wait until its words are taken.
-        handle(libc::SIGBUS, mapped_failed, &[]);
-        for signal in ENDING {
+        handle(libc::SIGBUS, mapped_failed, set(&[]));
+        for signal in ending() {
             // Whoever started us may want it ignored.
             if !is_ignored(signal) {
-                handle(signal, ended, &ENDING);
+                handle(signal, ended, all());
             }
         }
     }
@@ -65,16 +78,28 @@ fn set(signals: &[c_int]) -> libc::sigset_t {
     }
 }
 
-/// Sets a handler that stays set. While it runs, its signal and those of `blocked` wait.
+/// The set of all signals. A handler may call it.
+fn all() -> libc::sigset_t {
+    // SAFETY: a set of signals is plain numbers.
+    unsafe {
+        let mut set: libc::sigset_t = std::mem::zeroed();
+        libc::sigfillset(&mut set);
+        set
+    }
+}
+
+/// Sets a handler that stays set. While it runs, its signal and those of `blocked` wait. It runs on the stack that Rust
+/// keeps for handlers, since the program's own may be used up.
 ///
 /// With SA_RESETHAND the system would take it off as it takes the signal, and only then block the signal: the same
 /// signal once more in between ends the program before the handler has begun, and what is half written is left.
-unsafe fn handle(signal: c_int, handler: extern "C" fn(c_int), blocked: &[c_int]) {
-    // SAFETY: all of sigaction is plain numbers, and zeros are no flags.
+unsafe fn handle(signal: c_int, handler: extern "C" fn(c_int), blocked: libc::sigset_t) {
+    // SAFETY: all of sigaction is plain numbers.
     unsafe {
         let mut action: libc::sigaction = std::mem::zeroed();
         action.sa_sigaction = handler as *const () as usize;
-        action.sa_mask = set(blocked);
+        action.sa_flags = libc::SA_ONSTACK;
+        action.sa_mask = blocked;
         libc::sigaction(signal, &action, null_mut());
     }
 }
@@ -82,8 +107,16 @@ unsafe fn handle(signal: c_int, handler: extern "C" fn(c_int), blocked: &[c_int]
 /// The bytes of a mapped file cannot be had: it was cut short meanwhile, or its disk failed. Should the handler itself
 /// meet such bytes, the system ends the program, since the signal is blocked.
 extern "C" fn mapped_failed(_: c_int) {
-    let words = MAPPED.get().map_or("poilures: a bus error\n", |w| w);
-    // SAFETY: the words are not changed once they are set.
+    end(MAPPED
+        .get()
+        .map_or("poilures: a bus error\n", |w| w)
+        .as_bytes())
+}
+
+/// Takes away what is half written, says why, and ends with the status of what cannot be read or written. A handler may
+/// call it.
+pub fn end(words: &[u8]) -> ! {
+    // SAFETY: a handler may call all of these, and the words outlive the call.
     unsafe {
         remove_unfinished();
         libc::write(2, words.as_ptr().cast(), words.len());
@@ -92,8 +125,8 @@ extern "C" fn mapped_failed(_: c_int) {
 }
 
 /// Takes away what is half written, and ends as the signal does. The signal gets its default back only when the file is
-/// gone: from then on it is deadly wherever it comes. All four are blocked here, so of several of them the first that was
-/// taken tells how the program ended.
+/// gone: from then on it is deadly wherever it comes. All are blocked here, so of several of them the first that was taken
+/// tells how the program ended.
 extern "C" fn ended(signal: c_int) {
     // SAFETY: a handler may call all of these, and the set outlives the call.
     unsafe {
@@ -115,13 +148,13 @@ unsafe fn remove_unfinished() {
     }
 }
 
-/// Does something that no signal with a handler comes between; it comes after. No mapped byte may be touched meanwhile: a
-/// mapped file that fails ends the program at once where its signal is blocked.
+/// Does something that no signal comes between; it comes after. No mapped byte may be touched meanwhile: a mapped file
+/// that fails ends the program at once where its signal is blocked.
 pub fn uninterrupted<T>(work: impl FnOnce() -> T) -> T {
     let mut before = set(&[]);
     // SAFETY: both sets outlive the calls.
     unsafe {
-        libc::pthread_sigmask(libc::SIG_BLOCK, &set(&HANDLED), &mut before);
+        libc::pthread_sigmask(libc::SIG_BLOCK, &all(), &mut before);
         let done = work();
         libc::pthread_sigmask(libc::SIG_SETMASK, &before, null_mut());
         done
@@ -138,12 +171,11 @@ pub fn set_unfinished(path: Option<&Path>) {
     }
 }
 
-/// Why the bytes of a mapped file cannot be had.
-pub const CUT: &str = "it was cut short while it was read, or its disk failed";
-
-/// Names the file that is mapped, for the words that are said where it fails.
-pub fn set_mapped(name: &str) {
-    let words = format!("poilures: {name} cannot be read: {CUT}\n");
-    // One file is mapped for reading, and one of our own: the first is named.
-    let _ = MAPPED.set(words);
+/// Says why a mapped file fails, should it fail. The first that is mapped has the word.
+pub fn set_mapped(failure: &Failure) {
+    let words = match failure {
+        Failure::Use(words) | Failure::Not(words) | Failure::Mute(words) => words,
+        Failure::Closed => return,
+    };
+    let _ = MAPPED.set(format!("poilures: {words}\n"));
 }

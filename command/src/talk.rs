@@ -1,5 +1,6 @@
 //! What the program says: lines on standard output, or on standard error where standard output carries bytes.
 use crate::failure::Failure;
+use crate::streams;
 use std::io::{self, IsTerminal, Write};
 
 /// A line on standard error; where nobody takes it, the work goes on.
@@ -18,6 +19,8 @@ pub enum Volume {
 /// The lines of one run. Where they cannot be printed the work goes on, and the failure comes at the end.
 pub struct Talk {
     to: Box<dyn Write>,
+    /// Whether there is anything that takes them.
+    is_open: fn() -> io::Result<()>,
     is_terminal: bool,
     volume: Volume,
     failed: Option<io::Error>,
@@ -29,8 +32,13 @@ impl Talk {
             true => (Box::new(io::stderr()), io::stderr().is_terminal()),
             false => (Box::new(io::stdout()), io::stdout().is_terminal()),
         };
+        let is_open = match on_standard_error {
+            true => streams::check_error,
+            false => streams::check_output,
+        };
         Talk {
             to,
+            is_open,
             is_terminal,
             volume,
             failed: None,
@@ -47,7 +55,8 @@ impl Talk {
     /// A line that was asked for.
     pub fn give(&mut self, line: &str) {
         if self.failed.is_none() {
-            let printed = writeln!(self.to, "{line}").and_then(|()| self.to.flush());
+            let printed = (self.is_open)().and_then(|()| writeln!(self.to, "{line}"));
+            let printed = printed.and_then(|()| self.to.flush());
             self.failed = printed.err();
         }
     }

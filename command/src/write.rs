@@ -1,31 +1,34 @@
 //! `poilures write`: files as objects of a heap, each with its ID as it is given, then read back by it.
 use crate::arguments::Write;
 use crate::check::check;
-use crate::failure::{Failure, room};
-use crate::id::{HeapId, hex};
-use crate::image::{self, Image, Place};
+use crate::failure::Failure;
+use crate::id::HeapId;
+use crate::image::{self, Image, Layout, Place};
 use crate::inputs::{self, Bytes, Identity};
+use crate::joined::{self, Joined};
 use crate::library::{self, Id, Lists, Totals, Writing};
-use crate::output::{self, Output};
+use crate::memory;
+use crate::output::Output;
 use crate::progress::Progress;
-use crate::quoting::{quoted, shown};
+use crate::quoting::{self, shown};
+use crate::signals;
 use crate::table::Fullness;
 use crate::talk::{Talk, Volume, tell};
-use crate::{map, print};
+use crate::{index, map, print};
 use fractal_heap::{Refusal, Superblock, count, grouped};
+use memmap2::Mmap;
 use serde_json::json;
-use std::collections::HashSet;
-use std::ffi::{OsStr, OsString};
-use std::os::unix::ffi::OsStrExt;
+use std::env;
+use std::ffi::OsStr;
+use std::io;
 use std::path::PathBuf;
 
-/// The objects so far, the IDs that they were given, and the files that they came from.
-#[derive(Default)]
+/// The objects, the IDs that they were given, and the files that they came from.
 pub struct Objects {
     pub sizes: Vec<u64>,
-    pub bytes: Vec<u8>,
+    pub bytes: Bytes,
     pub ids: Vec<Id>,
-    files: HashSet<Identity>,
+    pub files: Vec<Identity>,
 }
 
 impl Objects {
@@ -53,38 +56,63 @@ enum Destination {
 
 impl Destination {
     /// Begins the image's file, before anything is taken in; an input is never the output.
-    fn new(arguments: &Write, names: &[OsString]) -> Result<Self, Failure> {
-        let all = names.iter().chain(&arguments.files0_from);
-        let is_input = |file| {
-            all.clone()
-                .any(|name| inputs::identity_of(name) == Some(file))
-        };
+    fn new(arguments: &Write, names: &[&OsStr]) -> Result<Self, Failure> {
         match &arguments.out {
             None => Ok(Destination::Nowhere),
-            Some(out) if inputs::is_standard(out.as_os_str()) => {
-                output::refuse_input_as_standard(is_input)?;
-                Ok(Destination::Standard)
-            }
+            Some(out) if inputs::is_standard(out.as_os_str()) => Ok(Destination::Standard),
             Some(out) => {
+                let list = arguments.files0_from.as_deref();
+                let is_input = |file| {
+                    let mut all = names.iter().copied().chain(list);
+                    all.any(|name| inputs::identity_of(name) == Some(file))
+                };
                 let output = Output::begin(out, arguments.force, is_input)?;
                 Ok(Destination::File(Box::new(output)))
             }
         }
     }
 
-    /// The image in the file, from which it is read back, or in memory.
-    fn lay(&self, image: &Image) -> Result<Bytes, Failure> {
-        let Destination::File(output) = self else {
-            return image.in_memory().map(Bytes::Memory);
+    /// For the objects, which are many only where the image is kept: what is only tried leaves the disks alone.
+    fn joined(&self) -> Joined {
+        match self {
+            Destination::Nowhere => Joined::in_memory(),
+            Destination::Standard => Joined::in_folder(&env::temp_dir()),
+            Destination::File(output) => Joined::in_folder(output.folder()),
+        }
+    }
+
+    /// Why the image cannot be where it is to be.
+    fn failed(&self, error: io::Error) -> Failure {
+        match self {
+            Destination::File(output) => output.failed(error),
+            _ => joined::failed(&env::temp_dir(), error),
+        }
+    }
+
+    /// The image in the file, from which it is read back, or where there is none in memory. One that is only handed on
+    /// is in a file without a name where it is large.
+    fn image(&self, layout: &Layout) -> Result<Image, Failure> {
+        match self {
+            Destination::Nowhere => return layout.in_memory(),
+            Destination::Standard if layout.size <= joined::MOST_IN_MEMORY => {
+                return layout.in_memory();
+            }
+            _ => {}
+        }
+        let failed = |error| self.failed(error);
+        signals::set_mapped(&failed(io::Error::other(DISK_FAILED)));
+        let image = match self {
+            Destination::File(output) => layout.in_file(output.file()),
+            _ => joined::unnamed(&env::temp_dir()).and_then(|file| layout.in_file(&file)),
         };
-        let put = image.put(output.file());
-        let file = put.and_then(|()| output.file().try_clone());
-        let mapped = file.and_then(|file| inputs::map(file, "the image"));
-        mapped.map_err(|error| output.failed(error))
+        image.map_err(failed)
     }
 }
 
-/// The heap's place; whether the library takes the two sizes is asked with a header of no heap.
+/// Why the bytes of a mapped file of our own cannot be put or had.
+const DISK_FAILED: &str = "its disk is full, or failed";
+
+/// The heap's place; whether it and the two sizes will do is asked with the empty heap, than which none is smaller.
 fn place(arguments: &Write) -> Result<Place, Failure> {
     let (offset_size, length_size) = (arguments.offset_size, arguments.length_size);
     let header_at = arguments.header_at;
@@ -98,15 +126,28 @@ fn place(arguments: &Write) -> Result<Place, Failure> {
     let none = library::plan(&[], &mut Lists::default(), offset_size)?;
     let header = image::header(&place, &none, 0)?;
     library::parse_header(&place.heap(&header, 0))?;
-    image::size(&place, none.region_size)?;
+    let writing = Writing {
+        sizes: &[],
+        objects: &[],
+        region_at: place.region_at,
+        header_at,
+        offset_size,
+    };
+    let mut region = vec![0; none.region_size as usize];
+    library::serialize(&writing, &mut Lists::default(), &mut region)?;
+    Layout::new(&place, none.region_size)?;
     Ok(place)
 }
 
-/// The names of the files; standard input can be read once.
-fn names(arguments: &Write) -> Result<Vec<OsString>, Failure> {
-    let names = match &arguments.files0_from {
-        Some(list) => inputs::names(list)?,
-        None => arguments.files.clone(),
+/// The names of the files, of which a list was read; standard input can be read once.
+fn names<'n>(arguments: &'n Write, list: Option<&'n Bytes>) -> Result<Vec<&'n OsStr>, Failure> {
+    let names = match (&arguments.files0_from, list) {
+        (Some(name), Some(list)) => inputs::names(name, list)?,
+        _ => {
+            let mut names = memory::list(arguments.files.len())?;
+            names.extend(arguments.files.iter().map(|name| name.as_os_str()));
+            names
+        }
     };
     match names
         .iter()
@@ -118,6 +159,14 @@ fn names(arguments: &Write) -> Result<Vec<OsString>, Failure> {
             "standard input, -, can be one object only".into(),
         )),
     }
+}
+
+/// Lists that take the plan of so many objects without asking for more memory.
+fn lists(objects: usize) -> Result<Lists, Failure> {
+    Ok(Lists {
+        offsets: memory::list(objects)?,
+        blocks: memory::list(objects.max(1))?,
+    })
 }
 
 /// A file that planning refuses: which, and how large an object can be.
@@ -163,18 +212,14 @@ impl Line<'_> {
         }
     }
 
-    /// A name that is no text goes as hexadecimal beside a lossy one.
     fn json(&self) -> String {
         let mut line = json!({
             "object": self.object,
             "size": self.size,
             "offset": self.offset,
             "id": self.id.to_string(),
-            "file": self.name.to_string_lossy(),
         });
-        if self.name.to_str().is_none() {
-            line["file_hex"] = hex(self.name.as_bytes(), "").into();
-        }
+        index::put_name(&mut line, "file", self.name);
         line.to_string()
     }
 }
@@ -182,24 +227,28 @@ impl Line<'_> {
 /// Takes the files in, one by one. The sizes so far are planned each time: as front parts are planned alike, the
 /// ID that an object gets here is its ID for good. Where nothing is kept, the work ends when nobody hears the IDs.
 fn take_in(
-    names: &[OsString],
+    names: &[&OsStr],
     w: u8,
     lines: Lines,
-    kept: bool,
+    destination: &Destination,
     talk: &mut Talk,
 ) -> Result<Objects, Failure> {
-    let (mut objects, mut lists) = (Objects::default(), Lists::default());
-    let mut progress = Progress::unless(talk.is_seen(), "taking in the files", names.len() as u64);
+    let number = names.len();
+    let (mut sizes, mut ids) = (memory::list(number)?, memory::list(number)?);
+    let (mut files, mut lists) = (memory::list(number)?, lists(number)?);
+    let (mut joined, mut object) = (destination.joined(), inputs::room_for_one()?);
+    let mut progress = Progress::unless(talk.is_seen(), "taking in the files", number as u64);
     if !names.is_empty() {
         talk.say(" object     size     heap offset  ID                       file");
     }
     for (i, name) in names.iter().enumerate() {
-        let taken = inputs::take_in(name, &mut objects.bytes)?;
-        objects.files.insert(taken.identity);
-        objects.sizes.push(taken.size);
-        library::plan(&objects.sizes, &mut lists, w).map_err(|r| not_taken(&r, name, w))?;
+        let taken = inputs::take_in(name, &mut object)?;
+        joined.add(&object)?;
+        files.push(taken.identity);
+        sizes.push(taken.size);
+        library::plan(&sizes, &mut lists, w).map_err(|r| not_taken(&r, name, w))?;
         let id = library::managed_id(lists.offsets[i], taken.size)?;
-        objects.ids.push(id);
+        ids.push(id);
         let line = Line {
             object: i as u64,
             size: taken.size,
@@ -208,12 +257,17 @@ fn take_in(
             name,
         };
         talk.give(&line.text(lines));
-        if !kept {
+        if matches!(destination, Destination::Nowhere) {
             talk.heard()?;
         }
         progress.step();
     }
-    Ok(objects)
+    Ok(Objects {
+        sizes,
+        bytes: joined.finish()?,
+        ids,
+        files,
+    })
 }
 
 /// A heap that is written: its plan, and where it is.
@@ -223,10 +277,18 @@ pub struct Written {
     pub place: Place,
 }
 
-/// Plans the whole list, and writes region and header.
-fn written(objects: &Objects, place: Place) -> Result<(Written, Image), Failure> {
+/// Plans the whole list, and writes region and header where the image is to lie.
+fn written(
+    objects: &Objects,
+    place: Place,
+    destination: &Destination,
+) -> Result<(Written, Mmap), Failure> {
     let w = place.offset_size;
-    let planned = library::plan(&objects.sizes, &mut Lists::default(), w)?;
+    let mut lists = lists(objects.sizes.len())?;
+    let totals = library::plan(&objects.sizes, &mut lists, w)?;
+    let header = image::header(&place, &totals, objects.number())?;
+    let layout = Layout::new(&place, totals.region_size)?;
+    let mut image = destination.image(&layout)?;
     let writing = Writing {
         sizes: &objects.sizes,
         objects: &objects.bytes,
@@ -234,17 +296,16 @@ fn written(objects: &Objects, place: Place) -> Result<(Written, Image), Failure>
         header_at: place.header_at,
         offset_size: w,
     };
-    let mut region = room(planned.region_size)?;
-    region.resize(planned.region_size as usize, 0);
-    let mut lists = Lists::default();
-    let totals = library::serialize(&writing, &mut lists, &mut region)?;
-    if totals != planned {
+    // The plan that is checked is the one that was written.
+    lists.offsets.clear();
+    lists.blocks.clear();
+    if library::serialize(&writing, &mut lists, image.region())? != totals {
         return Err(Failure::Not(
             "writing and planning have different totals".into(),
         ));
     }
-    let header = image::header(&place, &totals, objects.number())?;
-    let image = Image::new(&place, header, region)?;
+    let image = image.finish(&header);
+    let image = image.map_err(|error| destination.failed(error))?;
     let heap = Written {
         lists,
         totals,
@@ -301,21 +362,24 @@ fn print_map(heap: &Written, objects: &Objects, ascii: bool, talk: &mut Talk) {
 /// would, everything that a superblock says is given.
 fn hint(out: &OsStr, image: &[u8], place: &Place, id: &Id) -> String {
     let program = std::env::args_os().next().unwrap_or("poilures".into());
-    let mut line = format!("{} read", quoted(program));
+    let mut options = String::from(" read");
     let seems_hdf5 = Superblock::find(image).is_some();
     if seems_hdf5 {
-        line += " --base 0";
+        options += " --base 0";
     }
     for (option, size) in [
         ("--offset-size", place.offset_size),
         ("--length-size", place.length_size),
     ] {
         if size != 8 || seems_hdf5 {
-            line += &format!(" {option} {size}");
+            options += &format!(" {option} {size}");
         }
     }
-    let (file, at, id) = (quoted(out), place.header_at, HeapId::new(id));
-    format!("{line} {file} {at} {id}")
+    let (at, id) = (place.header_at, HeapId::new(id));
+    let behind = format!(" {at} {id}");
+    let (program, file) = (quoting::word(program), quoting::word(out));
+    let parts = [&program, options.as_bytes(), b" ", &file, behind.as_bytes()];
+    quoting::line(&parts.concat())
 }
 
 /// Keeps the image, and says where it is and how an object is read from it.
@@ -353,26 +417,34 @@ fn keep(
 }
 
 pub fn write(arguments: &Write) -> Result<(), Failure> {
+    let files = arguments.files.iter().chain(&arguments.files0_from);
+    inputs::refuse_written(files.map(|name| name.as_os_str()))?;
     let place = place(arguments)?;
-    let names = names(arguments)?;
+    let list = arguments.files0_from.as_deref();
+    let list = list.map(inputs::list).transpose()?;
+    let names = names(arguments, list.as_ref())?;
+    inputs::refuse_written(names.iter().copied())?;
+    index::may_go(arguments, &names)?;
     let destination = Destination::new(arguments, &names)?;
-    let kept = !matches!(destination, Destination::Nowhere);
     let (lines, volume) = match arguments {
         Write { json: true, .. } => (Lines::Json, Volume::Results),
         Write { quiet: true, .. } => (Lines::Ids, Volume::Results),
         _ => (Lines::Table, Volume::All),
     };
     let mut talk = Talk::new(matches!(destination, Destination::Standard), volume);
-    let objects = take_in(&names, place.offset_size, lines, kept, &mut talk)?;
-    let (heap, image) = written(&objects, place)?;
+    let objects = take_in(&names, place.offset_size, lines, &destination, &mut talk)?;
+    let (heap, image) = written(&objects, place, &destination)?;
     print_totals(&heap, &objects, &mut talk);
     if arguments.map {
         print_map(&heap, &objects, arguments.ascii, &mut talk);
     }
     talk.say("");
-    let bytes = destination.lay(&image)?;
-    check(&bytes, &heap, &objects, &mut talk)?;
-    keep(destination, arguments, &bytes, &place, &objects, &mut talk)?;
+    check(&image, &heap, &objects, &mut talk)?;
+    let kept = !matches!(destination, Destination::Nowhere);
+    keep(destination, arguments, &image, &place, &objects, &mut talk)?;
+    index::keep(arguments, &names, &objects).inspect_err(|_| {
+        tell("the image is whole, but its index was not kept");
+    })?;
     talk.heard().inspect_err(|_| {
         if kept {
             tell("the image is whole, but standard output did not take all that was to be printed");

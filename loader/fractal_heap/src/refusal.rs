@@ -210,6 +210,35 @@ impl Refusal {
         }
     }
 
+    /// What a number means whatever its values are; None where this version has no words for it.
+    ///
+    /// ```
+    /// assert_eq!(fractal_heap::Refusal::cause(7), Some("the header's checksum differs"));
+    /// ```
+    pub fn cause(number: u32) -> Option<&'static str> {
+        Some(match number {
+            1 => "the bytes end too early, or the heap has nothing at the ID's place",
+            2 => "the offset size is not 2, 4 or 8",
+            3 => "the length size is not 2, 4 or 8",
+            4 => "no signature: FRHP has to begin the heap's header, FHIB an indirect block",
+            5 => "the header's version is not 0",
+            6 => "the ID is not a managed object's",
+            7 => "the header's checksum differs",
+            8 => "the heap is filtered, and objects of a filtered heap are not read",
+            9 => "a block's address plus a distance is past 2^64 - 1",
+            10 => "the depth is used up, and still no object",
+            11 => "an object has more bytes than a managed object can have",
+            12 => "the heap space ends at an object: no slot is left that holds it",
+            13 => "a list, region or slice is too short",
+            14 => "the objects' sizes add up to another number of bytes than were given",
+            15 => {
+                "the header's address is too large for the offset size, or the region ends past its largest"
+            }
+            16 => "no ID holds the offset and the length: they must be below 2^40 and below 2^16",
+            _ => return None,
+        })
+    }
+
     /// What the cause means, in words.
     fn words(&self) -> String {
         let (first, second) = self.values();
@@ -328,6 +357,18 @@ mod tests {
                 (number, (first, second))
             );
             assert!(!matches!(refusal, Refusal::Other { .. }), "{number}");
+        }
+    }
+
+    #[test]
+    fn every_number_has_a_cause() {
+        for number in 0..=Refusal::NUMBERS.end() + 1 {
+            let cause = Refusal::cause(number);
+            assert_eq!(cause.is_some(), Refusal::NUMBERS.contains(&number));
+        }
+        for (number, first, second) in [(4, 0, 0), (8, 0, 0)] {
+            let words = Refusal::new(number, first, second).words();
+            assert_eq!(Refusal::cause(number), Some(&words[..]), "it has no values");
         }
     }
 
