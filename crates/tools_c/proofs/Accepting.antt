@@ -1,12 +1,11 @@
 -- The number 0 is that of no refusal.
-use Rattle.std.proofs.Common.{◌≡◌, ℕ, List, Result, Ok, Err, length}
-use Rattle.std.specs.Prelude.{IfOk, nat_lt, Bool, true, false, if◌then◌else◌}
+use Rattle.std.proofs.Common.{◌≡◌, Result, Ok, Err}
+use Rattle.std.specs.Prelude.{IfOk}
 use Rattle.refusals.specs.Refusals.{refusal}
 use Rattle.refusals.specs.declared.FormatError.{FormatError}
 use Rattle.refusals.specs.declared.FormatError.TheVariants.{UnexpectedEof, InvalidOffsetSize, InvalidLengthSize, InvalidFractalHeapSignature, InvalidFractalHeapVersion, InvalidHeapIdType, ChecksumMismatch, UnsupportedFilteredHeapObject, OffsetOverflow, DepthExceeded, ObjectTooLarge, HeapSpaceExhausted, SliceTooShort, ObjectBytesMismatch, HeaderAddressTooLarge, RegionAddressTooLarge, HeapIdTooLarge}
 use Rattle.plan.specs.declared.ManagedPlan.{ManagedPlan}
 use Rattle.plan.specs.Answer.{planned_number}
-use Rattle.plan.specs.Report.{plan_number}
 
 none : (e : FormatError) → (refusal e).number ≡ 0 → ⊥
 none (UnexpectedEof expected available) h = cc
@@ -28,11 +27,7 @@ none (RegionAddressTooLarge address size) h = cc
 none (HeapIdTooLarge offset size) h = cc
 
 -- what holds of an accepted plan, where the number is 0
-pub accepted : (totals : List ℕ) (r : Result ManagedPlan FormatError) (P : ManagedPlan → Type 0) (Q : Type 0) → plan_number totals r ≡ 0
+pub accepted : (r : Result ManagedPlan FormatError) (P : ManagedPlan → Type 0) (Q : Type 0) → planned_number r ≡ 0
     → IfOk r P → ((p : ManagedPlan) → P p → Q) → Q
-accepted totals r P Q e h use-it = by r (nat_lt (length totals) 8) e h
-  where
-    by : (r : Result ManagedPlan FormatError) (short : Bool) → (if short then 13 else planned_number r) ≡ 0 → IfOk r P → Q
-    by r true e h = absurd (let d : 13 ≡ 0 = e in cc)
-    by (Ok p) false e h = use-it p h
-    by (Err f) false e h = absurd (none f e)
+accepted (Ok p) P Q e h use-it = use-it p h
+accepted (Err f) P Q e h use-it = absurd (none f e)
