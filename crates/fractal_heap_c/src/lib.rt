@@ -4,7 +4,7 @@
 //! and answering, so what is handed back for a short slot is 13 whatever the file is.
 #![tactic(auto)]
 
-ghost use Rattle.std.specs.Prelude.{◌≡◌, ◌≤◌, ℕ, length, Ok};
+ghost use Rattle.std.specs.Prelude.{◌≡◌, ◌≤◌, ℕ, length, Ok, ◌+◌, IfOk};
 ghost use Rattle.checksum.specs.Lookup3.{hashlittle};
 ghost use Rattle.fields.specs.Slot.{slot_number, slot_bytes};
 ghost use Rattle.refusals.specs.Refusals.{report_of};
@@ -54,7 +54,8 @@ fn read(
     length_size: u8,
     id: &[u8],
 ) -> Result<Place, FormatError>
-    ensures { result ≡ object_by file.now at offset_size length_size id.now offset_size }
+    ensures value { result ≡ object_by file.now at offset_size length_size id.now offset_size }
+    ensures in_file { IfOk result (λ place. place.position + place.length ≤ length file.now) }
 {
     let header = FractalHeapHeader::parse(file, to_usize(at), offset_size, length_size)?;
     header.read_managed_object(file, id, offset_size)
@@ -108,6 +109,8 @@ pub extern "C" fn fractal_heap_read_managed_object(
     ensures slot_after { slot.new ≡ slot_bytes slot.old
         (report_of place_report
         (object_by file.now at offset_size length_size id.now offset_size)) }
+    ensures in_file { IfOk (object_by file.now at offset_size length_size id.now offset_size)
+        (λ place. place.position + place.length ≤ length file.now) }
     ensures kept { (header : FractalHeapHeader)
         → header_at file.now at offset_size length_size ≡ Ok header
         → ForKept header file.now offset_size id.now

@@ -8,7 +8,7 @@ ghost use Rattle.fields.specs.LittleEndian.{put};
 ghost use Rattle.table.specs.Table.{fixed};
 ghost use Rattle.planner.specs.Steps.{plan_offsets, plan_starts};
 ghost use Rattle.region_write.specs.Region.{region as region_of};
-ghost use Rattle.plan.specs.Plans.{PlanKept};
+ghost use Rattle.plan.specs.Plans.{PlanKept, RootFits, Tallied};
 ghost use Rattle.fractal_heap_write.specs.Answer.{serialized_for};
 ghost use Rattle.fractal_heap_write.specs.Serialize.{lent_for};
 
@@ -42,6 +42,8 @@ pub fn serialize(
     ensures blocks_listed { OnOk result (blocks.new
         ≡ put blocks.old 0 (plan_starts fixed site.offset_size sizes.now)) }
     ensures kept { IfOk result (λ plan. PlanKept sizes.now site.offset_size plan) }
+    ensures root { IfOk result (λ plan. RootFits sizes.now site.offset_size plan) }
+    ensures tallied { IfOk result (λ plan. Tallied sizes.now site.offset_size plan) }
     ensures untouched { OnErr result
         ((offsets.new ≡ offsets.old) × (blocks.new ≡ blocks.old) × (region.new ≡ region.old)) }
 {

@@ -1,6 +1,6 @@
 //! The bytes of an object, by the ID that it was given: `fetch` is lent the file, a header and the ID, and never sees
 //! what was written.
-ghost use Rattle.std.specs.Prelude.{◌≡◌, ◌≤◌, ◌++◌, length, take, drop, Ok, OnOk, OnErr};
+ghost use Rattle.std.specs.Prelude.{◌≡◌, ◌+◌, ◌≤◌, ◌++◌, length, take, drop, Ok, IfOk, OnOk, OnErr};
 ghost use Rattle.fields.specs.declared.place.Place.{Place};
 ghost use Rattle.fractal_heap.specs.Read.{managed_at};
 ghost use Rattle.heap_kept.specs.Kept.{ForKept, IsFetched, fetched};
@@ -24,6 +24,8 @@ pub fn fetch(
     ensures kept { ForKept header.now file.now offset_size id.now
         (λ bytes. length bytes ≤ length found.old → IsFetched result found.old found.new bytes) }
 
+    ensures in_file { IfOk (managed_at header.now file.now id.now offset_size)
+        (λ place. place.position + place.length ≤ length file.now) }
     ensures answer { result
         ≡ fetched (managed_at header.now file.now id.now offset_size) (length found.old) }
     ensures copied { (place : Place) → managed_at header.now file.now id.now offset_size ≡ Ok place

@@ -1,7 +1,7 @@
 //! IDs and objects.
 mod id_lists;
 
-ghost use Rattle.std.specs.Prelude.{◌≡◌};
+ghost use Rattle.std.specs.Prelude.{◌≡◌, ◌+◌, ◌≤◌, length, IfOk};
 ghost use Rattle.refusals.specs.Refusals.{report_of};
 ghost use Rattle.fields.specs.Slot.{slot_number, slot_bytes};
 ghost use Rattle.fields.specs.Places.{place_report};
@@ -27,7 +27,8 @@ fn read(
     read_size: u8,
     id: &[u8],
 ) -> Result<Place, FormatError>
-    ensures { result ≡ object_by file.now at offset_size length_size id.now read_size }
+    ensures value { result ≡ object_by file.now at offset_size length_size id.now read_size }
+    ensures in_file { IfOk result (λ place. place.position + place.length ≤ length file.now) }
 {
     let header = FractalHeapHeader::parse(file, to_usize(at), offset_size, length_size)?;
     header.read_managed_object(file, id, read_size)
@@ -50,6 +51,8 @@ pub extern "C" fn tools_read_managed_object(
     ensures slot_after { slot.new ≡ slot_bytes slot.old
         (report_of place_report
         (object_by file.now at offset_size length_size id.now read_size)) }
+    ensures in_file { IfOk (object_by file.now at offset_size length_size id.now read_size)
+        (λ place. place.position + place.length ≤ length file.now) }
 {
     put_answer(
         slot,
@@ -64,6 +67,8 @@ pub extern "C" fn tools_read_tiny_object(heap_id_length: u16, id: &[u8], slot: &
         ≡ slot_number slot.old (report_of place_report (tiny_at heap_id_length id.now)) }
     ensures slot_after { slot.new
         ≡ slot_bytes slot.old (report_of place_report (tiny_at heap_id_length id.now)) }
+    ensures in_id { IfOk (tiny_at heap_id_length id.now)
+        (λ place. place.position + place.length ≤ length id.now) }
 {
     put_answer(slot, read_tiny_object(heap_id_length, id).answer())
 }

@@ -5,7 +5,7 @@ ghost use Rattle.fields.specs.LittleEndian.{put};
 ghost use Rattle.fields.specs.Slot.{slot_number, slot_bytes};
 ghost use Rattle.table.specs.Table.{fixed};
 ghost use Rattle.planner.specs.Steps.{plan_offsets, plan_starts};
-ghost use Rattle.plan.specs.Plans.{PlanKept};
+ghost use Rattle.plan.specs.Plans.{PlanKept, RootFits, Tallied};
 ghost use Rattle.plan.specs.Report.{plan_number, plan_totals};
 ghost use Rattle.region_blocks.specs.Site.{site_of};
 ghost use Rattle.region_write.specs.Region.{region as region_of};
@@ -41,6 +41,10 @@ pub extern "C" fn tools_plan(
         ≡ put blocks.old 0 (plan_starts fixed offset_size sizes.now) }
     ensures kept { result ≡ 0 → IfOk (plan_answer sizes.now offsets.old blocks.old offset_size)
         (λ plan. PlanKept sizes.now offset_size plan) }
+    ensures root { result ≡ 0 → IfOk (plan_answer sizes.now offsets.old blocks.old offset_size)
+        (λ plan. RootFits sizes.now offset_size plan) }
+    ensures tallied { result ≡ 0 → IfOk (plan_answer sizes.now offsets.old blocks.old offset_size)
+        (λ plan. Tallied sizes.now offset_size plan) }
     ensures untouched { 0 < result → (offsets.new ≡ offsets.old) × (blocks.new ≡ blocks.old) }
 {
     if totals.len() < 8 {
@@ -84,6 +88,14 @@ pub extern "C" fn tools_serialize(
         (write_answer sizes.now objects.now offsets.old blocks.old region.old
         (site_of offset_size heap_header_address region_address))
         (λ plan. PlanKept sizes.now offset_size plan) }
+    ensures root { result ≡ 0 → IfOk
+        (write_answer sizes.now objects.now offsets.old blocks.old region.old
+        (site_of offset_size heap_header_address region_address))
+        (λ plan. RootFits sizes.now offset_size plan) }
+    ensures tallied { result ≡ 0 → IfOk
+        (write_answer sizes.now objects.now offsets.old blocks.old region.old
+        (site_of offset_size heap_header_address region_address))
+        (λ plan. Tallied sizes.now offset_size plan) }
     ensures untouched { 0 < result
         → (offsets.new ≡ offsets.old) × (blocks.new ≡ blocks.old) × (region.new ≡ region.old) }
 {

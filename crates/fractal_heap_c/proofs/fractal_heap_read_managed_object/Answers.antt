@@ -10,7 +10,7 @@ use Rattle.fractal_heap_c.proofs.fractal_heap_read_managed_object.Goals as goal
 pub returns-clause-kept : goal.returns-clause-kept
 returns-clause-kept c h g =
     let a = c.args in
-    let said = c.answer.ensures ∙ ap (report_of place_report) c.read.ensures in
+    let said = c.answer.ensures ∙ ap (report_of place_report) c.read.ensures.value in
     names-kept a.slot.now a.file.now a.id.now a.at a.offset_size a.length_size g (omega arith)
     (c.put_answer.ensures.number ∙ ap (slot_number a.slot.now) said)
     (c.put_answer.ensures.slot_after ∙ ap (slot_bytes a.slot.now) said)

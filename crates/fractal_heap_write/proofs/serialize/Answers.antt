@@ -1,7 +1,8 @@
 -- What is left of `serialize`: the plan and its region fit into what is lent, and the bytes behind the region stay.
 use Rattle.std.proofs.Common.{arith, sym}
 use Rattle.std.proofs.Math.Seq.{length-take-le}
-use Rattle.plan.proofs.Kept.{plan-kept}
+use Rattle.plan.proofs.Kept.{plan-kept, root-fits}
+use Rattle.plan.proofs.Tally.{tallied}
 use Rattle.fractal_heap_write.proofs.Serializing.{sizes-small, offsets_fit, blocks_fit, count_fits, space_within}
 use Rattle.fractal_heap_write.proofs.Serializing.{writable, behind-kept}
 use Rattle.fractal_heap_write.proofs.serialize.Goals as goal
@@ -34,3 +35,9 @@ returns-clause-written c = behind-kept c.in_ok-plan.ensures.accepted _ _ _ c.wri
 
 pub returns-clause-kept : goal.returns-clause-kept
 returns-clause-kept c = plan-kept _ _ _ _ _ c.in_ok-plan.ensures.accepted.planned
+
+pub returns-clause-root : goal.returns-clause-root
+returns-clause-root c = root-fits _ _ _ _ _ c.in_ok-plan.ensures.accepted.planned
+
+pub returns-clause-tallied : goal.returns-clause-tallied
+returns-clause-tallied c = tallied _ _ _ _ _ c.in_ok-plan.ensures.accepted.planned
