@@ -1,0 +1,181 @@
+-- An open plan is that of the accepted sizes in one list.
+use Rattle.std.proofs.Common.{◌≡◌, ℕ, ◌+◌, ◌<◌, ◌≤◌, max, true, List, [], ◌∷◌, ◌++◌, length, take, slice_index}
+use Rattle.std.proofs.Common.{Some, None, Ok, Err, Result, refl, sym, ap, ◌∙◌, subst, arith, length-append, append_assoc, append-nil}
+use Rattle.std.proofs.Math.Seq.{take-append-add, get_or-append_seam}
+use Rattle.std.proofs.lemmas.Bool.Decides.{nat_tests}
+use Rattle.std.proofs.lemmas.List.{get_or-take}
+use Rattle.fields.specs.Widths.{legal}
+use Rattle.refusals.specs.declared.FormatError.{FormatError}
+use Rattle.refusals.specs.declared.FormatError.TheVariants.{ObjectTooLarge, HeapSpaceExhausted}
+use Rattle.table.specs.Table.{fixed}
+use Rattle.table.specs.Sizes.{max_managed}
+use Rattle.planner.specs.declared.State.{State}
+use Rattle.planner.specs.Steps.{initial, step_of, run_from, offsets_from, run, plan_offsets}
+use Rattle.plan.specs.declared.ManagedPlan.{ManagedPlan}
+use Rattle.plan.specs.Checks.{sizes_checked, input_checked}
+use Rattle.plan.specs.End.{end_state}
+use Rattle.plan.specs.Answer.{totals, planned_for}
+use Rattle.plan.proofs.Checking.{passed}
+use Rattle.plan.proofs.Answering.{accepted, answers}
+use Rattle.plan.proofs.Tally.{tallied}
+use Rattle.plan.proofs.Front.{front-part}
+use Rattle.open_plan.specs.Open.{IsPlanOf, Extends}
+use Rattle.open_plan.specs.Additions.{addition, accepted_sizes, given_offsets, state_after, AdditionsPlanned}
+use Rattle.open_plan.proofs.OneMore.{passes-snoc, too-large-snoc, run-snoc, run-ends, offsets-snoc}
+
+-- before the first object
+pub of-none : (w : ℕ) → IsPlanOf w (initial fixed w) 0 []
+unfolding run run_from sizes_checked
+of-none w = record { objects_counted = refl; sizes_pass = refl; state_planned = refl }
+
+module _ {w : ℕ} {s : State} {n : ℕ} {xs : List ℕ} (P : IsPlanOf w s n xs) where
+  -- planning the list gives the totals of this state
+  pub planned-totals : legal w ≡ true → (o b : ℕ) → length xs ≤ o → max 1 (length xs) ≤ b
+      → planned_for xs o b w ≡ Ok (totals fixed w (end_state fixed w s))
+  planned-totals l o b lo lb =
+      answers xs o b w (Ok s)
+      (passed xs o b w (record { width = l; offsets = lo; blocks = lb; sizes = P.sizes_pass }))
+      P.state_planned
+
+  module _ {x : ℕ} where
+    -- one object more
+    module _ {s' : State} {o : ℕ} (small : x ≤ max_managed fixed w) (placed : step_of fixed w s x ≡ Some (s', o)) where
+      pub one-more : IsPlanOf w s' (n + 1) (xs ++ (x ∷ []))
+      unfolding run
+      one-more = record {
+        objects_counted = let c = P.objects_counted in omega (arith, length-append xs (x ∷ []));
+        sizes_pass = passes-snoc _ x xs 0 P.sizes_pass small;
+        state_planned = run-snoc fixed w x xs (initial fixed w) s s' 0 o P.state_planned placed;
+      }
+
+      pub offsets-more : plan_offsets fixed w (xs ++ (x ∷ [])) ≡ plan_offsets fixed w xs ++ (o ∷ [])
+      unfolding run plan_offsets
+      offsets-more = offsets-snoc fixed w x xs (initial fixed w) s s' 0 o P.state_planned placed
+
+      -- it has this heap offset in every longer list, too
+      pub stays : (later : List ℕ) (po pb : ℕ) (p : ManagedPlan) → planned_for (xs ++ (x ∷ later)) po pb w ≡ Ok p
+          → slice_index (plan_offsets fixed w (xs ++ (x ∷ later))) (length xs) ≡ o
+      stays later po pb p e =
+          let k = length xs + 1 in
+          let all = xs ++ (x ∷ later) in
+          let legal-width : legal w ≡ true = (accepted all po pb w p e).0.width in
+          let counted : length (plan_offsets fixed w xs) ≡ length xs =
+          (tallied xs (length xs) (max 1 (length xs)) w _
+          (planned-totals legal-width (length xs) (max 1 (length xs)) (omega arith) (omega arith))).offsets in
+          let front : take k all ≡ xs ++ (x ∷ []) = take-append-add xs (x ∷ later) 1 in
+          let many : length (take k all) ≡ k = ap length front ∙ length-append xs (x ∷ []) in
+          let F = front-part all po pb w p e k k k (omega (arith, many)) (omega (arith, many)) in
+          let same : take k (plan_offsets fixed w all) ≡ plan_offsets fixed w xs ++ (o ∷ []) =
+          sym F.same_offsets ∙ ap (λ (l : List ℕ). plan_offsets fixed w l) front ∙ offsets-more in
+          sym (get_or-take k (plan_offsets fixed w all) (length xs) 0 (omega arith))
+          ∙ ap (λ (l : List ℕ). slice_index l (length xs)) same
+          ∙ ap (λ (i : ℕ). slice_index (plan_offsets fixed w xs ++ (o ∷ [])) i) (sym counted)
+          ∙ get_or-append_seam (plan_offsets fixed w xs) o [] 0
+
+      pub extends : Extends w s' (n + 1) xs x o
+      extends = record { is_plan = one-more; offsets_are = offsets-more; offset_stays = stays }
+
+-- what is refused of an object, planning the list with it refuses
+module _ (w : ℕ) (xs : List ℕ) (x po pb : ℕ) (l : legal w ≡ true) (lo : length xs < po) (lb : length xs < pb) where
+  tests : (r : Result (Unit {0}) FormatError) → sizes_checked (max_managed fixed w) 0 (xs ++ (x ∷ [])) ≡ r
+      → input_checked (xs ++ (x ∷ [])) po pb w ≡ r
+  unfolding input_checked
+  tests r e =
+      let n : length (xs ++ (x ∷ [])) ≡ length xs + 1 = length-append xs (x ∷ []) in
+      grind (arith, nat_tests)
+
+  module _ {s : State} {n : ℕ} (P : IsPlanOf w s n xs) where
+    pub too-large : max_managed fixed w < x → planned_for (xs ++ (x ∷ [])) po pb w ≡ Err (ObjectTooLarge n x)
+    unfolding planned_for
+    too-large big =
+        rw (tests (Err (ObjectTooLarge n x))
+        (too-large-snoc (max_managed fixed w) x xs 0 n (let c = P.objects_counted in omega arith) P.sizes_pass big)) refl
+
+    pub no-slot : x ≤ max_managed fixed w → step_of fixed w s x ≡ None
+        → planned_for (xs ++ (x ∷ [])) po pb w ≡ Err (HeapSpaceExhausted n)
+    no-slot small none =
+        answers (xs ++ (x ∷ [])) po pb w (Err n)
+        (tests (Ok tt) (passes-snoc (max_managed fixed w) x xs 0 P.sizes_pass small))
+        (unfold run in run-ends fixed w x xs (initial fixed w) s 0 n (let c = P.objects_counted in omega arith)
+        P.state_planned none)
+
+-- ---- additions one after another
+
+module _ (w : ℕ) (s : State) (n x : ℕ) where
+  module _ (s' : State) (o : ℕ) (q : addition w s n x ≡ Ok (s', o)) where
+    -- what is accepted was small enough, and placed
+    small-placed : (x ≤ max_managed fixed w) × (step_of fixed w s x ≡ Some (s', o))
+    small-placed = (grind (arith, nat_tests), grind (arith, nat_tests))
+
+    module _ (asked : List ℕ) where
+      sizes-more : accepted_sizes w s n (x ∷ asked) ≡ x ∷ accepted_sizes w s' (n + 1) asked
+      unfolding accepted_sizes
+      sizes-more = rw (q, accepted_sizes) refl
+
+      given-more : given_offsets w s n (x ∷ asked) ≡ o ∷ given_offsets w s' (n + 1) asked
+      unfolding given_offsets
+      given-more = rw (q, given_offsets) refl
+
+      state-more : state_after w s n (x ∷ asked) ≡ state_after w s' (n + 1) asked
+      unfolding state_after
+      state-more = rw (q, state_after) refl
+
+  module _ (e : FormatError) (q : addition w s n x ≡ Err e) (asked : List ℕ) where
+    sizes-same : accepted_sizes w s n (x ∷ asked) ≡ accepted_sizes w s n asked
+    unfolding accepted_sizes
+    sizes-same = rw (q, accepted_sizes) refl
+
+    given-same : given_offsets w s n (x ∷ asked) ≡ given_offsets w s n asked
+    unfolding given_offsets
+    given-same = rw (q, given_offsets) refl
+
+    state-same : state_after w s n (x ∷ asked) ≡ state_after w s n asked
+    unfolding state_after
+    state-same = rw (q, state_after) refl
+
+-- from the plan of the sizes xs on the plan is that of them and the accepted ones, ys, and so are the heap offsets
+record Came (w : ℕ) (s : State) (n : ℕ) (xs asked ys : List ℕ) : Type 0 where
+  is_plan : IsPlanOf w (state_after w s n asked) (length ys) ys
+  offsets_are : plan_offsets fixed w xs ++ given_offsets w s n asked ≡ plan_offsets fixed w ys
+
+came : (w : ℕ) (asked : List ℕ) (s : State) (n : ℕ) (xs ys : List ℕ) → IsPlanOf w s n xs
+    → ys ≡ xs ++ accepted_sizes w s n asked → Came w s n xs asked ys
+unfolding accepted_sizes given_offsets state_after
+came w [] s n xs ys P e =
+    rw (e ∙ append-nil xs)
+    (record {
+      is_plan = record { objects_counted = refl; sizes_pass = P.sizes_pass; state_planned = P.state_planned };
+      offsets_are = append-nil (plan_offsets fixed w xs);
+    })
+came w (x ∷ asked) s n xs ys P e = by (addition w s n x) refl (came w asked)
+  where
+    by : (r : Result (State × ℕ) FormatError) → addition w s n x ≡ r
+        → ((s' : State) (n' : ℕ) (xs' ys' : List ℕ) → IsPlanOf w s' n' xs' → ys' ≡ xs' ++ accepted_sizes w s' n' asked
+        → Came w s' n' xs' asked ys')
+        → Came w s n xs (x ∷ asked) ys
+    by (Ok (s', o)) q later =
+        let (small, placed) = small-placed w s n x s' o q in
+        let rest = accepted_sizes w s' (n + 1) asked in
+        let whole : ys ≡ (xs ++ (x ∷ [])) ++ rest =
+        e ∙ ap (λ (l : List ℕ). xs ++ l) (sizes-more w s n x s' o q asked) ∙ sym (append_assoc xs (x ∷ []) rest) in
+        let C = later s' (n + 1) (xs ++ (x ∷ [])) ys (one-more P small placed) whole in
+        record {
+          is_plan = subst (λ (y : State). IsPlanOf w y (length ys) ys) (sym (state-more w s n x s' o q asked)) C.is_plan;
+          offsets_are =
+              ap (λ (l : List ℕ). plan_offsets fixed w xs ++ l) (given-more w s n x s' o q asked)
+              ∙ sym (append_assoc (plan_offsets fixed w xs) (o ∷ []) (given_offsets w s' (n + 1) asked))
+              ∙ ap (λ (l : List ℕ). l ++ given_offsets w s' (n + 1) asked) (sym (offsets-more P small placed))
+              ∙ C.offsets_are;
+        }
+    by (Err f) q later =
+        let C = later s n xs ys P (e ∙ ap (λ (l : List ℕ). xs ++ l) (sizes-same w s n x f q asked)) in
+        record {
+          is_plan = subst (λ (y : State). IsPlanOf w y (length ys) ys) (sym (state-same w s n x f q asked)) C.is_plan;
+          offsets_are = ap (λ (l : List ℕ). plan_offsets fixed w xs ++ l) (given-same w s n x f q asked) ∙ C.offsets_are;
+        }
+
+pub additions-planned : AdditionsPlanned
+unfolding plan_offsets offsets_from
+additions-planned w asked =
+    let C = came w asked (initial fixed w) 0 [] (accepted_sizes w (initial fixed w) 0 asked) (of-none w) refl in
+    record { accepted = accepted_sizes w (initial fixed w) 0 asked; are_accepted = refl; is_plan = C.is_plan; offsets_are = C.offsets_are }

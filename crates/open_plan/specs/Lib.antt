@@ -1,0 +1,2 @@
+pub mod Additions
+pub mod Open
