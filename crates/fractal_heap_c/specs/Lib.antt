@@ -1,2 +1,3 @@
 pub mod InSlot
 pub mod WrittenIds
+pub mod Opened

@@ -4,6 +4,8 @@
 //! and answering, so what is handed back for a short slot is 13 whatever the file is.
 #![tactic(auto)]
 
+pub mod open_plans;
+
 ghost use Rattle.std.specs.Prelude.{◌≡◌, ◌≤◌, ℕ, length, Ok, ◌+◌, IfOk};
 ghost use Rattle.checksum.specs.Lookup3.{hashlittle};
 ghost use Rattle.fields.specs.Slot.{slot_number, slot_bytes};

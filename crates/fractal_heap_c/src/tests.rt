@@ -8,6 +8,9 @@ ghost use Rattle.table.specs.Table.{fixed};
 ghost use Rattle.fractal_heap_c.specs.WrittenIds.{IsWrittenId};
 
 use super::*;
+use crate::open_plans::{
+    OpenedPlan, fractal_heap_open_plan, fractal_heap_plan_add, fractal_heap_plan_totals,
+};
 use fields::has_room;
 use fields::little_endian::read_u64_le;
 use fractal_heap_write::serialize;
@@ -100,5 +103,58 @@ fn an_object_is_found(rt: HostRuntime) -> Result<(), Fail> {
     write_managed_id(22, 1_002, &mut id)?;
     let found = object_bytes(&file, 0, 8, 8, &id).ok_or("the first object")?;
     assert_eq!(rt; found, &objects[..1_002]);
+    Ok(())
+}
+
+// The two values of a slot.
+fn values(slot: &[u8; 16]) -> (u64, u64) {
+    (read_u64_le(slot, 0), read_u64_le(slot, 8))
+}
+
+// The worked heap of 1,002 and 1 bytes, one by one, with refused sizes between them.
+#[test]
+fn a_plan_is_advanced(rt: HostRuntime) -> Result<(), Fail> {
+    let mut slot = [9; 16];
+    let OpenedPlan { number, mut plan } = fractal_heap_open_plan(8, &mut slot);
+    assert_eq!(rt; number, 0);
+    assert_eq!(rt; values(&slot), (0, 0));
+    assert_eq!(rt; fractal_heap_plan_add(&mut plan, 1_002, &mut slot), 0);
+    assert_eq!(rt; values(&slot), (22, 0));
+    assert_eq!(rt; fractal_heap_plan_add(&mut plan, 65_515, &mut slot), 11);
+    assert_eq!(rt; values(&slot), (1, 65_515));
+    assert_eq!(rt; fractal_heap_plan_add(&mut plan, 1, &mut slot[..15]), 13);
+    assert_eq!(rt; fractal_heap_plan_add(&mut plan, 1, &mut slot), 0);
+    assert_eq!(rt; values(&slot), (1_046, 0));
+    let mut totals = [7; 9];
+    assert_eq!(rt; fractal_heap_plan_totals(&plan, &mut totals), 0);
+    assert_eq!(rt; totals, [2, 2_102, 1, 0, 4_096, 2_048, 3_005, 2_048, 7]);
+    assert_eq!(rt; fractal_heap_plan_totals(&plan, &mut totals[..7]), 13);
+    Ok(())
+}
+
+// No plan is opened for a width that is none, nor with too short a slot.
+#[test]
+fn no_plan_is_opened(rt: HostRuntime) -> Result<(), Fail> {
+    let mut slot = [9; 16];
+    assert_eq!(rt; fractal_heap_open_plan(3, &mut slot).number, 2);
+    assert_eq!(rt; values(&slot), (3, 0));
+    assert_eq!(rt; fractal_heap_open_plan(8, &mut slot[..15]).number, 13);
+    Ok(())
+}
+
+// As many objects as a plan can count: 12 for any size that 11 lets pass.
+#[test]
+fn a_plan_is_full(rt: HostRuntime) -> Result<(), Fail> {
+    let mut slot = [9; 16];
+    let OpenedPlan {
+        number: _,
+        mut plan,
+    } = fractal_heap_open_plan(8, &mut slot);
+    plan.objects = u64::MAX - 1;
+    assert_eq!(rt; fractal_heap_plan_add(&mut plan, 0, &mut slot), 0);
+    assert_eq!(rt; fractal_heap_plan_add(&mut plan, 0, &mut slot), 12);
+    assert_eq!(rt; values(&slot), (u64::MAX, 0));
+    assert_eq!(rt; fractal_heap_plan_add(&mut plan, 65_515, &mut slot), 11);
+    assert_eq!(rt; values(&slot), (u64::MAX, 65_515));
     Ok(())
 }

@@ -4,7 +4,7 @@
 
 ghost use Rattle.std.specs.Prelude.{◌≡◌, ℕ, ◌+◌, ◌≤◌, ◌↔◌, true, max, List, [], length, Ok, Err};
 ghost use Rattle.std.specs.Prelude.{IsOk, OnOk, OnErr, IfOk, IfErr};
-ghost use Rattle.fields.specs.Widths.{legal};
+ghost use Rattle.fields.specs.Widths.{legal, byte_count};
 ghost use Rattle.table.specs.Table.{fixed};
 ghost use Rattle.plan.specs.Answer.{totals, planned_for};
 ghost use Rattle.plan.specs.End.{end_state};
@@ -12,6 +12,7 @@ ghost use Rattle.open_plan.specs.Additions.{addition, AdditionsPlanned};
 ghost use Rattle.open_plan.specs.Open.{IsPlanOf, Extends, RefusedAsPlanned};
 
 use fields::offset_width;
+use fields::width::Width;
 use plan::ManagedPlan;
 use planner::Planner;
 use refusals::FormatError;
@@ -31,7 +32,7 @@ pub struct OpenPlan {
 }
 
 impl OpenPlan {
-    /// The plan of no objects, for addresses of `offset_size` bytes: 2, 4 or 8, else 2 is the refusal.
+    /// The plan of no objects, for addresses of `offset_size` bytes; a size that is none is refused (2).
     pub fn new(offset_size: u8) -> Result<OpenPlan, FormatError>
         ensures legal { IsOk result ↔ (legal offset_size ≡ true) }
         ensures refused { OnErr result (result ≡ Err (FormatError.InvalidOffsetSize offset_size)) }
@@ -39,11 +40,19 @@ impl OpenPlan {
         ensures empty { IfOk result (λ plan.
             IsPlanOf offset_size plan.planner.state plan.objects []) }
     {
-        let width = offset_width(offset_size)?;
-        Ok(OpenPlan {
+        Ok(OpenPlan::of_width(offset_width(offset_size)?))
+    }
+
+    /// The plan of no objects, for addresses of a width that is tested.
+    #[tactic(auto, using(fields::proofs::Widths::legal_width))]
+    pub fn of_width(width: Width) -> OpenPlan
+        ensures width { result.planner.offset_size ≡ byte_count width }
+        ensures empty { IsPlanOf (byte_count width) result.planner.state result.objects [] }
+    {
+        OpenPlan {
             planner: Planner::new(width.bytes()),
             objects: 0,
-        })
+        }
     }
 
     /// Adds an object of `size` bytes: its heap offset. A size above the largest gives 11, one that no slot is left for
