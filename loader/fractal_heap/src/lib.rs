@@ -211,13 +211,6 @@ impl<'f> Heap<'f> {
         })
     }
 
-    /// As [`read_managed_object_of_any_length`](Heap::read_managed_object_of_any_length), with the number and the slot as
-    /// the library leaves them: 0 or a refusal's number, and in the first 16 bytes of the slot two little-endian
-    /// numbers, the object's position and length or the refusal's values. A shorter slot gives 13 and is left as it was.
-    pub fn read_managed_object_into(&self, id: &[u8], slot: &mut [u8]) -> u32 {
-        self.ask(fractal_heap_read_managed_object, id, slot)
-    }
-
     /// What the header says of the IDs' length, if the file has these two bytes; it may not be sound.
     fn stored_id_length(&self) -> Option<u16> {
         let at = usize::try_from(self.header_at.checked_add(ID_LENGTH_AT)?).ok()?;
@@ -238,11 +231,12 @@ impl<'f> Heap<'f> {
         })
     }
 
-    /// The library's answer as it comes: the number, and the two values in the first 16 bytes of the slot.
-    fn ask(&self, call: Call, id: &[u8], slot: &mut [u8]) -> u32 {
-        // SAFETY: pointers and lengths are those of slices, and a slot that is lent for writing overlaps no
+    /// The library's answer: its number, and the two values that it puts into a slot of 16 bytes.
+    fn pair(&self, call: Call, id: &[u8]) -> Result<(u64, u64), Refusal> {
+        let mut slot = [0; 16];
+        // SAFETY: pointers and lengths are those of slices, and the slot, which is lent for writing, overlaps no
         // other slice.
-        unsafe {
+        let number = unsafe {
             call(
                 self.file.as_ptr(),
                 self.file.len(),
@@ -254,13 +248,7 @@ impl<'f> Heap<'f> {
                 slot.as_mut_ptr(),
                 slot.len(),
             )
-        }
-    }
-
-    /// Asks with a slot of 16 bytes, and takes the two values from it.
-    fn pair(&self, call: Call, id: &[u8]) -> Result<(u64, u64), Refusal> {
-        let mut slot = [0; 16];
-        let number = self.ask(call, id, &mut slot);
+        };
         Refusal::answered(number, slot)
     }
 }
