@@ -47,7 +47,8 @@
 //!
 //! The library is linked statically. In the repository it is looked for where `loader/static_libraries` puts it. A copy of
 //! this crate's folder needs the variable `FRACTAL_HEAP_LIBRARIES` when it is built: the folder that has
-//! `libfractal_heap_c.a`; a relative one counts from where cargo is called.
+//! `libfractal_heap_c.a`. A relative one counts from where cargo is called, by the shell's `PWD`; where that is missing
+//! or another folder, as it may be in cron or an editor, the build ends and asks for an absolute one.
 #![warn(missing_docs)]
 
 mod numbers;
