@@ -315,7 +315,7 @@ fn due<T>(
     };
     let bits = header.fields()[7];
     let known = bits >= 64 && kind.ends_with("attempt to shift right with overflow");
-    counts.panics.note(kind, view.file.len() + id.len(), || {
+    counts.panics.add(kind, view.file.len() + id.len(), || {
         let (n, file) = (id.len(), view.file.len());
         format!(
             "{bits} heap bits, ID of {n} bytes {}, file of {file} bytes",

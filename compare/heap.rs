@@ -89,7 +89,7 @@ impl Comparison {
     }
 
     fn panicked(&mut self, kind: String, call: usize, bits: u64, file: usize, id: &[u8]) {
-        self.panics.note(kind, file + id.len(), || {
+        self.panics.add(kind, file + id.len(), || {
             format!(
                 "{}, {bits} heap bits, ID of {} bytes {}, file of {file} bytes",
                 CALLS[call],

@@ -37,7 +37,7 @@ pub struct Panics(BTreeMap<String, (u64, usize, String)>);
 
 impl Panics {
     /// One more, of an input of so many bytes.
-    pub fn note(&mut self, kind: String, size: usize, words: impl FnOnce() -> String) {
+    pub fn add(&mut self, kind: String, size: usize, words: impl FnOnce() -> String) {
         assert!(kind.starts_with("fractal_heap.rs line"), "{kind}");
         let new = || (0, usize::MAX, String::new());
         let (times, smallest, input) = self.0.entry(kind).or_insert_with(new);

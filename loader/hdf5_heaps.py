@@ -10,9 +10,8 @@ from h5py import h5p
 
 import hdf5_format as form
 from hdf5_format import expect
-from made_files import created
+from made_files import created, is_known
 
-VERSION = 1, 10
 BODY = 22  # where the body of a direct block begins, at offset size 8 and 40 heap bits, with a checksum
 
 
@@ -223,9 +222,8 @@ def check_widths(folder):
 
 def check(folder):
     """What to print of it."""
-    check_widths(folder)
-    if h5py.version.hdf5_version_tuple[:2] != VERSION:
-        return "HDF5's own functions: skipped, their declarations are known of HDF5 1.10 alone"
-    for part in (check_fields, check_kinds, check_reads, check_spaces, check_nested):
+    if not is_known():
+        return "HDF5's own functions and numbers: skipped, they are known of HDF5 1.10 alone"
+    for part in (check_widths, check_fields, check_kinds, check_reads, check_spaces, check_nested):
         part(folder)
     return "HDF5's own functions do as docs/DIFFERENCES.md says of them"

@@ -1,10 +1,12 @@
-"""What real_files.py and written_files.py share in making files with h5py: widths, sizes and values."""
+"""What real_files.py and written_files.py share in making files with h5py: widths, sizes and values; and whose choices
+they know."""
 
 import h5py
 import numpy
 from h5py import h5f, h5p
 
 WIDTHS = [(8, 8), (8, 4), (4, 8), (4, 4), (2, 8), (2, 4)]  # sizes of offsets and lengths
+VERSION = 1, 10  # of HDF5: where the format leaves a choice, another may make another one
 EDGES = [1, 2, 60, 900, 3900]  # of the sizes of data; an object above 4,096 bytes is huge
 
 
@@ -15,6 +17,11 @@ def created(name, offset_size, length_size):
     access = h5p.create(h5p.FILE_ACCESS)
     access.set_libver_bounds(h5f.LIBVER_LATEST, h5f.LIBVER_LATEST)
     return h5py.File(h5f.create(name.encode(), h5f.ACC_TRUNC, sizes, access))
+
+
+def is_known():
+    """Whether this is the HDF5 of which docs/DIFFERENCES.md tells, whose own numbers the tests have."""
+    return h5py.version.hdf5_version_tuple[:2] == VERSION
 
 
 def some_size(draw):

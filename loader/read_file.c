@@ -1,6 +1,6 @@
 /* Prints managed objects of a heap in an HDF5 file, which may have a user block.
  *   read_file FILE ADDRESS ID...
- * ADDRESS is that of the heap's header, as HDF5 and its tools tell it; an ID is hexadecimal digits, two a byte. */
+ * ADDRESS is that of the heap's header, in decimal as HDF5's tools tell it; an ID is hexadecimal digits, two a byte. */
 #include "files.h"
 #include "fractal_heap.h"
 
@@ -39,18 +39,9 @@ static uint8_t *id_of(struct heap heap, const char *hex, size_t *len)
         give_up("an ID has not the length of the heap's IDs");
     uint8_t *id = memory(due);
     for (size_t i = 0; i < due; i++)
-        if (sscanf(hex + 2 * i, "%2" SCNx8, id + i) != 1)
-            give_up("an ID is not hexadecimal");
+        id[i] = byte_of(hex + 2 * i);
     *len = due;
     return id;
-}
-
-static uint64_t number_at(const uint8_t *bytes)
-{
-    uint64_t number = 0;
-    for (int i = 8; i--;)
-        number = number << 8 | bytes[i];
-    return number;
 }
 
 static void print_object(struct heap heap, const char *hex)
@@ -77,9 +68,10 @@ int main(int words, char **word)
         give_up("read_file FILE ADDRESS ID...");
     size_t len;
     uint8_t *bytes = whole_file(word[1], &len);
-    struct heap heap = heap_in(bytes, len, strtoull(word[2], NULL, 0));
+    struct heap heap = heap_in(bytes, len, number_of(word[2]));
     for (int i = 3; i < words; i++)
         print_object(heap, word[i]);
     free(bytes);
+    end_printing();
     return 0;
 }

@@ -11,23 +11,11 @@
 
 static uint8_t *bytes_of(const char *hex, size_t *len)
 {
-    *len = strlen(hex) / 2;
+    *len = (strlen(hex) + 1) / 2; /* of an odd number of digits the last has no second */
     uint8_t *bytes = memory(*len);
-    for (size_t i = 0; i < *len; i++) {
-        unsigned byte;
-        if (sscanf(hex + 2 * i, "%2x", &byte) != 1)
-            give_up("an ID is not hexadecimal");
-        bytes[i] = (uint8_t)byte;
-    }
+    for (size_t i = 0; i < *len; i++)
+        bytes[i] = byte_of(hex + 2 * i);
     return bytes;
-}
-
-static uint64_t number_at(const uint8_t *bytes)
-{
-    uint64_t number = 0;
-    for (int i = 8; i--;)
-        number = number << 8 | bytes[i];
-    return number;
 }
 
 int main(int words, char **word)
@@ -51,6 +39,9 @@ int main(int words, char **word)
         free(id);
         free(slot);
     }
+    if (!feof(stdin))
+        give_up("a line is not four words");
     free(file);
+    end_printing();
     return 0;
 }

@@ -22,7 +22,7 @@ import hdf5_format as form
 import hdf5_heaps
 from hdf5_format import expect
 from hdf5_messages import due_messages
-from made_files import WIDTHS, created, some_size, some_value
+from made_files import WIDTHS, created, is_known, some_size, some_value
 
 TYPES = ["managed", "huge", "tiny"]  # of heap IDs
 COMMAND = "target/poilures"  # where it is built, some objects are read by it, too
@@ -172,7 +172,7 @@ def check_heap(program, name, image, owner, kind, counts):
         return None
     address, trees = dense
     heap = form.Heap(image, address)
-    expect(heap.largest_object == 4096, "the largest managed object")
+    expect(heap.largest_object == 4096 or not is_known(), "the largest managed object")
     for tree, due in zip(trees, due_messages(image, owner, kind)):
         ids = check_index(program, name, heap, form.BTree(image, tree), due, counts)
     heap.ids = [heap_id for heap_id in ids if heap_id[0] >> 4 & 3 == 0]
@@ -294,15 +294,57 @@ def check_open(name, version):
         expect(("open for writing" in said) == (version > 1), f"open for writing: {said}")
 
 
-def check_user_blocks(program, folder, counts):
-    """User blocks of two sizes, before superblocks of every version; `program` is read_objects, and that of
-    read_file.c is beside it."""
-    programs = {"C": os.path.join(os.path.dirname(program), "read_file")}
-    if os.path.exists(RUST_EXAMPLE):
-        programs["Rust"] = RUST_EXAMPLE
+def check_user_blocks(programs, folder, counts):
+    """User blocks of two sizes, before superblocks of every version."""
     name = os.path.join(folder, "behind.h5")
     for case in itertools.product((512, 2048), range(4), ((8, 8), (4, 8))):
         check_user_block(programs, name, *case, counts)
+
+
+# What the examples are given wrongly, and what they cannot print
+
+
+def one_link(name):
+    """A file with a heap of links: address, ID and bytes of one of them."""
+    write_behind(name, 512, 3, (8, 8))
+    with open(name, "rb") as opened:
+        image = BasedImage(opened.read()[512:], (8, 8))
+    with h5py.File(name, "r") as file:
+        group = file["dense"].id
+        address, trees = form.dense_storage(image, h5o.get_info(group).addr, form.LINK_INFO)
+        due = due_messages(image, group, form.LINK_INFO)[0]
+    tree = form.BTree(image, trees[0])
+    key, heap_id = form.key_and_id(tree.kind, tree.records[0])
+    return address, heap_id.hex(), due[key]
+
+
+def check_refused(words, to=subprocess.PIPE, line=""):
+    """A program that prints nothing, says why, and has no success."""
+    run = subprocess.run(words, input=line.encode(), stdout=to, stderr=subprocess.PIPE)
+    expect((run.returncode, run.stdout or b"") == (1, b"") and run.stderr, f"{words} {line!r}: {run}")
+
+
+def check_mistyped(program, programs, folder):
+    """Digits that are none, in an ID or an address, name nothing, and a full disk is no success. An address is decimal,
+    with zeros before it, too. Returns how many calls were refused."""
+    name = os.path.join(folder, "mistyped.h5")
+    address, digits, due = one_link(name)
+    ids = [digits[:2] + wrong + digits[4:] for wrong in ("1g", "g1", "-1", "+1", " f", "f ", "0x", "..")]
+    addresses = [f"{address}x", f"{address} 1", f" {address}", f"-{address}", hex(address), "", "x", str(1 << 64)]
+    for example in programs.values():
+        run = subprocess.run([example, name, f"0{address}", digits.upper()], stdout=subprocess.PIPE)
+        expect((run.returncode, run.stdout) == (0, due), f"{example} by 0{address}: {run}")
+        for words in [[str(address), other] for other in ids] + [[other, digits] for other in addresses]:
+            check_refused([example, name, *words])
+        with open("/dev/full", "wb") as full:
+            check_refused([example, name, str(address), digits], full)
+    lines = [f"{address} 8 8 {other}\n" for other in ids + [digits + "0"] if " " not in other]  # which ends a word
+    for line in lines + [f"x 8 8 {digits}\n"]:
+        check_refused([program, name], line=line)
+    with open("/dev/full", "wb") as full:
+        check_refused([program, name], full, f"{address} 8 8 {digits}\n")
+    os.remove(name)
+    return len(programs) * (len(ids) + len(addresses) + 1) + len(lines) + 2
 
 
 # Damaged copies
@@ -425,6 +467,7 @@ def report(counts, numbers, filtered, own):
     rust = f"{counts['behind in Rust']}" if counts["behind in Rust"] else "skipped, there is no cargo"
     print(f"real files: behind user blocks: from C: {counts['behind in C']} objects")
     print(f"real files: behind user blocks: from Rust: {rust}")
+    print(f"real files: mistyped, or printed to a full disk: {counts['mistyped']} calls end with a sentence and 1")
     print(f"real files: {own}")
     heaps = ", ".join(f"{counts[kind]} {kind}" for kind in KINDS)
     total = sum(counts[kind] for kind in KINDS)
@@ -444,7 +487,11 @@ def main():
         os.remove(name)
     for due in [(2, 0), (2, 1)] + [(width, depth) for width in (4, 8) for depth in range(4)]:
         expect(due in depths, f"no heap of offset size and depth {due}")
-    check_user_blocks(program, folder, counts)
+    programs = {"C": os.path.join(os.path.dirname(program), "read_file")}
+    if os.path.exists(RUST_EXAMPLE):
+        programs["Rust"] = RUST_EXAMPLE
+    check_user_blocks(programs, folder, counts)
+    counts["mistyped"] = check_mistyped(program, programs, folder)
     filtered = check_filtered(program, folder)
     report(counts, numbers, filtered, hdf5_heaps.check(folder))
 

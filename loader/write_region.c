@@ -56,9 +56,9 @@ static struct call call_of(char **word)
     c.sizes = (uint64_t *)whole_file(word[1], &c.count);
     c.count /= 8;
     c.objects = whole_file(word[2], &c.objects_len);
-    c.offset_size = (uint8_t)strtoul(word[5], NULL, 10);
-    c.region_at = strtoull(word[6], NULL, 10);
-    c.header_at = strtoull(word[7], NULL, 10);
+    c.offset_size = (uint8_t)number_of(word[5]);
+    c.region_at = number_of(word[6]);
+    c.header_at = number_of(word[7]);
     c.offsets = lend(8 * c.count + SPARE);
     c.blocks = lend(8 * (c.count ? c.count : 1) + SPARE);
     c.totals = lend(8 * TOTALS + SPARE);
@@ -139,5 +139,6 @@ int main(int words, char **word)
     print_numbers(c.blocks, total[0]);
     write_file(word[3], region, total[1]);
     write_file(word[4], written_ids(c), ID * c.count);
+    end_printing();
     return 0;
 }

@@ -23,7 +23,7 @@ import h5debug
 import hdf5_format as form
 from hdf5_format import expect
 from hdf5_messages import little
-from made_files import WIDTHS, created, some_size, some_value
+from made_files import WIDTHS, created, is_known, some_size, some_value
 
 GEOMETRY = 4, 1024, 65536, 40  # width, starting block, largest direct block, bits of a heap offset
 JUNK = b"\xee"
@@ -334,7 +334,8 @@ def check_layout(old, new, written):
         end += size
     size = written.totals["region_size"]
     expect(end - written.at == len(written.region) == size, "size of the region")
-    check_spaces(old)
+    if is_known():
+        check_spaces(old)
     check_spaces(new)
 
 
@@ -571,7 +572,7 @@ def check_going_on(name, made):
             if made.widths[0] != 2:  # into a direct block where our header allows for it, or huge
                 made.put(made.file[path], "new large", numpy.void(draw.randbytes(60000)))
     count = check_contents(name, made)
-    for dense in dense_objects(name)[1]:
+    for dense in dense_objects(name)[1] if is_known() else []:
         check_spaces(dense)
     with h5py.File(name, "r+", libver="latest") as made.file:
         for path, contents in made.contents.items():
@@ -618,6 +619,8 @@ def report(counts, tools):
         print(f"written files: h5debug tells {counts['blocks']} blocks as we wrote them; {refusals}")
     else:
         print("written files: h5dump and h5debug: skipped, they are not at hand")
+    if not is_known():
+        print("written files: space and iterator in HDF5's own headers: skipped, they are known of HDF5 1.10 alone")
     print(
         f"written files: {counts['files']} files, {sum(counts[kind] for kind in KINDS)} heaps, "
         f"{counts['attributes']} attributes read back by h5py{', h5dump and h5debug' if tools else ''}; "

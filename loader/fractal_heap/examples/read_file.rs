@@ -1,6 +1,6 @@
 //! Prints managed objects of a heap in an HDF5 file, which may have a user block.
 //!     read_file FILE ADDRESS ID...
-//! ADDRESS is that of the heap's header, as HDF5 and its tools tell it; an ID is hexadecimal digits, two a byte.
+//! ADDRESS is that of the heap's header, in decimal as HDF5's tools tell it; an ID is hexadecimal digits, two a byte.
 use fractal_heap::Superblock;
 use std::error::Error;
 use std::io::Write;
@@ -24,13 +24,18 @@ fn print(words: &[String]) -> Result<(), Box<dyn Error>> {
     };
     let file = fs::read(name)?;
     let superblock = Superblock::find(&file).ok_or("it is no HDF5 file")?;
+    let address = address
+        .parse()
+        .map_err(|error| format!("the address {address:?}: {error}"))?;
     let heap = superblock
-        .heap(&file, address.parse()?)
+        .heap(&file, address)
         .ok_or("the superblock's version is not known here")?;
+    let mut out = io::stdout().lock();
     for digits in ids {
-        io::stdout().write_all(heap.read_managed_object(&id_of(digits)?)?)?;
+        out.write_all(heap.read_managed_object(&id_of(digits)?)?)?;
     }
-    Ok(())
+    // What is kept until the end may not arrive either, on a full disk say.
+    Ok(out.flush()?)
 }
 
 fn main() -> ExitCode {

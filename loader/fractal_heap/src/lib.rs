@@ -47,7 +47,8 @@
 //!
 //! The library is linked statically. In the repository it is looked for where `loader/static_libraries` puts it. A copy of
 //! this crate's folder needs the variable `FRACTAL_HEAP_LIBRARIES` when it is built: the folder that has
-//! `libfractal_heap_c.a`; a relative one counts from where cargo is called.
+//! `libfractal_heap_c.a`. A relative one counts from where cargo is called, by the shell's `PWD`; where that is missing
+//! or another folder, as it may be in cron or an editor, the build ends and asks for an absolute one.
 #![warn(missing_docs)]
 
 mod numbers;
@@ -211,13 +212,6 @@ impl<'f> Heap<'f> {
         })
     }
 
-    /// As [`read_managed_object_of_any_length`](Heap::read_managed_object_of_any_length), with the number and the slot as
-    /// the library leaves them: 0 or a refusal's number, and in the first 16 bytes of the slot two little-endian
-    /// numbers, the object's position and length or the refusal's values. A shorter slot gives 13 and is left as it was.
-    pub fn read_managed_object_into(&self, id: &[u8], slot: &mut [u8]) -> u32 {
-        self.ask(fractal_heap_read_managed_object, id, slot)
-    }
-
     /// What the header says of the IDs' length, if the file has these two bytes; it may not be sound.
     fn stored_id_length(&self) -> Option<u16> {
         let at = usize::try_from(self.header_at.checked_add(ID_LENGTH_AT)?).ok()?;
@@ -238,11 +232,12 @@ impl<'f> Heap<'f> {
         })
     }
 
-    /// The library's answer as it comes: the number, and the two values in the first 16 bytes of the slot.
-    fn ask(&self, call: Call, id: &[u8], slot: &mut [u8]) -> u32 {
-        // SAFETY: pointers and lengths are those of slices, and a slot that is lent for writing overlaps no
+    /// The library's answer: its number, and the two values that it puts into a slot of 16 bytes.
+    fn pair(&self, call: Call, id: &[u8]) -> Result<(u64, u64), Refusal> {
+        let mut slot = [0; 16];
+        // SAFETY: pointers and lengths are those of slices, and the slot, which is lent for writing, overlaps no
         // other slice.
-        unsafe {
+        let number = unsafe {
             call(
                 self.file.as_ptr(),
                 self.file.len(),
@@ -254,13 +249,7 @@ impl<'f> Heap<'f> {
                 slot.as_mut_ptr(),
                 slot.len(),
             )
-        }
-    }
-
-    /// Asks with a slot of 16 bytes, and takes the two values from it.
-    fn pair(&self, call: Call, id: &[u8]) -> Result<(u64, u64), Refusal> {
-        let mut slot = [0; 16];
-        let number = self.ask(call, id, &mut slot);
+        };
         Refusal::answered(number, slot)
     }
 }

@@ -11,11 +11,11 @@ const SIGNATURE: &[u8] = b"\x89HDF\r\n\x1a\n";
 /// ```no_run
 /// use fractal_heap::Superblock;
 ///
-/// let bytes = std::fs::read("notes.h5")?;
+/// let bytes = std::fs::read("gauges.h5")?;
 /// let superblock = Superblock::find(&bytes).ok_or("no HDF5 file")?;
 /// // The address of the heap's header, as HDF5 and its tools tell it.
 /// let heap = superblock.heap(&bytes, 1064).ok_or("a superblock that is not known here")?;
-/// let note = heap.read_managed_object(&[0x00, 0x16, 0x00, 0x00, 0x00, 0x00, 0x1C, 0x00])?;
+/// let object = heap.read_managed_object(&[0x00, 0x16, 0x00, 0x00, 0x00, 0x00, 0x1C, 0x00])?;
 /// # Ok::<(), Box<dyn std::error::Error>>(())
 /// ```
 #[derive(Debug, Clone, Copy, PartialEq, Eq)]

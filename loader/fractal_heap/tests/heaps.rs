@@ -331,25 +331,3 @@ fn a_flipped_byte_in_the_header_is_refused_by_7_with_both_checksums() {
         )
     );
 }
-
-#[test]
-fn a_short_slot_is_refused_by_13_and_left_as_it_was() {
-    let file = direct_heap(EIGHT);
-    let id = id_at(EIGHT.block_header());
-    let before: Vec<u8> = (0xA0..0xB8).collect();
-    let mut slot = before.clone();
-    let number = heap(&file, EIGHT).read_managed_object_into(&id, &mut slot[..15]);
-    assert_eq!((number, &slot), (13, &before));
-}
-
-#[test]
-fn the_answer_has_16_bytes_of_the_slot_and_the_rest_is_as_it_was() {
-    let file = direct_heap(EIGHT);
-    let id = id_at(EIGHT.block_header());
-    let before: Vec<u8> = (0xA0..0xB8).collect();
-    let mut slot = before.clone();
-    let number = heap(&file, EIGHT).read_managed_object_into(&id, &mut slot);
-    let answer = [(ROOT + EIGHT.block_header()) as u64, OBJECT.len() as u64];
-    let due = [&Bytes::new(b"").put(8, &answer).0, &before[16..]].concat();
-    assert_eq!((number, slot), (0, due));
-}
