@@ -1,13 +1,13 @@
 //! A plan that is advanced by one size at a time, for a loader that prints IDs while a run is still loading. The caller
 //! lends the plan, and hands in only what opening and additions have left.
-ghost use Rattle.std.specs.Prelude.{◌≡◌, ℕ, ◌+◌, ◌<◌, ◌≤◌, max, List, [], length, Ok, IfOk};
+ghost use Rattle.std.specs.Prelude.{◌≡◌, ℕ, ◌+◌, ◌<◌, ◌≤◌, max, List, [], length, Ok, IfOk, IfErr};
 ghost use Rattle.fields.specs.Slot.{slot_number, slot_bytes};
 ghost use Rattle.table.specs.Table.{fixed};
 ghost use Rattle.plan.specs.Answer.{totals as totals_of, planned_for};
 ghost use Rattle.plan.specs.End.{end_state};
 ghost use Rattle.plan.specs.Report.{plan_number, plan_totals};
 ghost use Rattle.open_plan.specs.Additions.{addition};
-ghost use Rattle.open_plan.specs.Open.{IsPlanOf, Extends};
+ghost use Rattle.open_plan.specs.Open.{IsPlanOf, Extends, RefusedAsPlanned};
 ghost use Rattle.fractal_heap_c.specs.Opened.{opening_report, addition_report};
 
 use fields::slot::put_answer;
@@ -72,6 +72,11 @@ pub extern "C" fn fractal_heap_plan_add(plan: &mut OpenPlan, size: u64, slot: &m
         → IsPlanOf plan.old.planner.offset_size plan.old.planner.state plan.old.objects sizes
         → Extends plan.old.planner.offset_size plan.new.planner.state plan.new.objects
         sizes size placed.1) }
+    ensures refused_as_planned { 16 ≤ length slot.old → IfErr (addition
+        plan.old.planner.offset_size plan.old.planner.state plan.old.objects size)
+        (λ refusal. (sizes : List ℕ)
+        → IsPlanOf plan.old.planner.offset_size plan.old.planner.state plan.old.objects sizes
+        → RefusedAsPlanned plan.old.planner.offset_size sizes size refusal) }
 {
     if slot.len() < 16 {
         return SLICE_TOO_SHORT;
