@@ -3,8 +3,8 @@ use crate::Refusal;
 use fractal_heap_sys as sys;
 
 /// The plan of a heap whose objects come one by one, in the order in which they will be written: each has its heap
-/// offset and its ID at once, and the sizes need not be kept. It is at any time the plan of the sizes that were accepted
-/// so far, and an offset that was given stays the object's in every longer list; both are proved.
+/// offset and its ID at once, and the sizes need not be kept. It is at any time the plan of the sizes that were
+/// accepted so far, and an offset that was given stays the object's in every longer list; both are proved.
 ///
 /// It takes 72 bytes, holds no memory of its own, and is neither `Clone` nor `Copy`: two copies that are both added to
 /// would give one heap offset to two objects.
@@ -88,8 +88,9 @@ impl OpenPlan {
         Ok(OpenPlan { plan: opened.plan })
     }
 
-    /// Adds an object of `size` bytes. One above the largest managed size is refused by 11, and one that no slot is left
-    /// for by 12, as is any at 2^64 - 1 objects; the index is the count of accepted objects. Then the plan is as it was.
+    /// Adds an object of `size` bytes. One above the largest managed size is refused by 11, and one that no slot is
+    /// left for by 12, as is any at 2^64 - 1 objects; the index is the count of accepted objects. Then the plan is as
+    /// it was, and a smaller object may follow.
     pub fn add(&mut self, size: u64) -> Result<Added, Refusal> {
         let mut slot = [0; 16];
         // SAFETY: the plan is as opening and additions have left it; pointer and length are those of the slot, which

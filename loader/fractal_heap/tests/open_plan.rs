@@ -1,5 +1,5 @@
-//! A plan that is advanced by one object at a time. Expected values are those of docs/RULES.md, of its worked heaps above
-//! all, at addresses of eight bytes.
+//! A plan that is advanced by one object at a time. Expected values are those of docs/RULES.md, above all of its worked
+//! heaps, at addresses of eight bytes.
 use fractal_heap::{Added, OpenPlan, Refusal, Totals};
 
 /// A worked heap: the sizes, the heap offsets that they get, and the totals after all of them.

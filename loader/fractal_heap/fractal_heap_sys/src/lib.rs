@@ -11,8 +11,8 @@
 //! where it is `*mut`; of no elements it may be anything that is not read. What is written overlaps nothing else that is
 //! lent to the call. Nothing is kept after it.
 //!
-//! A plan is lent only as opening and additions have left it, after an opening that was not refused, and to one call at
-//! a time.
+//! A plan is lent only as opening and additions have left it, after an opening that was not refused, and to one call
+//! at a time.
 
 #[cfg(feature = "tools")]
 mod tools;
