@@ -236,3 +236,48 @@ fn offsets_from_2_to_the_40_and_sizes_from_2_to_the_16_have_no_id() {
         assert_eq!(refusal.number(), 16);
     }
 }
+
+/// How many direct blocks of 65,536 bytes so many rows have: four in row 7, the others in the slots of the rows behind
+/// it, that of row r being an indirect block of r - 2 rows.
+fn largest_blocks(rows: u32) -> u64 {
+    (7..rows)
+        .map(|row| {
+            if row == 7 {
+                4
+            } else {
+                4 * largest_blocks(row - 2)
+            }
+        })
+        .sum()
+}
+
+/// The largest objects fill a block each. The last block of the heap space is one of theirs, since the last slot of row
+/// 28 has rows to 25, that one's last slot rows to 22, and so on to row 7.
+#[test]
+fn the_heap_space_ends_by_12_and_an_object_at_its_end_has_no_id() {
+    const END: u64 = 1 << 40;
+    let mut plan = OpenPlan::open(8).unwrap();
+    let count = largest_blocks(29);
+    let last = (0..count).map(|_| plan.add(65_514).unwrap()).last();
+    assert_eq!(last.unwrap().offset, END - 65_514);
+    let before = state(&plan);
+    for size in [65_514, 1] {
+        let refusal = plan.add(size).unwrap_err();
+        assert_eq!(refusal, Refusal::HeapSpaceExhausted { index: count });
+        assert_eq!(refusal.number(), 12);
+    }
+    refuses(&mut plan, 65_515); // 11 goes before 12
+    assert_eq!(state(&plan), before);
+
+    // One without bytes may follow, and is counted.
+    let (offset, length) = (END, 0);
+    let added = plan.add(0).unwrap();
+    assert_eq!(added, Added { offset, size: 0 });
+    assert_eq!(added.id(), Err(Refusal::HeapIdTooLarge { offset, length }));
+    let index = count + 1;
+    assert_eq!(plan.add(1), Err(Refusal::HeapSpaceExhausted { index }));
+    let totals = plan.totals();
+    assert_eq!(totals.block_count, count);
+    assert_eq!((totals.root_rows, totals.managed_space), (29, END));
+    assert_eq!(totals.allocation_iterator, END);
+}
