@@ -1,11 +1,29 @@
-/* Calls the library from C: builds a small heap in memory and reads an object back from it, and
- * meets the refusals. One line per check; a check that fails ends the program with status 1.
+/* Calls the library from C: builds a small heap in memory and reads an object back from it, plans heaps
+ * one object at a time, and meets the refusals. One line per check; a check that fails ends the program
+ * with status 1.
  * Expected values are the format's, lookup3.c's and docs/RULES.md's. */
 #include "fractal_heap.h"
 
 #include <stdio.h>
 #include <stdlib.h>
 #include <string.h>
+
+#ifdef __cplusplus
+#include <type_traits>
+/* C++ hands a plan over as C does, and does not copy it. */
+static_assert(std::is_trivial<fractal_heap_opened_plan>::value &&
+                  std::is_standard_layout<fractal_heap_opened_plan>::value,
+              "it is returned as C returns it");
+static_assert(!std::is_copy_constructible<fractal_heap_plan>::value &&
+                  !std::is_copy_assignable<fractal_heap_plan>::value,
+              "a plan is not copied");
+static_assert(!std::is_copy_constructible<fractal_heap_opened_plan>::value &&
+                  !std::is_copy_assignable<fractal_heap_opened_plan>::value,
+              "nor with what opening hands back");
+static_assert(std::is_nothrow_move_constructible<fractal_heap_plan>::value &&
+                  std::is_nothrow_move_assignable<fractal_heap_plan>::value,
+              "it is moved");
+#endif
 
 enum {
     WIDTH = 8,                                  /* offset and length size */
@@ -272,6 +290,173 @@ static void id_lengths(const uint8_t *id)
     file[AT + 6] = 0;
 }
 
+/* In it the plan begins as many bytes behind the start as its alignment says. */
+struct behind_a_byte {
+    uint8_t byte;
+    struct fractal_heap_plan plan;
+};
+
+/* A worked heap of docs/RULES.md: at most five sizes with their offsets, and the totals in the header's order. */
+struct worked {
+    size_t count;
+    uint64_t sizes[5], offsets[5], totals[FRACTAL_HEAP_PLAN_TOTALS];
+};
+
+static const struct worked WORKED[] = {
+    {0, {0}, {0}, {1, 1024, 0, 0, 1024, 1024, 1002, 0}},
+    {1, {1002}, {22}, {1, 1024, 0, 0, 1024, 1024, 0, 0}},
+    {1, {1003}, {8214}, {1, 2166, 3, 0, 16384, 2048, 15117, 10240}},
+    {2, {1002, 1}, {22, 1046}, {2, 2102, 1, 0, 4096, 2048, 3005, 2048}},
+    {2, {1002, 0}, {22, 1024}, {1, 1024, 0, 0, 1024, 1024, 0, 0}},
+    {3, {1002, 1002, 0}, {22, 1046, 2048}, {2, 2102, 1, 0, 4096, 2048, 2004, 2048}},
+    {1, {65514}, {262166}, {1, 65814, 8, 0, 524288, 65536, 458070, 327680}},
+    {5, {65514, 65514, 65514, 65514, 65514}, {262166, 327702, 393238, 458774, 2359318},
+     {5, 328332, 11, 278, 4194304, 327680, 3858638, 2424832}},
+};
+
+/* Adds with a slot of 16 bytes, whose numbers go to `first` and `second`. */
+static uint32_t add(struct fractal_heap_plan *plan, uint64_t size)
+{
+    uint8_t slot[16];
+    uint32_t number = fractal_heap_plan_add(plan, size, slot, sizeof slot);
+    first = get(slot, 8);
+    second = get(slot + 8, 8);
+    return number;
+}
+
+/* Whether the plan is as it was, its bytes between the offset size and the state left out: they belong to neither. */
+static int same(const struct fractal_heap_plan *plan, const uint8_t *before)
+{
+    size_t after = offsetof(struct fractal_heap_planner, state);
+    return plan->planner.offset_size == *before &&
+           memcmp((const uint8_t *)plan + after, before + after, sizeof *plan - after) == 0;
+}
+
+/* Sizes above the largest are refused with the count of accepted objects, and change nothing. */
+static int refuses(struct fractal_heap_plan *plan, uint64_t count)
+{
+    static const uint64_t sizes[] = {65515, 65536, (uint64_t)1 << 40, UINT64_MAX};
+    uint8_t before[FRACTAL_HEAP_PLAN_SIZE];
+    int holds = 1;
+    memcpy(before, plan, sizeof before);
+    for (size_t i = 0; i < sizeof sizes / sizeof *sizes; i++)
+        holds = holds && answers(add(plan, sizes[i]), FRACTAL_HEAP_OBJECT_TOO_LARGE, count, sizes[i]) &&
+                same(plan, before);
+    return holds;
+}
+
+/* The heap's objects one by one, with refused ones between them if that is wanted. */
+static int planned(const struct worked *heap, int with_refusals)
+{
+    uint8_t slot[16];
+    uint64_t totals[FRACTAL_HEAP_PLAN_TOTALS];
+    struct fractal_heap_opened_plan opened = fractal_heap_open_plan(8, slot, sizeof slot);
+    int holds = opened.number == FRACTAL_HEAP_OK && get(slot, 8) == 0 && get(slot + 8, 8) == 0;
+    for (size_t i = 0; i < heap->count; i++) {
+        holds = holds && (!with_refusals || refuses(&opened.plan, i));
+        holds = holds && answers(add(&opened.plan, heap->sizes[i]), FRACTAL_HEAP_OK, heap->offsets[i], 0);
+    }
+    holds = holds && (!with_refusals || refuses(&opened.plan, heap->count));
+    return holds && fractal_heap_plan_totals(&opened.plan, totals, FRACTAL_HEAP_PLAN_TOTALS) == FRACTAL_HEAP_OK &&
+           memcmp(totals, heap->totals, sizeof totals) == 0;
+}
+
+/* The struct as the library was compiled: each number of a plan is at its place. Those of five blocks, the last of
+ * which has room for a byte, differ from each other. */
+static void layout(void)
+{
+    uint8_t slot[16];
+    struct fractal_heap_opened_plan opened = fractal_heap_open_plan(8, slot, sizeof slot);
+    const struct fractal_heap_planner *planner = &opened.plan.planner;
+    check(sizeof opened.plan == FRACTAL_HEAP_PLAN_SIZE &&
+              offsetof(struct behind_a_byte, plan) == FRACTAL_HEAP_PLAN_ALIGNMENT,
+          "a plan has 72 bytes, and its address is a multiple of 8");
+    check(planner->offset_size == 8 && planner->state.fill == 22 && opened.plan.objects == 0,
+          "an empty plan: the offset size, a header that is filled, no object");
+    for (int i = 0; i < 4; i++)
+        add(&opened.plan, 65514);
+    add(&opened.plan, 65513);
+    check(planner->offset_size == 8 && planner->state.start == 2359296 && planner->state.size == 65536 &&
+              planner->state.fill == 65535 && planner->state.count == 5 && planner->state.allocated == 327680 &&
+              planner->state.used == 327569 && planner->state.indirect == 278 && opened.plan.objects == 5,
+          "a plan of five blocks has its numbers where the header says");
+    add(&opened.plan, 1);
+    check(first == 2424831 && planner->state.count == 5 && opened.plan.objects == 6,
+          "one byte more: in the fifth block, and blocks and objects are counted apart");
+}
+
+static void plans(void)
+{
+    for (int with_refusals = 0; with_refusals < 2; with_refusals++) {
+        int holds = 1;
+        for (size_t i = 0; i < sizeof WORKED / sizeof *WORKED; i++)
+            holds = holds && planned(&WORKED[i], with_refusals);
+        check(holds, with_refusals ? "the same with refused sizes between: 11 with the count of accepted ones"
+                                   : "the worked heaps, one object at a time: offsets and totals");
+    }
+}
+
+/* Offset sizes, slots and lists that are refused. */
+static void plans_refused(void)
+{
+    uint8_t slot[24], before[24], plan_before[FRACTAL_HEAP_PLAN_SIZE];
+    uint64_t totals[10];
+    int holds = 1;
+    for (unsigned size = 0; size < 256; size++) {
+        struct fractal_heap_opened_plan opened = fractal_heap_open_plan((uint8_t)size, slot, 16);
+        int is_width = size == 2 || size == 4 || size == 8;
+        holds = holds && opened.number == (is_width ? FRACTAL_HEAP_OK : FRACTAL_HEAP_INVALID_OFFSET_SIZE) &&
+                get(slot, 8) == (is_width ? 0 : size) && get(slot + 8, 8) == 0;
+    }
+    check(holds, "plans for addresses of 2, 4 and 8 bytes; of any other number: 2 with it");
+    check(fractal_heap_open_plan(8, NULL, 0).number == FRACTAL_HEAP_SLICE_TOO_SHORT &&
+              fractal_heap_open_plan(3, NULL, 0).number == FRACTAL_HEAP_SLICE_TOO_SHORT,
+          "opening without a slot: 13, before 2");
+
+    struct fractal_heap_opened_plan opened = fractal_heap_open_plan(8, slot, 16);
+    for (int i = 0; i < 24; i++)
+        slot[i] = before[i] = (uint8_t)(0xA0 + i);
+    check(fractal_heap_open_plan(8, slot, 15).number == FRACTAL_HEAP_SLICE_TOO_SHORT && memcmp(slot, before, 24) == 0,
+          "opening with a slot of 15 bytes: 13, and the slot is as it was");
+    add(&opened.plan, 1000);
+    memcpy(plan_before, &opened.plan, sizeof plan_before);
+    check(fractal_heap_plan_add(&opened.plan, 2, slot, 15) == FRACTAL_HEAP_SLICE_TOO_SHORT &&
+              fractal_heap_plan_add(&opened.plan, UINT64_MAX, slot, 15) == FRACTAL_HEAP_SLICE_TOO_SHORT &&
+              fractal_heap_plan_add(&opened.plan, 2, NULL, 0) == FRACTAL_HEAP_SLICE_TOO_SHORT &&
+              memcmp(slot, before, 24) == 0 && same(&opened.plan, plan_before),
+          "adding with a slot of 15 bytes or none: 13, before 11; slot and plan are as they were");
+    check(fractal_heap_plan_add(&opened.plan, 2, slot, 24) == FRACTAL_HEAP_OK && get(slot, 8) == 1022 &&
+              get(slot + 8, 8) == 0 && memcmp(slot + 16, before + 16, 8) == 0,
+          "a slot of 24 bytes: the heap offset in 16, the rest as it was");
+
+    for (int i = 0; i < 10; i++)
+        totals[i] = UNDEFINED;
+    check(fractal_heap_plan_totals(&opened.plan, totals, 7) == FRACTAL_HEAP_SLICE_TOO_SHORT &&
+              fractal_heap_plan_totals(&opened.plan, NULL, 0) == FRACTAL_HEAP_SLICE_TOO_SHORT &&
+              totals[0] == UNDEFINED && totals[6] == UNDEFINED,
+          "totals into seven places or none: 13, and the list is as it was");
+    check(fractal_heap_plan_totals(&opened.plan, totals, 10) == FRACTAL_HEAP_OK && totals[0] == 1 &&
+              totals[6] == 0 && totals[7] == 0 && totals[8] == UNDEFINED && totals[9] == UNDEFINED,
+          "totals into ten places: eight are put, the rest is as it was");
+}
+
+/* IDs of what was planned. */
+static void planned_ids(void)
+{
+    static const uint8_t worked[8] = {0x00, 0x16, 0x20, 0x00, 0x00, 0x00, 0xEB, 0x03};
+    uint8_t id[8], before[8];
+    check(fractal_heap_put_managed_id(id, 8214, 1003) == FRACTAL_HEAP_OK && memcmp(id, worked, 8) == 0,
+          "offset 8214, length 1003 is ID 00 16 20 00 00 00 EB 03");
+    check(fractal_heap_put_managed_id(id, ((uint64_t)1 << 40) - 1, 65535) == FRACTAL_HEAP_OK &&
+              get(id, 8) == UINT64_MAX - 255,
+          "the largest offset and length");
+    memcpy(before, id, 8);
+    check(fractal_heap_put_managed_id(id, (uint64_t)1 << 40, 0) == FRACTAL_HEAP_HEAP_ID_TOO_LARGE &&
+              fractal_heap_put_managed_id(id, 22, 65536) == FRACTAL_HEAP_HEAP_ID_TOO_LARGE &&
+              memcmp(id, before, 8) == 0,
+          "offset 2^40, length 2^16: 16, and nothing is put");
+}
+
 /* No bytes at no address: one by one, and all together. */
 static void nulls(call *function, const uint8_t *id)
 {
@@ -304,6 +489,10 @@ int main(void)
     user_block(id);
     nulls(fractal_heap_decode_managed_id, id);
     nulls(fractal_heap_read_managed_object, id);
+    layout();
+    plans();
+    plans_refused();
+    planned_ids();
     printf("example.c: %u checks\n", checks);
     return 0;
 }

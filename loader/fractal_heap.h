@@ -1,6 +1,6 @@
-/* The loader's interface to the fractal heap: the three functions of the library fractal_heap_c
- * (loader/static_libraries fractal_heap_c, target/staticlib/libfractal_heap_c.a), and two short ones that stand
- * here whole: where a file's superblock is, and how long a heap's IDs are.
+/* The loader's interface to the fractal heap: the six functions of the library fractal_heap_c
+ * (loader/static_libraries fractal_heap_c, target/staticlib/libfractal_heap_c.a), and three short ones that stand
+ * here whole: where a file's superblock is, how long a heap's IDs are, and the ID of an object that was planned.
  *
  * A file that is lent begins at its superblock. HDF5's addresses count from there: in a file with a user block
  * that is 512, 1,024, 2,048 .. bytes after the file's start. Lent from its start, such a file gives other bytes
@@ -29,9 +29,9 @@
 extern "C" {
 #endif
 
-/* What the two functions with a slot return: 0, or why they refuse. Behind each number are its two values,
- * those that go into the slot. These functions give 0 to 10 and 13; 11, 12 and 14 to 16 are those of
- * planning and writing, in the same table. */
+/* What the functions return, but for the checksum: 0, or why they refuse. Behind each number are its two values,
+ * those that go into the slot. Those that read give 0 to 10 and 13; an open plan gives 0, 2 and 11 to 13, an ID that
+ * is written 0 and 16; 14 and 15 are those of writing, in the same table. */
 enum fractal_heap_number {
     FRACTAL_HEAP_OK = 0,                                /* the answer's own */
     FRACTAL_HEAP_UNEXPECTED_EOF = 1,                    /* expected end (at most 2^64 - 1), available */
@@ -53,7 +53,7 @@ enum fractal_heap_number {
 };
 
 /* A pointer whose length is 0 is not touched and may be NULL. That was seen in the compiled library;
- * example.c calls every function so. */
+ * example.c calls every function so. A plan has no length behind it, and may not be NULL. */
 
 /* Where a file's superblock is, and what it says of sizes. */
 struct fractal_heap_superblock {
@@ -127,6 +127,100 @@ uint32_t fractal_heap_read_managed_object(const uint8_t *file, size_t file_len, 
                                           uint8_t offset_size, uint8_t length_size,
                                           const uint8_t *id, size_t id_len,
                                           uint8_t *slot, size_t slot_len);
+
+/* An open plan: objects are added to it one by one, in the order in which they will be written, and each has its
+ * heap offset, and so its ID, at once. It is at any time the plan of the sizes that were accepted so far, and these
+ * need not be kept: an offset that was given stays the object's in every longer list.
+ *
+ *     struct fractal_heap_opened_plan opened = fractal_heap_open_plan(8, slot, 16);
+ *     if (opened.number != FRACTAL_HEAP_OK)
+ *         ... no plan is opened ...
+ *     if (fractal_heap_plan_add(&opened.plan, size, slot, 16) == FRACTAL_HEAP_OK)
+ *         ... the object's heap offset is the first number in the slot ...
+ *
+ * A plan is lent to the library only as opening and additions have left it: none of its members is set by the
+ * caller, it is not lent before it was opened, nor after opening was refused, nor to two calls at once, and it
+ * overlaps neither the slot nor the list. The library's promise rests on that: it tests nothing of the plan. A plan
+ * holds no memory of its own, and is given up by forgetting it.
+ *
+ * It may be moved to another place, and is then added to there alone. Two copies that are both added to would give
+ * one heap offset to two objects. C cannot forbid that; in C++ a plan is not copied, and moved only by
+ * std::move. */
+enum {
+    FRACTAL_HEAP_PLAN_SIZE = 72,        /* bytes of a struct fractal_heap_plan */
+    FRACTAL_HEAP_PLAN_ALIGNMENT = 8,    /* its address is a multiple of this */
+    FRACTAL_HEAP_PLAN_TOTALS = 8        /* 64-bit numbers that fractal_heap_plan_totals puts */
+};
+
+/* Where planning stands: bytes, but for one count. */
+struct fractal_heap_state {
+    uint64_t start;                     /* the current block's heap offset */
+    uint64_t size;                      /* its size */
+    uint64_t fill;                      /* how far it is filled, its header counted */
+    uint64_t count;                     /* blocks that are placed */
+    uint64_t allocated;                 /* their sizes together */
+    uint64_t used;                      /* the objects' sizes together */
+    uint64_t indirect;                  /* the indirect blocks below the root together */
+};
+
+struct fractal_heap_planner {
+    uint8_t offset_size;                /* bytes of an address */
+    struct fractal_heap_state state;
+};
+
+struct fractal_heap_plan {
+    struct fractal_heap_planner planner;
+    uint64_t objects;                   /* how many were accepted */
+#ifdef __cplusplus
+    /* All of them trivial: so C++ hands the struct over and back as C does. */
+    fractal_heap_plan() = default;
+    fractal_heap_plan(fractal_heap_plan &&) = default;
+    fractal_heap_plan &operator=(fractal_heap_plan &&) = default;
+    fractal_heap_plan(const fractal_heap_plan &) = delete;
+    fractal_heap_plan &operator=(const fractal_heap_plan &) = delete;
+#endif
+};
+
+/* What opening hands back: 0 and a plan, or the number of a refusal and a plan that is of no use. */
+struct fractal_heap_opened_plan {
+    uint32_t number;
+    struct fractal_heap_plan plan;
+};
+
+/* The slot of the two functions below is as above: 16 bytes get the two numbers of the answer or of the refusal; a
+ * shorter one gives 13 before all else, is not written, and no plan is opened or added to. */
+
+/* The plan of no objects, for addresses of offset_size bytes. It is handed back by value, so that no place is lent
+ * that holds no plan yet. Its number is 0, with 0 and 0 in the slot; 2 where offset_size is not 2, 4 or 8; or 13. */
+struct fractal_heap_opened_plan fractal_heap_open_plan(uint8_t offset_size, uint8_t *slot, size_t slot_len);
+
+/* Adds an object of `size` bytes. The answer is its heap offset, and 0. It is refused by 11 where it is larger than
+ * 65,536 - (14 + offset size), by 12 where no slot of the heap space is left for it, or the plan has 2^64 - 1
+ * objects; both have the count of accepted objects as the index. 11 goes before 12. A refusal, 13 too, leaves the
+ * plan as it was, and a smaller object may still be accepted. */
+uint32_t fractal_heap_plan_add(struct fractal_heap_plan *plan, uint64_t size, uint8_t *slot, size_t slot_len);
+
+/* What the heap header says of the objects that were accepted so far. Eight numbers go into the first places of the
+ * list, in this order: how many blocks, the region's size, the root's rows (0: the root is a direct block), the
+ * root's place in the region, managed space, allocated space, free space, the allocation iterator. Places behind
+ * them keep their content. totals_len counts numbers; a list of fewer than eight gives 13 and is not written. */
+uint32_t fractal_heap_plan_totals(const struct fractal_heap_plan *plan, uint64_t *totals, size_t totals_len);
+
+/* Puts the ID of an object of `size` bytes at a heap offset into eight bytes: 0, the offset in five bytes, the size
+ * in two. Returns 0; or 16 where the offset is not below 2^40 or the size not below 2^16, and then nothing is put.
+ * Adding accepts an object without bytes at heap offset 2^40, the end of the heap space: that one has no ID. */
+static inline uint32_t fractal_heap_put_managed_id(uint8_t *id, uint64_t offset, uint64_t size)
+{
+    int i;
+    if (offset >> 40 != 0 || size >> 16 != 0)
+        return FRACTAL_HEAP_HEAP_ID_TOO_LARGE;
+    id[0] = 0;
+    for (i = 0; i < 5; i++)
+        id[1 + i] = (uint8_t)(offset >> 8 * i);
+    for (i = 0; i < 2; i++)
+        id[6 + i] = (uint8_t)(size >> 8 * i);
+    return FRACTAL_HEAP_OK;
+}
 
 #ifdef __cplusplus
 }

@@ -1,7 +1,8 @@
 //! Managed objects of an HDF5 fractal heap, found by their IDs, through functions that are proved against the HDF5 File
 //! Format Specification: on every input they end, read nothing outside of what they are lent, and answer or refuse by a
-//! definition (`docs/PROOFS.md` in the repository). This crate makes the three C functions of the library
-//! `fractal_heap_c` safe to call.
+//! definition (`docs/PROOFS.md` in the repository). This crate makes the C functions of the library `fractal_heap_c` safe
+//! to call. It also has the plan of a heap that is written, [`OpenPlan`]: it is advanced by one object at a time, and each
+//! has its ID at once.
 //!
 //! ```
 //! use fractal_heap::{Error, Heap, Refusal};
@@ -52,10 +53,12 @@
 #![warn(missing_docs)]
 
 mod numbers;
+mod open_plan;
 mod refusal;
 mod superblock;
 
 pub use numbers::{count, grouped};
+pub use open_plan::{Added, OpenPlan, Totals};
 pub use refusal::Refusal;
 pub use superblock::Superblock;
 

@@ -10,6 +10,9 @@
 //! Each pointer is to as many elements as the length behind it says, for reading where it is `*const`, for writing
 //! where it is `*mut`; of no elements it may be anything that is not read. What is written overlaps nothing else that is
 //! lent to the call. Nothing is kept after it.
+//!
+//! A plan is lent only as opening and additions have left it, after an opening that was not refused, and to one call
+//! at a time.
 
 #[cfg(feature = "tools")]
 mod tools;
@@ -36,6 +39,49 @@ pub const FRACTAL_HEAP_OBJECT_BYTES_MISMATCH: u32 = 14;
 pub const FRACTAL_HEAP_ADDRESS_TOO_LARGE: u32 = 15;
 pub const FRACTAL_HEAP_HEAP_ID_TOO_LARGE: u32 = 16;
 
+// Bytes of an open plan, its alignment, and how many numbers its totals are.
+pub const FRACTAL_HEAP_PLAN_SIZE: u32 = 72;
+pub const FRACTAL_HEAP_PLAN_ALIGNMENT: u32 = 8;
+pub const FRACTAL_HEAP_PLAN_TOTALS: u32 = 8;
+
+/// Where planning stands. Neither this nor what it is a part of is `Clone`: see [`OpenPlan`].
+#[derive(Debug)]
+#[repr(C)]
+pub struct State {
+    pub start: u64,
+    pub size: u64,
+    pub fill: u64,
+    pub count: u64,
+    pub allocated: u64,
+    pub used: u64,
+    pub indirect: u64,
+}
+
+/// A plan under way, for addresses of `offset_size` bytes.
+#[derive(Debug)]
+#[repr(C)]
+pub struct Planner {
+    pub offset_size: u8,
+    pub state: State,
+}
+
+/// A plan that objects are added to one by one. Two copies that are both added to would give one heap offset to two
+/// objects.
+#[derive(Debug)]
+#[repr(C)]
+pub struct OpenPlan {
+    pub planner: Planner,
+    pub objects: u64,
+}
+
+/// What opening hands back; where the number is not 0, the plan is of no use.
+#[derive(Debug)]
+#[repr(C)]
+pub struct OpenedPlan {
+    pub number: u32,
+    pub plan: OpenPlan,
+}
+
 #[link(name = "fractal_heap_c", kind = "static")]
 unsafe extern "C" {
     pub fn fractal_heap_checksum(bytes: *const u8, bytes_len: usize) -> u32;
@@ -60,5 +106,17 @@ unsafe extern "C" {
         id_len: usize,
         slot: *mut u8,
         slot_len: usize,
+    ) -> u32;
+    pub fn fractal_heap_open_plan(offset_size: u8, slot: *mut u8, slot_len: usize) -> OpenedPlan;
+    pub fn fractal_heap_plan_add(
+        plan: *mut OpenPlan,
+        size: u64,
+        slot: *mut u8,
+        slot_len: usize,
+    ) -> u32;
+    pub fn fractal_heap_plan_totals(
+        plan: *const OpenPlan,
+        totals: *mut u64,
+        totals_len: usize,
     ) -> u32;
 }

@@ -1,12 +1,28 @@
 //! Holds the declarations for Rust to those for C and to the functions that are proved: names, parameters in their
-//! order, types, and the numbers of refusals. All are read from the sources, so that none can be changed alone. In a
-//! copy of this crate outside of the repository there is nothing to hold them to.
+//! order, types, the fields of structs, and the numbers of refusals. All are read from the sources, so that none can be
+//! changed alone. In a copy of this crate outside of the repository there is nothing to hold them to.
+use fractal_heap_sys::{
+    FRACTAL_HEAP_PLAN_ALIGNMENT, FRACTAL_HEAP_PLAN_SIZE, OpenPlan, OpenedPlan, Planner, State,
+};
 use std::collections::{BTreeMap, BTreeSet};
 use std::fs;
+use std::mem::{align_of, offset_of, size_of};
 use std::path::{Path, PathBuf};
 
 /// Functions, each in one line as Rust declares it: `name(parameter: type, ..) -> type`.
 type Functions = BTreeSet<String>;
+
+/// Structs by their names in Rust, each with its fields in their order, as Rust declares them: `name: type`.
+type Structs = BTreeMap<String, Vec<String>>;
+
+/// The structs that a function here lends or hands back: the name in C, that in Rust and Rattle, and the crate that is
+/// proved and has it.
+const STRUCTS: [(&str, &str, &str); 4] = [
+    ("fractal_heap_state", "State", "planner"),
+    ("fractal_heap_planner", "Planner", "planner"),
+    ("fractal_heap_plan", "OpenPlan", "open_plan"),
+    ("fractal_heap_opened_plan", "OpenedPlan", "fractal_heap_c"),
+];
 
 /// The repository, if this crate's folder is in it.
 fn repository() -> Option<PathBuf> {
@@ -54,13 +70,15 @@ fn without_line_comments(text: &str) -> String {
     text.lines().map(code).collect::<Vec<_>>().join("\n")
 }
 
-/// A slice is a pointer and a length for C.
+/// A slice is a pointer and a length for C, and one struct that is lent a pointer.
 fn pointer_and_length(name: &str, kind: &str) -> Vec<(String, String)> {
     let pointer = match kind {
         "&[u8]" => "*const u8",
         "&[u64]" => "*const u64",
         "&mut [u8]" => "*mut u8",
         "&mut [u64]" => "*mut u64",
+        "&OpenPlan" => return vec![(name.into(), "*const OpenPlan".into())],
+        "&mut OpenPlan" => return vec![(name.into(), "*mut OpenPlan".into())],
         _ => return vec![(name.into(), kind.into())],
     };
     vec![
@@ -98,8 +116,38 @@ fn proved_functions(text: &str) -> Functions {
     functions_after("pub extern \"C\" fn ", text)
 }
 
-/// C without comments, lines for the preprocessor, and what is in braces; a brace ends a statement.
-fn c_statements(text: &str) -> Vec<String> {
+/// The structs of these names that Rust's or Rattle's text lays out as C does. A ghost field is no field of what is
+/// compiled.
+fn structs_of(text: &str, names: &[&str]) -> Structs {
+    let text = without_line_comments(text);
+    let one = |name: &&str| {
+        let (before, rest) = text.split_once(&format!("pub struct {name} {{"))?;
+        let laid_out = before.trim_end().ends_with("#[repr(C)]");
+        // The braces of a field's proposition are within its line.
+        let (body, _) = rest.split_once("\n}")?;
+        let fields = body.lines().filter_map(|line| {
+            let field = line.trim().strip_prefix("pub ")?.strip_suffix(',')?;
+            (!field.starts_with("ghost ")).then(|| field.to_owned())
+        });
+        laid_out.then(|| (name.to_string(), fields.collect()))
+    };
+    names.iter().filter_map(one).collect()
+}
+
+fn rust_structs(text: &str) -> Structs {
+    structs_of(text, &STRUCTS.map(|(_, name, _)| name))
+}
+
+/// Each from the crate that has it.
+fn proved_structs(root: &Path) -> Structs {
+    let one = |(_, name, of): (&str, &str, &str)| {
+        structs_of(&proved(&root.join(format!("crates/{of}/src"))), &[name])
+    };
+    STRUCTS.into_iter().flat_map(one).collect()
+}
+
+/// C's text without comments and lines for the preprocessor.
+fn c_code(text: &str) -> String {
     let mut code = String::new();
     let mut rest = text;
     while let Some((before, comment)) = rest.split_once("/*") {
@@ -110,10 +158,18 @@ fn c_statements(text: &str) -> Vec<String> {
     let lines = code
         .lines()
         .filter(|line| !line.trim_start().starts_with('#'));
-    let code = lines.collect::<Vec<_>>().join("\n");
+    lines.collect::<Vec<_>>().join("\n")
+}
+
+fn one_line(text: &str) -> String {
+    text.split_whitespace().collect::<Vec<_>>().join(" ")
+}
+
+/// C without what is in braces; a brace ends a statement.
+fn c_statements(text: &str) -> Vec<String> {
     let mut outside = String::new();
     let mut depth = 0;
-    for c in code.replace("extern \"C\" {", "").chars() {
+    for c in c_code(text).replace("extern \"C\" {", "").chars() {
         match c {
             '{' => depth += 1,
             '}' if depth > 0 => {
@@ -125,8 +181,26 @@ fn c_statements(text: &str) -> Vec<String> {
             _ => {}
         }
     }
-    let one_line = |statement: &str| statement.split_whitespace().collect::<Vec<_>>().join(" ");
     outside.split(';').map(one_line).collect()
+}
+
+/// The structs that a function here lends or hands back, as C's text lays them out. What C++ alone has in them are
+/// functions.
+fn c_structs(text: &str) -> Structs {
+    let code = c_code(text);
+    let one = |(c_struct, name, _): (&str, &str, &str)| {
+        let (_, rest) = code.split_once(&format!("struct {c_struct} {{"))?;
+        let (body, _) = rest.split_once('}')?;
+        let fields = body.split(';').map(one_line);
+        let fields = fields
+            .filter(|field| !field.is_empty() && !field.contains('('))
+            .map(|field| {
+                let (name, kind) = c_name(&field);
+                format!("{name}: {kind}")
+            });
+        Some((name.to_owned(), fields.collect()))
+    };
+    STRUCTS.into_iter().filter_map(one).collect()
 }
 
 /// A type of C's as Rust has it.
@@ -138,6 +212,11 @@ fn c_type(kind: &str) -> String {
         },
         None => (kind.trim(), ""),
     };
+    if let Some(name) = kind.strip_prefix("struct ") {
+        let is_it = |known: &&(&str, &str, &str)| known.0 == name;
+        let known = STRUCTS.iter().find(is_it);
+        return format!("{pointer}{}", known.expect("a struct of ours").1);
+    }
     let kind = match kind {
         "uint8_t" => "u8",
         "uint16_t" => "u16",
@@ -202,9 +281,32 @@ fn the_header_declares_what_rust_is_declared() {
     let Some(root) = repository() else { return };
     let (header, rust) = (text(&root, "loader/fractal_heap.h"), rust(&root, "lib"));
     assert_eq!(c_functions(&header), rust_functions(&rust));
-    assert_eq!(rust_functions(&rust).len(), 3);
+    assert_eq!(rust_functions(&rust).len(), 6);
     assert_eq!(numbers(&header), numbers(&rust));
-    assert_eq!(numbers(&rust).len(), 17);
+    assert_eq!(numbers(&rust).len(), 17 + 3);
+    assert_eq!(c_structs(&header), rust_structs(&rust));
+    let fields: usize = rust_structs(&rust).values().map(Vec::len).sum();
+    assert_eq!((rust_structs(&rust).len(), fields), (4, 7 + 2 + 2 + 2));
+}
+
+/// By the C ABI: eight numbers of 64 bits, the byte before them, and what aligns it. That the compiled library has them
+/// at these places, loader/example.c looks for in a plan whose numbers differ.
+#[test]
+fn an_open_plan_has_the_size_and_the_alignment_that_the_header_says() {
+    assert_eq!(size_of::<OpenPlan>(), FRACTAL_HEAP_PLAN_SIZE as usize);
+    assert_eq!(align_of::<OpenPlan>(), FRACTAL_HEAP_PLAN_ALIGNMENT as usize);
+    assert_eq!((size_of::<State>(), align_of::<State>()), (56, 8));
+    assert_eq!((size_of::<Planner>(), align_of::<Planner>()), (64, 8));
+    assert_eq!((size_of::<OpenedPlan>(), align_of::<OpenedPlan>()), (80, 8));
+    assert_eq!(offset_of!(Planner, state), 8);
+    assert_eq!(offset_of!(OpenPlan, objects), 64);
+    assert_eq!(offset_of!(OpenedPlan, plan), 8);
+}
+
+#[test]
+fn the_structs_of_the_proved_crates_are_those_declared() {
+    let Some(root) = repository() else { return };
+    assert_eq!(proved_structs(&root), rust_structs(&rust(&root, "lib")));
 }
 
 #[test]
@@ -241,11 +343,15 @@ fn what_a_c_program_declares_of_tools_c_is_declared_here() {
 fn a_change_of_one_side_is_seen() {
     let Some(root) = repository() else { return };
     let (header, rust) = (text(&root, "loader/fractal_heap.h"), rust(&root, "lib"));
-    let sources = proved(&root.join("crates/fractal_heap_c/src"));
+    let sources = ["planner", "open_plan", "fractal_heap_c"]
+        .map(|name| proved(&root.join(format!("crates/{name}/src"))))
+        .concat();
     let same = |header: &str, rust: &str, sources: &str| {
         c_functions(header) == rust_functions(rust)
             && proved_functions(sources) == rust_functions(rust)
             && numbers(header) == numbers(rust)
+            && c_structs(header) == rust_structs(rust)
+            && rust_structs(rust) == rust_structs(sources)
     };
     let changed = |text: &str, from: &str, to: &str| {
         assert!(text.contains(from), "{from}");
@@ -268,6 +374,23 @@ fn a_change_of_one_side_is_seen() {
         ("fractal_heap_checksum(const", "fractal_heap_sum(const"),
         ("SLICE_TOO_SHORT = 13", "SLICE_TOO_SHORT = 12"),
         ("FRACTAL_HEAP_DEPTH_EXCEEDED", "FRACTAL_HEAP_DEPTH"),
+        ("FRACTAL_HEAP_PLAN_SIZE = 72", "FRACTAL_HEAP_PLAN_SIZE = 64"),
+        (
+            "const struct fractal_heap_plan *",
+            "struct fractal_heap_plan *",
+        ),
+        ("uint64_t *totals", "uint32_t *totals"),
+        ("uint64_t fill;", "uint32_t fill;"),
+        ("uint64_t indirect;", ""),
+        ("uint64_t objects;", "uint64_t objects; uint64_t bytes;"),
+        (
+            "uint8_t offset_size;                /* bytes of an address */\n    struct fractal_heap_state state;",
+            "struct fractal_heap_state state;\n    uint8_t offset_size;",
+        ),
+        (
+            "struct fractal_heap_opened_plan fractal_heap_open_plan",
+            "struct fractal_heap_plan fractal_heap_open_plan",
+        ),
     ] {
         assert!(
             !same(&changed(&header, from, to), &rust, &sources),
@@ -281,6 +404,9 @@ fn a_change_of_one_side_is_seen() {
         ("bytes_len: usize) -> u32", "bytes_len: usize) -> u64"),
         ("SLICE_TOO_SHORT: u32 = 13", "SLICE_TOO_SHORT: u32 = 14"),
         ("pub const FRACTAL_HEAP_OK: u32 = 0;", ""),
+        ("plan: *const OpenPlan", "plan: *mut OpenPlan"),
+        ("pub count: u64,", "pub count: u32,"),
+        ("#[repr(C)]\npub struct Planner", "pub struct Planner"),
     ] {
         assert!(
             !same(&header, &changed(&rust, from, to), &sources),
@@ -291,6 +417,13 @@ fn a_change_of_one_side_is_seen() {
         ("id: &[u8]", "id: &mut [u8]"),
         ("at: u64", "at: u32"),
         ("fractal_heap_checksum", "checksum_of"),
+        ("plan: &OpenPlan", "plan: &mut OpenPlan"),
+        ("#[repr(C)]\npub struct State", "pub struct State"),
+        (
+            "pub allocated: u64,\n    pub used: u64,",
+            "pub used: u64,\n    pub allocated: u64,",
+        ),
+        ("pub ghost reached", "pub reached"),
     ] {
         assert!(
             !same(&header, &rust, &changed(&sources, from, to)),
