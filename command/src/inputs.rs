@@ -16,7 +16,7 @@ use std::os::fd::AsFd;
 use std::os::unix::ffi::OsStrExt;
 use std::os::unix::fs::{FileTypeExt, MetadataExt};
 
-/// No more is taken from a pipe.
+/// No more is taken from a pipe, or of a list.
 const LARGEST_PIPE: u64 = 1 << 30;
 /// Bytes that are read at once from it.
 const STRIDE: usize = 1 << 16;

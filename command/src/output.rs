@@ -170,9 +170,11 @@ impl Output {
             Unfinished::Unnamed(file) => {
                 give_name(&file, name, self.force).map_err(|error| taken(name, error))?
             }
-            Unfinished::Named(_, path) => persist(path, name, self.force)?,
+            // From then on that name may be another process's: no signal takes its file away.
+            Unfinished::Named(_, path) => signals::uninterrupted(|| {
+                persist(path, name, self.force).inspect(|()| signals::set_unfinished(None))
+            })?,
         }
-        signals::set_unfinished(None);
         Ok(())
     }
 }
@@ -231,7 +233,7 @@ fn free_name<T>(folder: &Path, work: impl Fn(PathBuf, CString) -> io::Result<T>)
         let entry = c_string(&path)?;
         match work(path, entry) {
             Err(error) if error.kind() == io::ErrorKind::AlreadyExists => number += 1,
-            done => return done,
+            answer => return answer,
         }
     }
 }
@@ -275,8 +277,8 @@ fn rename(from: &CStr, to: &CStr) -> io::Result<()> {
 }
 
 /// What a call to the system says of itself.
-fn done(answer: c_int) -> io::Result<()> {
-    match answer {
+fn done(status: c_int) -> io::Result<()> {
+    match status {
         0 => Ok(()),
         _ => Err(io::Error::last_os_error()),
     }
