@@ -37,12 +37,17 @@ and compared. A file has at most 65,514 bytes (at offset size 8).
 Every ID is planned anew from all sizes so far, so that twice as many files take four
 times as long: 100,000 take some 20 seconds.
 
-IMAGE appears whole or not at all: it has no name, or where the file system has no such
-files another one (.poilures-*, to be deleted where the computer stopped or the program
-was killed in between), until all of it is on the disk. Objects of more than 256 MB are
-joined in a file without a name in the same folder, so that the disk has to have room
-for them and for IMAGE. An image holds the heap alone: it is no HDF5 file, and HDF5's
-tools do not open it.
+IMAGE appears whole or not at all: until all of it is on the disk it has no name, or
+where the file system has no such files another one, .poilures-*. With --force it has
+such a name for a moment, before it takes the place of the file that is there. Delete
+one that is left where the computer stopped or the program was killed in between.
+
+Objects of more than 256 MB are joined in a file without a name in the same folder, so
+that the disk has to have room for them and for IMAGE. With --out - that folder is the
+one for temporary files (TMPDIR, else /tmp), and there the image is, too, where objects
+and image together have more than 256 MB.
+
+An image holds the heap alone: it is no HDF5 file, and HDF5's tools do not open it.
 
 INDEX appears in the same way, after IMAGE. It has a line of JSON for each object, with
 its id, its length and the name of its file; of a name that is no UTF-8 it has the bytes
@@ -208,7 +213,8 @@ pub struct Read {
     /// Replace files that are there already.
     #[arg(long, requires = "kept")]
     pub force: bool,
-    /// Say nothing on standard error but why something fails, and what is wrong with the file.
+    /// Say nothing on standard error but why something fails, what is wrong with the file, and that an ID seems to be
+    /// turned round.
     #[arg(short, long)]
     pub quiet: bool,
     /// Bytes of an address, 2, 4 or 8 [default: the superblock's, else 8].

@@ -115,12 +115,6 @@ pub struct Layout {
 impl Layout {
     pub fn new(place: &Place, region_size: u64) -> Result<Self, Failure> {
         let size = size(place, region_size)?;
-        if i64::try_from(size).is_err() {
-            let size = grouped(size);
-            return Err(Failure::Use(format!(
-                "an image of {size} bytes is larger than a file can be"
-            )));
-        }
         let header = header_size(place.offset_size, place.length_size);
         Ok(Layout {
             header: place.header_at..place.header_at + header,
@@ -174,11 +168,14 @@ fn maps_no_writing(error: &io::Error) -> bool {
 /// Has the disk keep room for this part of a file.
 fn take_room(file: &File, part: &Range<u64>) -> io::Result<()> {
     let (start, length) = (part.start as i64, (part.end - part.start) as i64);
-    // SAFETY: the call is about an open file, and no memory.
-    match unsafe { libc::posix_fallocate64(file.as_raw_fd(), start, length) } {
-        // Where a disk cannot promise it, the signal's handler has the word.
-        0 | libc::EOPNOTSUPP => Ok(()),
-        error => Err(io::Error::from_raw_os_error(error)),
+    loop {
+        // SAFETY: the call is about an open file, and no memory.
+        match unsafe { libc::posix_fallocate64(file.as_raw_fd(), start, length) } {
+            // Where a disk cannot promise it, the signal's handler has the word.
+            0 | libc::EOPNOTSUPP => return Ok(()),
+            libc::EINTR => {}
+            error => return Err(io::Error::from_raw_os_error(error)),
+        }
     }
 }
 

@@ -2,7 +2,7 @@
 use crate::arguments::Write as Arguments;
 use crate::failure::Failure;
 use crate::id::{HeapId, hex};
-use crate::inputs;
+use crate::inputs::{self, Identity};
 use crate::output::{self, Output};
 use crate::write::Objects;
 use serde_json::{Value, json};
@@ -33,7 +33,7 @@ fn is_one_file(a: &Path, b: &Path) -> bool {
 }
 
 /// Before anything is taken in: whether the index may go where it shall.
-pub fn may_go(arguments: &Arguments, names: &[&OsStr]) -> Result<(), Failure> {
+pub fn may_go(arguments: &Arguments, is_input: impl Fn(Identity) -> bool) -> Result<(), Failure> {
     let Some(name) = &arguments.index else {
         return Ok(());
     };
@@ -46,33 +46,35 @@ pub fn may_go(arguments: &Arguments, names: &[&OsStr]) -> Result<(), Failure> {
     if arguments.out.iter().any(|out| is_one_file(out, name)) {
         return Err(unwritten(&"the image shall be there"));
     }
-    let is_input = |file| {
-        let mut all = names
-            .iter()
-            .copied()
-            .chain(arguments.files0_from.as_deref());
-        all.any(|name| inputs::identity_of(name) == Some(file))
-    };
     output::may_go(name, arguments.force, is_input)?;
     // A folder that is not there is not to be missed only when the image is whole.
     let folder = fs::metadata(output::folder(name));
     folder.map(|_| ()).map_err(|error| unwritten(&error))
 }
 
-/// Keeps a line for each object, when the image is whole.
-pub fn keep(arguments: &Arguments, names: &[&OsStr], objects: &Objects) -> Result<(), Failure> {
+/// Keeps a line for each object, when the image is whole. Two names may be one file, where a file system does not tell
+/// capitals from small letters: whether the index's is the image's is seen when the image is there.
+pub fn keep(
+    arguments: &Arguments,
+    names: &[&OsStr],
+    objects: &Objects,
+    image: Option<Identity>,
+) -> Result<(), Failure> {
     let Some(index) = &arguments.index else {
         return Ok(());
     };
+    if image.is_some() && inputs::identity_of(index.as_os_str()) == image {
+        return Err(Failure::file(index, "written", "the image is there"));
+    }
     let is_input = |file| objects.files.contains(&file);
     let output = Output::begin(index, arguments.force, is_input)?;
     let mut to = BufWriter::new(output.file());
     for ((id, size), name) in objects.ids.iter().zip(&objects.sizes).zip(names) {
         let mut line = json!({"id": HeapId::new(id).to_string(), "length": size});
         put_name(&mut line, "name", name);
-        writeln!(to, "{line}").map_err(|error| output.failed(error))?;
+        writeln!(to, "{line}").map_err(|error| output.unwritten(error))?;
     }
-    to.flush().map_err(|error| output.failed(error))?;
+    to.flush().map_err(|error| output.unwritten(error))?;
     drop(to);
-    output.finish(is_input)
+    output.finish(is_input).map(|_| ())
 }

@@ -16,7 +16,7 @@ use std::os::fd::AsFd;
 use std::os::unix::ffi::OsStrExt;
 use std::os::unix::fs::{FileTypeExt, MetadataExt};
 
-/// No more is taken from a pipe.
+/// No more is taken from a pipe, or of a list.
 const LARGEST_PIPE: u64 = 1 << 30;
 /// Bytes that are read at once from it.
 const STRIDE: usize = 1 << 16;
@@ -79,6 +79,11 @@ pub fn identity_of(name: &OsStr) -> Option<Identity> {
     Some(identity(&known.ok()?))
 }
 
+/// Whether a file goes by one of these names.
+pub fn is_among<'n>(file: Identity, mut names: impl Iterator<Item = &'n OsStr>) -> bool {
+    names.any(|name| identity_of(name) == Some(file))
+}
+
 /// Refuses inputs that are written to as well, before a byte is written; no file is opened for that.
 pub fn refuse_written<'n>(mut names: impl Iterator<Item = &'n OsStr>) -> Result<(), Failure> {
     names.try_for_each(|name| identity_of(name).map_or(Ok(()), streams::refuse_input))
@@ -92,7 +97,7 @@ pub struct Taken {
 
 /// Room for what `take_in` reads of a file, so that reading asks for no more.
 pub fn room_for_one() -> Result<Vec<u8>, Failure> {
-    memory::list(2 * LARGEST_DIRECT as usize)
+    memory::with_room(2 * LARGEST_DIRECT as usize)
 }
 
 /// Reads a file as an object. Of a file that is too large for an object only the size is of use, so no more of it is
@@ -112,15 +117,20 @@ pub fn take_in(name: &OsStr, object: &mut Vec<u8>) -> Result<Taken, Failure> {
     })
 }
 
-/// What comes from a pipe, or from a file that is not taken from its start.
-fn read_on(name: &OsStr, mut file: File) -> Result<Bytes, Failure> {
+/// What comes from a pipe, or from a file that is not taken from its start; `too_much` says why more is not taken.
+fn read_on(name: &OsStr, mut file: File, too_much: &str) -> Result<Bytes, Failure> {
     let unread = |why: &dyn Display| Failure::file(name, "read", why);
     let known = file.metadata().map_err(|error| unread(&error))?;
     if let Some(kind) = other_kind(known.file_type()) {
         return Err(unread(&kind));
     }
+    // Of a file it is known before it is read.
+    let at = file.stream_position().unwrap_or(0);
+    if known.is_file() && known.len().saturating_sub(at) > LARGEST_PIPE {
+        return Err(unread(&too_much));
+    }
     let mut joined = Joined::in_memory();
-    let mut part = memory::list(STRIDE)?;
+    let mut part = memory::with_room(STRIDE)?;
     part.resize(STRIDE, 0);
     loop {
         match file.read(&mut part) {
@@ -130,27 +140,29 @@ fn read_on(name: &OsStr, mut file: File) -> Result<Bytes, Failure> {
             Err(error) => return Err(unread(&error)),
         }
         if joined.size() > LARGEST_PIPE {
-            let why = "more than 1 GiB comes from it, and it is no whole file";
-            return Err(unread(&why));
+            return Err(unread(&too_much));
         }
     }
 }
 
 /// A list of names, as it was read.
 pub fn list(name: &OsStr) -> Result<Bytes, Failure> {
-    read_on(name, open(name)?.file)
+    let too_much = "a list of more than 1 GiB is not taken";
+    read_on(name, open(name)?.file, too_much)
+}
+
+/// What stands in a list between zero bytes, whether it is a name or not.
+pub fn pieces(bytes: &[u8]) -> impl Iterator<Item = &OsStr> {
+    let whole = bytes.strip_suffix(b"\0").unwrap_or(bytes);
+    let each = whole.split(|&byte| byte == 0).map(OsStr::from_bytes);
+    each.take(if bytes.is_empty() { 0 } else { usize::MAX })
 }
 
 /// The names in a list, each ended by a zero byte.
 pub fn names<'l>(list: &OsStr, bytes: &'l [u8]) -> Result<Vec<&'l OsStr>, Failure> {
-    if bytes.is_empty() {
-        return Ok(Vec::new());
-    }
-    let bytes = bytes.strip_suffix(b"\0").unwrap_or(bytes);
-    let each = || bytes.split(|&byte| byte == 0);
-    let mut names = memory::list(each().count())?;
-    for (i, name) in each().enumerate() {
-        match name {
+    let mut names = memory::with_room(pieces(bytes).count())?;
+    for (i, name) in pieces(bytes).enumerate() {
+        match name.as_bytes() {
             b"" => {
                 let list = shown(list);
                 return Err(Failure::Use(format!("name {} in {list} is empty", i + 1)));
@@ -158,7 +170,7 @@ pub fn names<'l>(list: &OsStr, bytes: &'l [u8]) -> Result<Vec<&'l OsStr>, Failur
             b"-" if is_standard(list) => {
                 return Err(Failure::Use("standard input is the list already".into()));
             }
-            name => names.push(OsStr::from_bytes(name)),
+            _ => names.push(name),
         }
     }
     Ok(names)
@@ -215,7 +227,10 @@ pub fn whole(name: &OsStr) -> Result<Bytes, Failure> {
     let from_start = file.stream_position().is_ok_and(|at| at == 0);
     match known.is_file() && from_start {
         true => map(file, name).map_err(|error| Failure::file(name, "read", error)),
-        false => read_on(name, file),
+        false => {
+            let too_much = "more than 1 GiB comes from it, and it is no whole file";
+            read_on(name, file, too_much)
+        }
     }
 }
 

@@ -53,12 +53,14 @@ impl Joined {
     pub fn add(&mut self, bytes: &[u8]) -> Result<(), Failure> {
         self.size += bytes.len() as u64;
         if let (true, None, Some(folder)) = (self.size > self.most, &self.file, &self.folder) {
-            let file = begun(folder, &self.memory).map_err(|error| failed(folder, error))?;
+            let file = begun(folder, &self.memory).map_err(|error| no_file(folder, error))?;
             self.file = Some(file);
             self.memory = Vec::new();
         }
         if let (Some(file), Some(folder)) = (&mut self.file, &self.folder) {
-            return file.write_all(bytes).map_err(|error| failed(folder, error));
+            return file
+                .write_all(bytes)
+                .map_err(|error| no_file(folder, error));
         }
         if self.memory.capacity() - self.memory.len() < bytes.len() {
             let more = bytes.len().max(step(self.memory.len()));
@@ -73,11 +75,11 @@ impl Joined {
         let (Some(file), Some(folder)) = (&self.file, &self.folder) else {
             return Ok(Bytes::Read(self.memory));
         };
-        signals::set_mapped(&failed(folder, io::Error::other("its disk failed")));
+        signals::set_mapped(&no_file(folder, io::Error::other("its disk failed")));
         // SAFETY: the file has no name and is written no more.
         let map = unsafe { Mmap::map(file) };
         map.map(Bytes::Memory)
-            .map_err(|error| failed(folder, error))
+            .map_err(|error| no_file(folder, error))
     }
 }
 
@@ -94,7 +96,7 @@ pub fn unnamed(folder: &Path) -> io::Result<File> {
 }
 
 /// Why a file without a name cannot be used.
-pub fn failed(folder: &Path, error: io::Error) -> Failure {
+pub fn no_file(folder: &Path, error: io::Error) -> Failure {
     Failure::Use(format!(
         "what does not fit into memory cannot be put into a file in {}: {error}",
         shown(folder)

@@ -81,7 +81,7 @@ fn not_parsed(error: &clap::Error) -> Result<(), Failure> {
     let words = words.trim_end().into();
     // Which words are inputs is not known, so standard error is none of them.
     let is_error = |word: OsString| {
-        let value = word.as_bytes().split(|&byte| byte == b'=').nth(1);
+        let value = word.as_bytes().splitn(2, |&byte| byte == b'=').nth(1);
         streams::is_error(&word) || value.is_some_and(|v| streams::is_error(OsStr::from_bytes(v)))
     };
     match std::env::args_os().skip(1).any(is_error) {
@@ -104,14 +104,23 @@ fn run() -> Result<(), Failure> {
     }
 }
 
-fn main() -> ExitCode {
-    let Err(failure) = run() else {
-        return ExitCode::SUCCESS;
-    };
-    match &failure {
+/// Says why the program ends, and with which status.
+fn ended(failure: &Failure) -> u8 {
+    match failure {
         Failure::Use(words) | Failure::Not(words) => tell(&format!("poilures: {words}")),
         Failure::Mute(words) => streams::tell_terminal(&format!("poilures: {words}")),
         Failure::Closed => {}
     }
-    ExitCode::from(failure.exit_status())
+    failure.exit_status()
+}
+
+/// The streams are closed here, where what they did not take can still be said.
+fn main() -> ExitCode {
+    let printed = || streams::close_output().map_err(|error| Failure::printing(&error));
+    let status = run().and_then(|()| printed()).err();
+    let status = status.map_or(0, |failure| ended(&failure));
+    match (status, streams::close_error()) {
+        (0, Err(error)) => ExitCode::from(Failure::printing(&error).exit_status()),
+        _ => ExitCode::from(status),
+    }
 }

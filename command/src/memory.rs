@@ -22,17 +22,17 @@ static MEMORY: Memory = Memory;
 unsafe impl GlobalAlloc for Memory {
     unsafe fn alloc(&self, layout: Layout) -> *mut u8 {
         // SAFETY: the caller keeps what it has to.
-        had(unsafe { System.alloc(layout) }, layout.size())
+        or_end(unsafe { System.alloc(layout) }, layout.size())
     }
 
     unsafe fn alloc_zeroed(&self, layout: Layout) -> *mut u8 {
         // SAFETY: the caller keeps what it has to.
-        had(unsafe { System.alloc_zeroed(layout) }, layout.size())
+        or_end(unsafe { System.alloc_zeroed(layout) }, layout.size())
     }
 
     unsafe fn realloc(&self, at: *mut u8, layout: Layout, size: usize) -> *mut u8 {
         // SAFETY: the caller keeps what it has to.
-        had(unsafe { System.realloc(at, layout, size) }, size)
+        or_end(unsafe { System.realloc(at, layout, size) }, size)
     }
 
     unsafe fn dealloc(&self, at: *mut u8, layout: Layout) {
@@ -41,7 +41,7 @@ unsafe impl GlobalAlloc for Memory {
     }
 }
 
-fn had(at: *mut u8, size: usize) -> *mut u8 {
+fn or_end(at: *mut u8, size: usize) -> *mut u8 {
     if at.is_null() && !ASKING.get() {
         end(size);
     }
@@ -89,7 +89,7 @@ pub fn reserve<T>(list: &mut Vec<T>, more: usize) -> Result<(), Failure> {
 }
 
 /// A list that takes so many items without asking again.
-pub fn list<T>(items: usize) -> Result<Vec<T>, Failure> {
+pub fn with_room<T>(items: usize) -> Result<Vec<T>, Failure> {
     let mut list = Vec::new();
     reserve(&mut list, items)?;
     Ok(list)
@@ -101,7 +101,7 @@ mod tests {
 
     #[test]
     fn what_is_not_there_is_answered() {
-        let asked = list::<u64>(1 << 59);
+        let asked = with_room::<u64>(1 << 59);
         let Err(Failure::Use(words)) = asked else {
             panic!("it is there");
         };

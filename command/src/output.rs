@@ -2,7 +2,9 @@
 use crate::failure::Failure;
 use crate::inputs::{Identity, identity, other_kind};
 use crate::signals;
-use std::ffi::CString;
+use crate::streams;
+use libc::c_int;
+use std::ffi::{CStr, CString};
 use std::fs::{self, File, Metadata, OpenOptions, Permissions};
 use std::io;
 use std::os::fd::AsRawFd;
@@ -10,7 +12,7 @@ use std::os::unix::ffi::OsStrExt;
 use std::os::unix::fs::{FileTypeExt, MetadataExt, OpenOptionsExt, PermissionsExt, fchown};
 use std::path::{Path, PathBuf};
 use std::process;
-use tempfile::{NamedTempFile, PersistError};
+use tempfile::{PathPersistError, TempPath};
 
 /// The names of unfinished files begin so.
 const PREFIX: &str = ".poilures-";
@@ -23,10 +25,11 @@ pub struct Output {
 }
 
 enum Unfinished {
-    /// In the same folder, without a name: whatever ends the program, nothing is left.
+    /// In the same folder, without a name: whatever ends the program, nothing is left, but for a file that is to replace
+    /// another and has a third name for a moment.
     Unnamed(File),
     /// Under another name in the same folder.
-    Named(NamedTempFile),
+    Named(File, TempPath),
 }
 
 fn unwritten(name: &Path, error: impl std::fmt::Display) -> Failure {
@@ -51,7 +54,7 @@ fn standing(name: &Path) -> Result<Option<Metadata>, Failure> {
 }
 
 /// Whether a file may go by this name: not where something else than a file is, not over another without `force`, and
-/// never over an input.
+/// never over an input, nor over what is printed.
 pub fn may_go(
     name: &Path,
     force: bool,
@@ -70,7 +73,7 @@ pub fn may_go(
     {
         return Err(unwritten(name, "it is read as well"));
     }
-    let kind = behind.unwrap_or_else(|| known.clone()).file_type();
+    let kind = behind.as_ref().unwrap_or(&known).file_type();
     match other_kind(kind) {
         _ if kind.is_fifo() => return Err(unwritten(name, "it is a pipe")),
         Some(other) if !kind.is_symlink() => return Err(unwritten(name, other)),
@@ -82,6 +85,10 @@ pub fn may_go(
             name,
             "it is an open file's link; - is standard output",
         ));
+    }
+    let stream = behind.map_or(Ok(None), |known| streams::written_as(identity(&known)))?;
+    if let Some(stream) = stream {
+        return Err(unwritten(name, format!("it is {stream} as well")));
     }
     match force {
         true => Ok(()),
@@ -110,19 +117,18 @@ impl Output {
         let name = name.to_path_buf();
         may_go(&name, force, is_input)?;
         let file = match unnamed(folder(&name)) {
-            Ok(file) => Ok(Unfinished::Unnamed(file)),
-            Err(_) => named(folder(&name)).map(Unfinished::Named),
+            Ok(file) => Ok(file),
+            Err(_) => named(folder(&name)),
         };
         match file {
             Ok(file) => Ok(Output { name, force, file }),
-            Err(error) => Err(unwritten(&name, plain(error))),
+            Err(error) => Err(unwritten(&name, error)),
         }
     }
 
     pub fn file(&self) -> &File {
         match &self.file {
-            Unfinished::Unnamed(file) => file,
-            Unfinished::Named(file) => file.as_file(),
+            Unfinished::Unnamed(file) | Unfinished::Named(file, _) => file,
         }
     }
 
@@ -132,16 +138,17 @@ impl Output {
     }
 
     /// Says why writing failed.
-    pub fn failed(&self, error: io::Error) -> Failure {
+    pub fn unwritten(&self, error: io::Error) -> Failure {
         unwritten(&self.name, error)
     }
 
-    /// Gives the file its name, when all of it is on the disk, and has the name there, too.
-    pub fn finish(self, is_input: impl Fn(Identity) -> bool) -> Result<(), Failure> {
+    /// Gives the file its name, when all of it is on the disk, and has the name there, too. Which file it is comes back.
+    pub fn finish(self, is_input: impl Fn(Identity) -> bool) -> Result<Identity, Failure> {
         let folder = self.folder().to_path_buf();
+        let known = self.file().metadata().map_err(|e| self.unwritten(e))?;
         self.give_name(is_input)?;
         sync_folder(&folder);
-        Ok(())
+        Ok(identity(&known))
     }
 
     /// Gives the file its name, when all of it is on the disk. The name is there when its folder is synced.
@@ -163,9 +170,11 @@ impl Output {
             Unfinished::Unnamed(file) => {
                 give_name(&file, name, self.force).map_err(|error| taken(name, error))?
             }
-            Unfinished::Named(file) => persist(file, name, self.force)?,
+            // From then on that name may be another process's: no signal takes its file away.
+            Unfinished::Named(_, path) => signals::uninterrupted(|| {
+                persist(path, name, self.force).inspect(|()| signals::set_unfinished(None))
+            })?,
         }
-        signals::set_unfinished(None);
         Ok(())
     }
 }
@@ -195,62 +204,83 @@ fn shown_at(file: &File) -> PathBuf {
 }
 
 /// A file without a name, which can be given one. Not all file systems have such files, and the name needs /proc.
-fn unnamed(folder: &Path) -> io::Result<File> {
+fn unnamed(folder: &Path) -> io::Result<Unfinished> {
     let mut options = OpenOptions::new();
     options.read(true).write(true).mode(0o600);
     let file = options.custom_flags(libc::O_TMPFILE).open(folder)?;
-    fs::read_link(shown_at(&file)).map(|_| file)
+    fs::read_link(shown_at(&file)).map(|_| Unfinished::Unnamed(file))
 }
 
-/// A file by another name, which signals take away.
-fn named(folder: &Path) -> io::Result<NamedTempFile> {
+/// A file by another name, which signals take away, and so does the end of memory: nothing asks for any between the making
+/// of the file and the entry of its name.
+fn named(folder: &Path) -> io::Result<Unfinished> {
+    let mut options = OpenOptions::new();
+    options.read(true).write(true).create_new(true).mode(0o600);
     signals::uninterrupted(|| {
-        let mut builder = tempfile::Builder::new();
-        let file = builder.prefix(PREFIX).tempfile_in(folder);
-        signals::set_unfinished(file.as_ref().ok().map(NamedTempFile::path));
-        file
-    })
-}
-
-/// Gives a file without a name this one. It takes the place of another file only where `force` says so, and then under
-/// a third name, for a moment in which no signal comes.
-fn give_name(file: &File, name: &Path, force: bool) -> io::Result<()> {
-    match link(file, name) {
-        Err(error) if force && error.kind() == io::ErrorKind::AlreadyExists => {}
-        linked => return linked,
-    }
-    signals::uninterrupted(|| {
-        let beside = link_beside(file, folder(name))?;
-        fs::rename(&beside, name).inspect_err(|_| {
-            let _ = fs::remove_file(&beside);
+        free_name(folder, |path, entry| {
+            let file = options.open(&path)?;
+            signals::set_unfinished(Some(entry));
+            Ok(Unfinished::Named(file, TempPath::from_path(path)))
         })
     })
 }
 
-/// Links a file that has no name to one that no other file has.
-fn link(file: &File, name: &Path) -> io::Result<()> {
-    let [from, to] = [&shown_at(file), name].map(|path| CString::new(path.as_os_str().as_bytes()));
-    let (from, to, here) = (from?, to?, libc::AT_FDCWD);
-    // SAFETY: both are C strings, which outlive the call.
-    let failed = unsafe {
-        let follow = libc::AT_SYMLINK_FOLLOW;
-        libc::linkat(here, from.as_ptr(), here, to.as_ptr(), follow)
-    };
-    match failed {
-        0 => Ok(()),
-        _ => Err(io::Error::last_os_error()),
+/// Does something with a name that no file in the folder has; where one has it, it is to fail, and gets the next.
+fn free_name<T>(folder: &Path, work: impl Fn(PathBuf, CString) -> io::Result<T>) -> io::Result<T> {
+    let mut number = 0;
+    loop {
+        let path = folder.join(format!("{PREFIX}{}-{number}", process::id()));
+        let entry = c_string(&path)?;
+        match work(path, entry) {
+            Err(error) if error.kind() == io::ErrorKind::AlreadyExists => number += 1,
+            answer => return answer,
+        }
     }
 }
 
-/// Links it to a name that none has in the folder.
-fn link_beside(file: &File, folder: &Path) -> io::Result<PathBuf> {
-    let mut number = 0;
-    loop {
-        let beside = folder.join(format!("{PREFIX}{}-{number}", process::id()));
-        match link(file, &beside) {
-            Err(error) if error.kind() == io::ErrorKind::AlreadyExists => number += 1,
-            linked => return linked.map(|()| beside),
-        }
+fn c_string(path: &Path) -> io::Result<CString> {
+    Ok(CString::new(path.as_os_str().as_bytes())?)
+}
+
+/// Gives a file without a name this one. It takes the place of another file only where `force` says so, and then under
+/// a third name, for a moment in which no signal comes, and nothing asks for memory.
+fn give_name(file: &File, name: &Path, force: bool) -> io::Result<()> {
+    let (from, to) = (c_string(&shown_at(file))?, c_string(name)?);
+    match link(&from, &to) {
+        Err(error) if force && error.kind() == io::ErrorKind::AlreadyExists => {}
+        linked => return linked,
+    }
+    signals::uninterrupted(|| {
+        let beside = free_name(folder(name), |_, entry| link(&from, &entry).map(|()| entry))?;
+        rename(&beside, &to)
+    })
+}
+
+/// Links a file that has no name to one that no other file has.
+fn link(from: &CStr, to: &CStr) -> io::Result<()> {
+    let here = libc::AT_FDCWD;
+    // SAFETY: both are C strings, which outlive the call.
+    done(unsafe {
+        let follow = libc::AT_SYMLINK_FOLLOW;
+        libc::linkat(here, from.as_ptr(), here, to.as_ptr(), follow)
+    })
+}
+
+/// Has a file take the place of another one. Where it cannot, it goes.
+fn rename(from: &CStr, to: &CStr) -> io::Result<()> {
+    // SAFETY: both are C strings, which outlive the calls.
+    unsafe {
+        done(libc::rename(from.as_ptr(), to.as_ptr())).inspect_err(|_| {
+            libc::unlink(from.as_ptr());
+        })
+    }
+}
+
+/// What a call to the system says of itself.
+fn done(status: c_int) -> io::Result<()> {
+    match status {
+        0 => Ok(()),
+        _ => Err(io::Error::last_os_error()),
     }
 }
 
@@ -260,37 +290,34 @@ fn taken(name: &Path, error: io::Error) -> Failure {
         io::ErrorKind::AlreadyExists => {
             unwritten(name, "a file of that name appeared meanwhile, and was left")
         }
+        _ if has_no_links(&error) => {
+            let words = format!("{error}; this file system may have no hard links");
+            unwritten(name, words)
+        }
         _ => unwritten(name, error),
     }
 }
 
 /// Over another file only where `force` says so; else the system itself refuses.
-fn persist(file: NamedTempFile, name: &Path, force: bool) -> Result<(), Failure> {
+fn persist(path: TempPath, name: &Path, force: bool) -> Result<(), Failure> {
     let persisted = match force {
-        true => file.persist(name),
-        false => file.persist_noclobber(name),
+        true => path.persist(name),
+        false => path.persist_noclobber(name),
     };
-    match persisted {
-        Ok(_) => Ok(()),
-        Err(PersistError { error, .. }) if !force && has_no_links(&error) => {
+    persisted.map_err(|PathPersistError { error, .. }| match force {
+        false if has_no_links(&error) => {
             let words =
                 format!("{error}; this file system may have no hard links: --force does without");
-            Err(unwritten(name, words))
+            unwritten(name, words)
         }
-        Err(PersistError { error, .. }) => Err(taken(name, error)),
-    }
+        true => unwritten(name, error),
+        false => taken(name, error),
+    })
 }
 
 /// How a file system without hard links refuses one.
 fn has_no_links(error: &io::Error) -> bool {
     matches!(error.raw_os_error(), Some(libc::EPERM | libc::EOPNOTSUPP))
-}
-
-/// An error without the temporary name that tempfile adds to its words.
-fn plain(error: io::Error) -> String {
-    let words = error.to_string();
-    let end = words.find(" at path ").unwrap_or(words.len());
-    words[..end].into()
 }
 
 /// A folder for files; made where it is not there.
@@ -311,7 +338,7 @@ mod tests {
     fn write(name: &Path, force: bool, bytes: &[u8]) -> Result<(), Failure> {
         let output = Output::begin(name, force, |_| false)?;
         output.file().write_all(bytes).unwrap();
-        output.finish(|_| false)
+        output.finish(|_| false).map(|_| ())
     }
 
     /// A file that is begun with another name and without one, where the system has such files.
@@ -321,8 +348,8 @@ mod tests {
             force,
             file,
         };
-        let named = Unfinished::Named(named(folder(name)).unwrap());
-        let unnamed = unnamed(folder(name)).map(Unfinished::Unnamed);
+        let named = named(folder(name)).unwrap();
+        let unnamed = unnamed(folder(name));
         [Some(named), unnamed.ok()]
             .into_iter()
             .flatten()
@@ -364,11 +391,13 @@ mod tests {
     #[test]
     fn a_name_that_is_taken_is_not_used() {
         let folder = tempfile::tempdir().unwrap();
-        let Ok(file) = unnamed(folder.path()) else {
-            return;
-        };
-        let first = link_beside(&file, folder.path()).unwrap();
-        assert_ne!(link_beside(&file, folder.path()).unwrap(), first);
+        let make = |path: PathBuf, _| File::create_new(&path).map(|_| path);
+        let first = free_name(folder.path(), make).unwrap();
+        assert_ne!(free_name(folder.path(), make).unwrap(), first);
+        let both = [named(folder.path()), named(folder.path())];
+        assert!(both.iter().all(Result::is_ok));
+        let all = fs::read_dir(folder.path()).unwrap().count();
+        assert_eq!(all, 4, "each has a name of its own");
     }
 
     #[test]

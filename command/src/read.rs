@@ -480,8 +480,8 @@ impl Printing<'_> {
 
     fn is_input(&self, file: Identity) -> bool {
         let list = self.arguments.ids_from.iter();
-        let mut names = list.chain([&self.arguments.file]);
-        names.any(|name| inputs::identity_of(name) == Some(file))
+        let names = list.chain([&self.arguments.file]);
+        inputs::is_among(file, names.map(OsString::as_os_str))
     }
 
     /// Puts objects into one file, which has no name yet.
@@ -489,7 +489,7 @@ impl Printing<'_> {
         let output = Output::begin(name, self.arguments.force, |file| self.is_input(file))?;
         for object in objects {
             self.put(object.bytes, &mut output.file(), |error| {
-                output.failed(error)
+                output.unwritten(error)
             })?;
         }
         Ok(output)
@@ -497,7 +497,8 @@ impl Printing<'_> {
 
     /// Puts objects into one file.
     fn keep(&self, name: &Path, objects: &[Object]) -> Result<(), Failure> {
-        self.lay(name, objects)?.finish(|file| self.is_input(file))
+        let output = self.lay(name, objects)?;
+        output.finish(|file| self.is_input(file)).map(|_| ())
     }
 
     /// Puts each object into a file of its own. All names are looked at before the first is written.

@@ -6,16 +6,29 @@
 use crate::failure::Failure;
 use libc::{c_char, c_int};
 use std::ffi::CString;
-use std::os::unix::ffi::OsStrExt;
-use std::path::Path;
 use std::ptr::{null, null_mut};
-use std::sync::OnceLock;
 use std::sync::atomic::{AtomicPtr, Ordering};
 
 /// The file that is to vanish where the program is ended.
 static UNFINISHED: AtomicPtr<c_char> = AtomicPtr::new(null_mut());
 /// What is said where a mapped file fails.
-static MAPPED: OnceLock<String> = OnceLock::new();
+static MAPPED: Words = Words(AtomicPtr::new(null_mut()));
+
+/// Words that a handler may say. Those that others follow stay where they are: a handler may just be saying them.
+struct Words(AtomicPtr<String>);
+
+impl Words {
+    fn set(&self, words: String) {
+        let words = Box::into_raw(Box::new(words));
+        self.0.store(words, Ordering::Release);
+    }
+
+    /// A handler may call it.
+    fn get(&self) -> Option<&'static String> {
+        // SAFETY: what is stored there is never freed.
+        unsafe { self.0.load(Ordering::Acquire).as_ref() }
+    }
+}
 
 /// The signals that do not end a program that leaves them alone, the two that cannot be caught, and the three that this
 /// program takes otherwise: SIGPIPE is ignored by Rust, SIGXFSZ by us, and SIGBUS has a handler of its own.
@@ -78,7 +91,7 @@ fn set(signals: &[c_int]) -> libc::sigset_t {
     }
 }
 
-/// The set of all signals. A handler may call it.
+/// The set of all signals.
 fn all() -> libc::sigset_t {
     // SAFETY: a set of signals is plain numbers.
     unsafe {
@@ -107,10 +120,10 @@ unsafe fn handle(signal: c_int, handler: extern "C" fn(c_int), blocked: libc::si
 /// The bytes of a mapped file cannot be had: it was cut short meanwhile, or its disk failed. Should the handler itself
 /// meet such bytes, the system ends the program, since the signal is blocked.
 extern "C" fn mapped_failed(_: c_int) {
-    end(MAPPED
+    let words = MAPPED
         .get()
-        .map_or("poilures: a bus error\n", |w| w)
-        .as_bytes())
+        .map_or("poilures: a bus error\n", |words| words);
+    end(words.as_bytes())
 }
 
 /// Takes away what is half written, says why, and ends with the status of what cannot be read or written. A handler may
@@ -161,9 +174,8 @@ pub fn uninterrupted<T>(work: impl FnOnce() -> T) -> T {
     }
 }
 
-/// Names the file that is being written; None where it is whole or gone.
-pub fn set_unfinished(path: Option<&Path>) {
-    let path = path.and_then(|path| CString::new(path.as_os_str().as_bytes()).ok());
+/// Names the file that is being written; None where it is whole or gone. No memory is asked for.
+pub fn set_unfinished(path: Option<CString>) {
     let before = UNFINISHED.swap(path.map_or(null_mut(), CString::into_raw), Ordering::AcqRel);
     if !before.is_null() {
         // SAFETY: it came from into_raw and was taken out just now.
@@ -171,11 +183,26 @@ pub fn set_unfinished(path: Option<&Path>) {
     }
 }
 
-/// Says why a mapped file fails, should it fail. The first that is mapped has the word.
+/// Says why a mapped file fails, should it fail. The last that is mapped has the word.
 pub fn set_mapped(failure: &Failure) {
     let words = match failure {
         Failure::Use(words) | Failure::Not(words) | Failure::Mute(words) => words,
         Failure::Closed => return,
     };
-    let _ = MAPPED.set(format!("poilures: {words}\n"));
+    MAPPED.set(format!("poilures: {words}\n"));
+}
+
+#[cfg(test)]
+mod tests {
+    use super::*;
+
+    #[test]
+    fn the_last_words_count() {
+        let words = Words(AtomicPtr::new(null_mut()));
+        assert_eq!(words.get(), None);
+        for last in ["objects", "image"] {
+            words.set(last.into());
+            assert_eq!(words.get().map(String::as_str), Some(last));
+        }
+    }
 }

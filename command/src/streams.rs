@@ -33,28 +33,50 @@ fn is_open(stream: &impl AsRawFd) -> bool {
     OPEN[stream.as_raw_fd() as usize].load(Ordering::Relaxed)
 }
 
+fn check(stream: &impl AsRawFd, why: &str) -> io::Result<()> {
+    match is_open(stream) {
+        true => Ok(()),
+        false => Err(io::Error::other(why)),
+    }
+}
+
 /// An error where nothing can be read from standard input.
 pub fn check_input() -> io::Result<()> {
-    match is_open(&io::stdin()) {
-        true => Ok(()),
-        false => Err(io::Error::other("it is not open for reading")),
-    }
+    check(&io::stdin(), "it is not open for reading")
 }
 
 /// An error where nothing can be written to standard output.
 pub fn check_output() -> io::Result<()> {
-    match is_open(&io::stdout()) {
-        true => Ok(()),
-        false => Err(io::Error::other("standard output is not open for writing")),
-    }
+    check(&io::stdout(), "standard output is not open for writing")
 }
 
 /// An error where nothing can be written to standard error.
 pub fn check_error() -> io::Result<()> {
-    match is_open(&io::stderr()) {
-        true => Ok(()),
-        false => Err(io::Error::other("standard error is not open for writing")),
+    check(&io::stderr(), "standard error is not open for writing")
+}
+
+/// Closes a stream, once: some disks say only then that they did not take what was written. One that was not open took
+/// nothing.
+fn close(stream: &impl AsRawFd) -> io::Result<()> {
+    let number = stream.as_raw_fd();
+    if !OPEN[number as usize].swap(false, Ordering::Relaxed) {
+        return Ok(());
     }
+    // SAFETY: nothing is written there any more, since it counts as not open from now on.
+    match unsafe { libc::close(number) } {
+        0 => Ok(()),
+        _ => Err(io::Error::last_os_error()),
+    }
+}
+
+/// Closes standard output, when all is printed.
+pub fn close_output() -> io::Result<()> {
+    close(&io::stdout())
+}
+
+/// Closes standard error, when all is told.
+pub fn close_error() -> io::Result<()> {
+    close(&io::stderr())
 }
 
 /// The files that standard output and standard error are.
@@ -99,6 +121,16 @@ pub fn refuse_input(input: Identity) -> Result<(), Failure> {
         return Err(Failure::Use(words.into()));
     }
     Ok(())
+}
+
+/// Which of the two this file is, if it is one of them.
+pub fn written_as(file: Identity) -> Result<Option<&'static str>, Failure> {
+    let written = written()?;
+    Ok(match Some(file) {
+        file if file == written.output => Some("standard output"),
+        file if file == written.error => Some("standard error"),
+        _ => None,
+    })
 }
 
 /// Whether standard error is the file that goes by this name.

@@ -21,6 +21,7 @@ pub struct Talk {
     to: Box<dyn Write>,
     /// Whether there is anything that takes them.
     is_open: fn() -> io::Result<()>,
+    on_standard_error: bool,
     is_terminal: bool,
     volume: Volume,
     failed: Option<io::Error>,
@@ -39,6 +40,7 @@ impl Talk {
         Talk {
             to,
             is_open,
+            on_standard_error,
             is_terminal,
             volume,
             failed: None,
@@ -64,6 +66,15 @@ impl Talk {
     /// Whether somebody sees the lines as they come.
     pub fn is_seen(&self) -> bool {
         self.is_terminal
+    }
+
+    /// Whether all of it was printed; on standard output no more is.
+    pub fn end(&self) -> Result<(), Failure> {
+        self.heard()?;
+        match self.on_standard_error {
+            true => Ok(()),
+            false => streams::close_output().map_err(|error| Failure::printing(&error)),
+        }
     }
 
     /// Whether all of it was printed so far.

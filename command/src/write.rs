@@ -56,16 +56,11 @@ enum Destination {
 
 impl Destination {
     /// Begins the image's file, before anything is taken in; an input is never the output.
-    fn new(arguments: &Write, names: &[&OsStr]) -> Result<Self, Failure> {
+    fn new(arguments: &Write, is_input: impl Fn(Identity) -> bool) -> Result<Self, Failure> {
         match &arguments.out {
             None => Ok(Destination::Nowhere),
             Some(out) if inputs::is_standard(out.as_os_str()) => Ok(Destination::Standard),
             Some(out) => {
-                let list = arguments.files0_from.as_deref();
-                let is_input = |file| {
-                    let mut all = names.iter().copied().chain(list);
-                    all.any(|name| inputs::identity_of(name) == Some(file))
-                };
                 let output = Output::begin(out, arguments.force, is_input)?;
                 Ok(Destination::File(Box::new(output)))
             }
@@ -82,30 +77,32 @@ impl Destination {
     }
 
     /// Why the image cannot be where it is to be.
-    fn failed(&self, error: io::Error) -> Failure {
+    fn no_image(&self, error: io::Error) -> Failure {
         match self {
-            Destination::File(output) => output.failed(error),
-            _ => joined::failed(&env::temp_dir(), error),
+            Destination::File(output) => output.unwritten(error),
+            _ => joined::no_file(&env::temp_dir(), error),
         }
     }
 
     /// The image in the file, from which it is read back, or where there is none in memory. One that is only handed on
-    /// is in a file without a name where it is large.
-    fn image(&self, layout: &Layout) -> Result<Image, Failure> {
+    /// is in a file without a name where it is large, together with the bytes of the objects.
+    fn image(&self, layout: &Layout, objects: u64) -> Result<Image, Failure> {
         match self {
             Destination::Nowhere => return layout.in_memory(),
-            Destination::Standard if layout.size <= joined::MOST_IN_MEMORY => {
+            Destination::Standard
+                if layout.size.saturating_add(objects) <= joined::MOST_IN_MEMORY =>
+            {
                 return layout.in_memory();
             }
             _ => {}
         }
-        let failed = |error| self.failed(error);
-        signals::set_mapped(&failed(io::Error::other(DISK_FAILED)));
+        let no_image = |error| self.no_image(error);
+        signals::set_mapped(&no_image(io::Error::other(DISK_FAILED)));
         let image = match self {
             Destination::File(output) => layout.in_file(output.file()),
             _ => joined::unnamed(&env::temp_dir()).and_then(|file| layout.in_file(&file)),
         };
-        image.map_err(failed)
+        image.map_err(no_image)
     }
 }
 
@@ -144,7 +141,7 @@ fn names<'n>(arguments: &'n Write, list: Option<&'n Bytes>) -> Result<Vec<&'n Os
     let names = match (&arguments.files0_from, list) {
         (Some(name), Some(list)) => inputs::names(name, list)?,
         _ => {
-            let mut names = memory::list(arguments.files.len())?;
+            let mut names = memory::with_room(arguments.files.len())?;
             names.extend(arguments.files.iter().map(|name| name.as_os_str()));
             names
         }
@@ -164,8 +161,8 @@ fn names<'n>(arguments: &'n Write, list: Option<&'n Bytes>) -> Result<Vec<&'n Os
 /// Lists that take the plan of so many objects without asking for more memory.
 fn lists(objects: usize) -> Result<Lists, Failure> {
     Ok(Lists {
-        offsets: memory::list(objects)?,
-        blocks: memory::list(objects.max(1))?,
+        offsets: memory::with_room(objects)?,
+        blocks: memory::with_room(objects.max(1))?,
     })
 }
 
@@ -234,8 +231,8 @@ fn take_in(
     talk: &mut Talk,
 ) -> Result<Objects, Failure> {
     let number = names.len();
-    let (mut sizes, mut ids) = (memory::list(number)?, memory::list(number)?);
-    let (mut files, mut lists) = (memory::list(number)?, lists(number)?);
+    let (mut sizes, mut ids) = (memory::with_room(number)?, memory::with_room(number)?);
+    let (mut files, mut lists) = (memory::with_room(number)?, lists(number)?);
     let (mut joined, mut object) = (destination.joined(), inputs::room_for_one()?);
     let mut progress = Progress::unless(talk.is_seen(), "taking in the files", number as u64);
     if !names.is_empty() {
@@ -288,7 +285,7 @@ fn written(
     let totals = library::plan(&objects.sizes, &mut lists, w)?;
     let header = image::header(&place, &totals, objects.number())?;
     let layout = Layout::new(&place, totals.region_size)?;
-    let mut image = destination.image(&layout)?;
+    let mut image = destination.image(&layout, objects.bytes.len() as u64)?;
     let writing = Writing {
         sizes: &objects.sizes,
         objects: &objects.bytes,
@@ -305,7 +302,7 @@ fn written(
         ));
     }
     let image = image.finish(&header);
-    let image = image.map_err(|error| destination.failed(error))?;
+    let image = image.map_err(|error| destination.no_image(error))?;
     let heap = Written {
         lists,
         totals,
@@ -382,7 +379,7 @@ fn hint(out: &OsStr, image: &[u8], place: &Place, id: &Id) -> String {
     quoting::line(&parts.concat())
 }
 
-/// Keeps the image, and says where it is and how an object is read from it.
+/// Keeps the image, and says where it is and how an object is read from it. Of a file it comes back which it is.
 fn keep(
     destination: Destination,
     arguments: &Write,
@@ -390,7 +387,7 @@ fn keep(
     place: &Place,
     objects: &Objects,
     talk: &mut Talk,
-) -> Result<(), Failure> {
+) -> Result<Option<Identity>, Failure> {
     let size = count(bytes.len() as u64, "byte");
     let at = grouped(place.header_at);
     let image = format!("image: {size}, header at {at}, put into");
@@ -401,7 +398,7 @@ fn keep(
             talk.say(&format!("{image} standard output; it is no HDF5 file"));
         }
         Destination::File(output) => {
-            output.finish(|file| objects.files.contains(&file))?;
+            let file = output.finish(|file| objects.files.contains(&file))?;
             let out = arguments
                 .out
                 .as_ref()
@@ -411,21 +408,24 @@ fn keep(
                 let hint = hint(out, bytes, place, id);
                 talk.say(&format!("  the last object from it: {hint}"));
             }
+            return Ok(Some(file));
         }
     }
-    Ok(())
+    Ok(None)
 }
 
 pub fn write(arguments: &Write) -> Result<(), Failure> {
     let files = arguments.files.iter().chain(&arguments.files0_from);
     inputs::refuse_written(files.map(|name| name.as_os_str()))?;
-    let place = place(arguments)?;
+    // What a list names is looked at before any sentence could go into it.
     let list = arguments.files0_from.as_deref();
-    let list = list.map(inputs::list).transpose()?;
-    let names = names(arguments, list.as_ref())?;
-    inputs::refuse_written(names.iter().copied())?;
-    index::may_go(arguments, &names)?;
-    let destination = Destination::new(arguments, &names)?;
+    let bytes = list.map(inputs::list).transpose()?;
+    inputs::refuse_written(bytes.iter().flat_map(|list| inputs::pieces(list)))?;
+    let names = names(arguments, bytes.as_ref())?;
+    let place = place(arguments)?;
+    let is_input = |file| inputs::is_among(file, names.iter().copied().chain(list));
+    index::may_go(arguments, is_input)?;
+    let destination = Destination::new(arguments, is_input)?;
     let (lines, volume) = match arguments {
         Write { json: true, .. } => (Lines::Json, Volume::Results),
         Write { quiet: true, .. } => (Lines::Ids, Volume::Results),
@@ -441,11 +441,11 @@ pub fn write(arguments: &Write) -> Result<(), Failure> {
     talk.say("");
     check(&image, &heap, &objects, &mut talk)?;
     let kept = !matches!(destination, Destination::Nowhere);
-    keep(destination, arguments, &image, &place, &objects, &mut talk)?;
-    index::keep(arguments, &names, &objects).inspect_err(|_| {
+    let file = keep(destination, arguments, &image, &place, &objects, &mut talk)?;
+    index::keep(arguments, &names, &objects, file).inspect_err(|_| {
         tell("the image is whole, but its index was not kept");
     })?;
-    talk.heard().inspect_err(|_| {
+    talk.end().inspect_err(|_| {
         if kept {
             tell("the image is whole, but standard output did not take all that was to be printed");
         }
