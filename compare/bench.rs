@@ -206,6 +206,15 @@ fn plan(times: &mut Times) {
             let allocated =
                 || lists().for_each(|sizes| plan_in(sizes, &mut vec![0; n], &mut vec![0; n]));
             times.line("  ours allocating too", calls, allocated, original);
+            let one_by_one = || {
+                lists().for_each(|sizes| {
+                    let (mut plan, mut slot) = (ours::Open::of(8), [0; 16]);
+                    for &size in sizes {
+                        black_box(plan.add_in(black_box(size), &mut slot));
+                    }
+                })
+            };
+            times.line("  ours one by one", calls, one_by_one, original);
         }
     }
 }

@@ -10,6 +10,7 @@ mod guarded;
 mod heap;
 mod image;
 mod made;
+mod open_plans;
 mod ours;
 mod panics;
 mod plan;
@@ -30,7 +31,7 @@ use summary::Row;
 type Part = (&'static str, fn() -> Vec<Row>);
 
 /// All parts, the longest first.
-const PARTS: [Part; 11] = [
+const PARTS: [Part; 12] = [
     ("back", || back::compare(200_000)),
     ("write", || write::compare(40_000)),
     ("heap space 8", || plan::heap_space(8)),
@@ -39,6 +40,7 @@ const PARTS: [Part; 11] = [
     ("heap space 2", || plan::heap_space(2)),
     ("damage", || damage::compare(10_000_000)),
     ("plan", || plan::compare(100_000)),
+    ("open plans", || open_plans::compare(10_000)),
     ("fields", || fields::compare(1_000_000)),
     ("checksum", || checksum::compare(1_000_000)),
     ("differences", differences::compare),

@@ -299,3 +299,61 @@ pub fn short_heap_slot(len: usize, heap: &Heap, id: &[u8]) {
     with_short_slot(len, |s, k| tiny_into(8, id, s, k));
     with_short_slot(len, |s, k| type_into(id, s, k));
 }
+
+/// A plan that stays open.
+pub struct Open(OpenPlan);
+
+impl Open {
+    fn opened(w: u8) -> (Answer, OpenPlan) {
+        let mut plan = None;
+        let answer = with_slot(|s, n| {
+            let opened = unsafe { fractal_heap_open_plan(w, s, n) };
+            plan = Some(opened.plan);
+            opened.number
+        });
+        with_short_slot(15, |s, n| unsafe { fractal_heap_open_plan(w, s, n) }.number);
+        (answer, plan.unwrap())
+    }
+
+    /// What opening answers.
+    pub fn answer(w: u8) -> Answer {
+        Self::opened(w).0
+    }
+
+    /// Of no objects, at a width that is one.
+    pub fn of(w: u8) -> Open {
+        let (answer, plan) = Self::opened(w);
+        assert_eq!(answer, (0, 0, 0), "width {w}");
+        Open(plan)
+    }
+
+    pub fn set_objects(&mut self, objects: u64) {
+        self.0.objects = objects;
+    }
+
+    /// A slot that is too short adds nothing.
+    pub fn add(&mut self, size: u64) -> Answer {
+        with_short_slot(15, |s, n| unsafe {
+            fractal_heap_plan_add(&mut self.0, size, s, n)
+        });
+        with_slot(|s, n| unsafe { fractal_heap_plan_add(&mut self.0, size, s, n) })
+    }
+
+    /// For times: the number alone.
+    pub fn add_in(&mut self, size: u64, slot: &mut [u8; 16]) -> u32 {
+        unsafe { fractal_heap_plan_add(&mut self.0, size, slot.as_mut_ptr(), slot.len()) }
+    }
+
+    /// In a list with a place more, which keeps what it holds; a list of seven places gives 13.
+    pub fn totals(&self) -> [u64; 8] {
+        let mut totals = [u64::MAX; 9];
+        let told = |places: usize, totals: &mut [u64; 9]| unsafe {
+            fractal_heap_plan_totals(&self.0, totals.as_mut_ptr(), places)
+        };
+        assert_eq!(told(7, &mut totals), 13);
+        assert_eq!(totals, [u64::MAX; 9]);
+        assert_eq!(told(9, &mut totals), 0);
+        assert_eq!(totals[8], u64::MAX);
+        totals[..8].try_into().unwrap()
+    }
+}

@@ -403,7 +403,7 @@ fn heap_ends(sizes: &[u64], w: u8, fits: usize) {
 }
 
 /// How many blocks of 65,536 the heap has: so many of the largest objects fill it, at every width.
-const FULL: usize = 4_191_796;
+pub const FULL: usize = 4_191_796;
 
 /// Largest objects with `last` in the last block, which they fill, and an empty one at 2^40; the root has 29 rows.
 fn heap_filled(w: u8, last: &[u64]) -> Vec<u64> {
