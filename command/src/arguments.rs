@@ -61,6 +61,23 @@ Examples, one after another:
   printf 'note\\0' | PROGRAM write --quiet --files0-from -
   date | PROGRAM write -";
 
+const IDS_MORE: &str = "\
+Each line has the size of an object in bytes; the objects are in the order in which
+they will be written. An object's line, its heap offset and its ID, is printed before the
+next size is read, and both stay the object's whatever follows. The sizes are not kept.
+
+A size that is refused has the refusal on its line and makes no object: what follows is
+placed as without it. An empty object at the end of the heap space, at heap offset
+2^40, is an object, but has no ID: its line has the offset and the refusal. A line that is
+no number is told on standard error, with which line it is, and has none on standard
+output. An empty line is none, either.
+
+Exit status: 2 where a line is no number, else 1 where one has a refusal.
+
+Examples:
+  printf '28\\n' | PROGRAM ids
+  printf '28\\n' | PROGRAM ids --offset-size 4";
+
 const EXPLAIN_MORE: &str = "\
 Examples:
   PROGRAM explain 1 5120 4096
@@ -121,6 +138,7 @@ pub struct Arguments {
 pub enum Subcommands {
     Write(Write),
     Read(Read),
+    Ids(Ids),
     Explain(Explain),
     /// Prints what a shell needs to complete this program's words.
     Completions {
@@ -225,6 +243,15 @@ pub struct Read {
     pub length_size: Option<u8>,
 }
 
+/// Reads sizes from standard input, one a line, and prints heap offset and ID of each at once.
+#[derive(Args)]
+#[command(after_help = IDS_MORE)]
+pub struct Ids {
+    /// Bytes of an address: 2, 4 or 8.
+    #[arg(long, value_name = "BYTES", value_parser = size, default_value = "8")]
+    pub offset_size: u8,
+}
+
 /// Says in words what a refusal by this number with its two values means.
 #[derive(Args)]
 #[command(after_help = EXPLAIN_MORE)]
@@ -266,7 +293,7 @@ fn named(mut command: Command, program: &str) -> Command {
 }
 
 /// A decimal number, commas only between groups of three digits; or 0x..
-fn number(word: &str) -> Result<u64, String> {
+pub fn number(word: &str) -> Result<u64, String> {
     let digits = |text: &str, radix| match text.starts_with('+') {
         true => None,
         false => u64::from_str_radix(text, radix).ok(),
@@ -390,7 +417,7 @@ mod tests {
 
     #[test]
     fn no_example_is_wide() {
-        let helps = [EXAMPLES, WRITE_MORE, READ_MORE, EXPLAIN_MORE];
+        let helps = [EXAMPLES, WRITE_MORE, READ_MORE, IDS_MORE, EXPLAIN_MORE];
         let lines = || helps.iter().flat_map(|help| help.lines());
         for line in lines().filter(|line| line.starts_with("  ")) {
             let columns = line.chars().count();
