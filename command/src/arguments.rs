@@ -34,9 +34,6 @@ Each object's ID is printed when its file has been read, before the next one is;
 stays the object's ID whatever follows. At the end every object is read back by its ID
 and compared. A file has at most 65,514 bytes (at offset size 8).
 
-Every ID is planned anew from all sizes so far, so that twice as many files take four
-times as long: 100,000 take some 20 seconds.
-
 IMAGE appears whole or not at all: until all of it is on the disk it has no name, or
 where the file system has no such files another one, .poilures-*. With --force it has
 such a name for a moment, before it takes the place of the file that is there. Delete
