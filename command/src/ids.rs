@@ -12,6 +12,8 @@ use std::ffi::OsStr;
 use std::io::{self, BufRead, Read};
 use std::str;
 
+/// Standard input's name.
+const STANDARD: &str = "-";
 /// No size needs more bytes. A line may have no end, so of a longer one no more is kept than shows that.
 const LONGEST_LINE: usize = 1000;
 
@@ -82,15 +84,10 @@ fn answer(plan: &mut OpenPlan, size: u64) -> Result<String, String> {
 }
 
 /// Each answer is printed before the next line is read; the work ends when nobody hears them.
-pub fn ids(arguments: &Ids) -> Result<(), Failure> {
-    let name = OsStr::new("-");
-    let unread = |error: io::Error| Failure::file(name, "read", error);
-    inputs::refuse_written([name].into_iter())?;
+fn answer_all(plan: &mut OpenPlan, talk: &mut Talk, tally: &mut Tally) -> Result<(), Failure> {
+    let unread = |error: io::Error| Failure::file(STANDARD, "read", error);
     streams::check_input().map_err(unread)?;
-    let mut plan = OpenPlan::open(arguments.offset_size)?;
     let mut line = memory::with_room(LONGEST_LINE + 1)?;
-    let mut talk = Talk::new(false, Volume::Results);
-    let mut tally = Tally::default();
     let mut input = io::stdin().lock();
     while next_line(&mut input, &mut line).map_err(unread)? {
         tally.lines += 1;
@@ -102,14 +99,26 @@ pub fn ids(arguments: &Ids) -> Result<(), Failure> {
                 continue;
             }
         };
-        let answer = answer(&mut plan, size).unwrap_or_else(|refused| {
+        let answer = answer(plan, size).unwrap_or_else(|refused| {
             tally.refused += 1;
             refused
         });
         talk.give(&answer);
         talk.heard()?;
     }
-    tally.end()
+    talk.end()
+}
+
+pub fn ids(arguments: &Ids) -> Result<(), Failure> {
+    inputs::refuse_written([OsStr::new(STANDARD)].into_iter())?;
+    let mut plan = OpenPlan::open(arguments.offset_size)?;
+    let mut talk = Talk::new(false, Volume::Results);
+    let mut tally = Tally::default();
+    match answer_all(&mut plan, &mut talk, &mut tally) {
+        // A line that is no number counts for the exit status also where nobody hears the others.
+        Err(Failure::Closed) if tally.no_numbers > 0 => tally.end(),
+        answered => answered.and_then(|()| tally.end()),
+    }
 }
 
 #[cfg(test)]
