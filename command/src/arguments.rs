@@ -34,9 +34,6 @@ Each object's ID is printed when its file has been read, before the next one is;
 stays the object's ID whatever follows. At the end every object is read back by its ID
 and compared. A file has at most 65,514 bytes (at offset size 8).
 
-Every ID is planned anew from all sizes so far, so that twice as many files take four
-times as long: 100,000 take some 20 seconds.
-
 IMAGE appears whole or not at all: until all of it is on the disk it has no name, or
 where the file system has no such files another one, .poilures-*. With --force it has
 such a name for a moment, before it takes the place of the file that is there. Delete
@@ -60,6 +57,23 @@ Examples, one after another:
   PROGRAM write --json note
   printf 'note\\0' | PROGRAM write --quiet --files0-from -
   date | PROGRAM write -";
+
+const IDS_MORE: &str = "\
+Each line has the size of an object in bytes; the objects are in the order in which
+they will be written. An object's line, its heap offset and its ID, is printed before the
+next size is read, and both stay the object's whatever follows. The sizes are not kept.
+
+A size that is refused has the refusal on its line and makes no object: what follows is
+placed as without it. An empty object at the end of the heap space, at heap offset
+2^40, is an object, but has no ID: its line has the offset and the refusal. A line that is
+no number is told on standard error, with which line it is, and has none on standard
+output. An empty line is none, either.
+
+Exit status: 2 where a line is no number, else 1 where one has a refusal.
+
+Examples:
+  printf '28\\n' | PROGRAM ids
+  printf '28\\n' | PROGRAM ids --offset-size 4";
 
 const EXPLAIN_MORE: &str = "\
 Examples:
@@ -121,6 +135,7 @@ pub struct Arguments {
 pub enum Subcommands {
     Write(Write),
     Read(Read),
+    Ids(Ids),
     Explain(Explain),
     /// Prints what a shell needs to complete this program's words.
     Completions {
@@ -225,6 +240,15 @@ pub struct Read {
     pub length_size: Option<u8>,
 }
 
+/// Reads sizes from standard input, one a line, and prints heap offset and ID of each at once.
+#[derive(Args)]
+#[command(after_help = IDS_MORE)]
+pub struct Ids {
+    /// Bytes of an address: 2, 4 or 8.
+    #[arg(long, value_name = "BYTES", value_parser = size, default_value = "8")]
+    pub offset_size: u8,
+}
+
 /// Says in words what a refusal by this number with its two values means.
 #[derive(Args)]
 #[command(after_help = EXPLAIN_MORE)]
@@ -266,7 +290,7 @@ fn named(mut command: Command, program: &str) -> Command {
 }
 
 /// A decimal number, commas only between groups of three digits; or 0x..
-fn number(word: &str) -> Result<u64, String> {
+pub fn number(word: &str) -> Result<u64, String> {
     let digits = |text: &str, radix| match text.starts_with('+') {
         true => None,
         false => u64::from_str_radix(text, radix).ok(),
@@ -390,7 +414,7 @@ mod tests {
 
     #[test]
     fn no_example_is_wide() {
-        let helps = [EXAMPLES, WRITE_MORE, READ_MORE, EXPLAIN_MORE];
+        let helps = [EXAMPLES, WRITE_MORE, READ_MORE, IDS_MORE, EXPLAIN_MORE];
         let lines = || helps.iter().flat_map(|help| help.lines());
         for line in lines().filter(|line| line.starts_with("  ")) {
             let columns = line.chars().count();

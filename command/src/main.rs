@@ -4,6 +4,7 @@ mod arguments;
 mod check;
 mod failure;
 mod id;
+mod ids;
 mod image;
 mod index;
 mod inputs;
@@ -99,6 +100,7 @@ fn run() -> Result<(), Failure> {
     match &arguments.subcommand {
         Subcommands::Write(arguments) => write::write(arguments),
         Subcommands::Read(arguments) => read::read(arguments),
+        Subcommands::Ids(arguments) => ids::ids(arguments),
         Subcommands::Explain(arguments) => explain(arguments),
         Subcommands::Completions { shell } => completions(*shell),
     }

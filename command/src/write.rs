@@ -15,7 +15,7 @@ use crate::signals;
 use crate::table::Fullness;
 use crate::talk::{Talk, Volume, tell};
 use crate::{index, map, print};
-use fractal_heap::{Refusal, Superblock, count, grouped};
+use fractal_heap::{Added, OpenPlan, Refusal, Superblock, count, grouped};
 use memmap2::Mmap;
 use serde_json::json;
 use std::env;
@@ -221,8 +221,8 @@ impl Line<'_> {
     }
 }
 
-/// Takes the files in, one by one. The sizes so far are planned each time: as front parts are planned alike, the
-/// ID that an object gets here is its ID for good. Where nothing is kept, the work ends when nobody hears the IDs.
+/// Takes the files in, one by one. A plan that stays open places each at once; as front parts are planned alike, the ID
+/// that an object gets here is its ID for good. Where nothing is kept, the work ends when nobody hears the IDs.
 fn take_in(
     names: &[&OsStr],
     w: u8,
@@ -232,7 +232,7 @@ fn take_in(
 ) -> Result<Objects, Failure> {
     let number = names.len();
     let (mut sizes, mut ids) = (memory::with_room(number)?, memory::with_room(number)?);
-    let (mut files, mut lists) = (memory::with_room(number)?, lists(number)?);
+    let (mut files, mut plan) = (memory::with_room(number)?, OpenPlan::open(w)?);
     let (mut joined, mut object) = (destination.joined(), inputs::room_for_one()?);
     let mut progress = Progress::unless(talk.is_seen(), "taking in the files", number as u64);
     if !names.is_empty() {
@@ -242,14 +242,14 @@ fn take_in(
         let taken = inputs::take_in(name, &mut object)?;
         joined.add(&object)?;
         files.push(taken.identity);
-        sizes.push(taken.size);
-        library::plan(&sizes, &mut lists, w).map_err(|r| not_taken(&r, name, w))?;
-        let id = library::managed_id(lists.offsets[i], taken.size)?;
+        let Added { offset, size } = plan.add(taken.size).map_err(|r| not_taken(&r, name, w))?;
+        let id = library::managed_id(offset, size)?;
+        sizes.push(size);
         ids.push(id);
         let line = Line {
             object: i as u64,
-            size: taken.size,
-            offset: lists.offsets[i],
+            size,
+            offset,
             id: HeapId::new(&id),
             name,
         };
