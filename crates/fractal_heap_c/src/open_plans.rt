@@ -26,8 +26,9 @@ pub struct OpenedPlan {
 }
 
 /// Opens the plan of no objects, for addresses of `offset_size` bytes: 2 is the refusal of a size that is none. The plan
-/// is handed back by value, so that no place has to be lent that holds none yet.
-#[tactic(auto, unfolding(fields::specs::Slot::slot_number))]
+/// is handed back by value, so that no place has to be lent that holds none yet. Where it is refused, or the slot has
+/// fewer than 16 bytes (13), what stands in its place is a plan of no objects for addresses of eight bytes.
+#[tactic(auto, unfolding(fields::specs::Slot::slot_number, fields::specs::Slot::slot_bytes))]
 #[unsafe(no_mangle)]
 pub extern "C" fn fractal_heap_open_plan(offset_size: u8, slot: &mut [u8]) -> OpenedPlan
     ensures number { result.number ≡ slot_number slot.old (opening_report offset_size) }
@@ -35,7 +36,15 @@ pub extern "C" fn fractal_heap_open_plan(offset_size: u8, slot: &mut [u8]) -> Op
     ensures opened { result.number ≡ 0 → IsPlanOf offset_size result.plan.planner.state
         result.plan.objects [] }
     ensures width { result.number ≡ 0 → result.plan.planner.offset_size ≡ offset_size }
+    ensures unopened { 0 < result.number → IsPlanOf 8 result.plan.planner.state result.plan.objects [] }
+    ensures width_unopened { 0 < result.number → result.plan.planner.offset_size ≡ 8 }
 {
+    if slot.len() < 16 {
+        return OpenedPlan {
+            number: SLICE_TOO_SHORT,
+            plan: OpenPlan::of_width(Width::Eight),
+        };
+    }
     match OpenPlan::new(offset_size) {
         Ok(plan) => OpenedPlan {
             number: put_answer(slot, Answer::accepted(0, 0)),

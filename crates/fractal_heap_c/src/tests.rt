@@ -138,7 +138,9 @@ fn no_plan_is_opened(rt: HostRuntime) -> Result<(), Fail> {
     let mut slot = [9; 16];
     assert_eq!(rt; fractal_heap_open_plan(3, &mut slot).number, 2);
     assert_eq!(rt; values(&slot), (3, 0));
-    assert_eq!(rt; fractal_heap_open_plan(8, &mut slot[..15]).number, 13);
+    let unopened = fractal_heap_open_plan(2, &mut slot[..15]);
+    assert_eq!(rt; unopened.number, 13);
+    assert_eq!(rt; unopened.plan.planner.offset_size, 8);
     Ok(())
 }
 
