@@ -29,8 +29,8 @@
 extern "C" {
 #endif
 
-/* What the functions return, but for the checksum: 0, or why they refuse. Behind each number are its two values,
- * those that go into the slot. Those that read give 0 to 10 and 13; an open plan gives 0, 2 and 11 to 13, an ID that
+/* What the functions answer, but for the checksum and the length of IDs: 0, or why they refuse. Behind each number are
+ * its two values, which go into the slot where a function takes one. Those that read give 0 to 10 and 13; an open plan gives 0, 2 and 11 to 13, an ID that
  * is written 0 and 16; 14 and 15 are those of writing, in the same table. */
 enum fractal_heap_number {
     FRACTAL_HEAP_OK = 0,                                /* the answer's own */
