@@ -3,11 +3,11 @@ use Rattle.std.specs.Prelude.{ℕ, suc, ◌-◌, ◌^◌, ◌≤◌, ◌<◌, mi
 use Rattle.std.specs.Int.Count.{count_leading_zeros}
 
 -- n, or the largest 64-bit number where n is above it
-unfoldable pub saturated : ℕ → ℕ
+abbrev pub saturated : ℕ → ℕ
 saturated n = min n (2 ^ 64 - 1)
 
 -- the exponent of the largest power of two that is at most v, for v below 2 ^ 64; 0 of 0
-unfoldable pub log2 : ℕ → ℕ
+abbrev pub log2 : ℕ → ℕ
 log2 v = 63 - count_leading_zeros 64 v
 
 -- k is the exponent of the largest power of two that is at most x: the law of `log2`
