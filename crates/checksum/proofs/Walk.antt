@@ -6,16 +6,14 @@ use Rattle.checksum.specs.Requires.{Few}
 use Rattle.checksum.specs.Words.{add32}
 use Rattle.checksum.proofs.Switch.{tail-group}
 use Rattle.checksum.specs.Mix.{mixed, final_mixed}
-use Rattle.checksum.specs.Lookup3.{grouped, run, groups_of, begun, body, tail_of, switched, ended, hashlittle}
+use Rattle.checksum.specs.Lookup3.{grouped, run, groups_of, begun, body, tail_of, switched, hashlittle}
 
 -- ---- the groups
 
 pub groups-more : (n : ℕ) → 12 < n → groups_of n ≡ suc (groups_of (n - 12))
-unfolding groups_of
 groups-more n h = omega arith
 
 pub groups_none : (n : ℕ) → n ≤ 12 → groups_of n ≡ 0
-unfolding groups_of
 groups_none n h = omega arith
 
 -- while the loop runs: the groups left, from the words so far, give the words after all groups
@@ -25,7 +23,6 @@ pub record Walk (bytes : List ℕ) (s : State) (at : ℕ) : Type 0 where
   pub words : run bytes at (groups_of (length bytes - at)) s ≡ body bytes
 
 pub walk_start : (bytes : List ℕ) (s : State) → 0 < length bytes → s ≡ begun (length bytes) → Walk bytes s 0
-unfolding body
 walk_start bytes s h e = record { some = omega arith; place = rw none (omega arith); words = rw (none, e) }
   where
     none : length bytes - 0 ≡ length bytes
@@ -53,7 +50,6 @@ module _ {bytes : List ℕ} {s : State} {at : ℕ} (w : Walk bytes s at) where
     words-done = rw (groups_none (length bytes - at) h) at w.words
 
     tail-here : drop at bytes ≡ tail_of bytes
-    unfolding tail_of
     tail-here =
         let here : at ≡ 12 * groups_of (length bytes) = omega (arith, w.place, groups_none (length bytes - at) h) in
         ap (λ (n : ℕ). drop n bytes) here
@@ -62,7 +58,7 @@ module _ {bytes : List ℕ} {s : State} {at : ℕ} (w : Walk bytes s at) where
     tail-length = ap length (sym tail-here) ∙ length-drop at bytes
 
     pub walk-tail : (final_mixed (switched 12 (drop at bytes) s)).c ≡ hashlittle bytes
-    unfolding hashlittle ended
+    unfolding hashlittle
     walk-tail =
         let some = ne_eqb (length (tail_of bytes)) 0 (λ z. absurd (omega (arith, tail-length, w.some, z))) in
         rw (some, tail-here, words-done)
@@ -70,7 +66,6 @@ module _ {bytes : List ℕ} {s : State} {at : ℕ} (w : Walk bytes s at) where
 -- no group of few bytes is mixed, and all of them are the tail
 pub few-ended : (bytes : List ℕ) (x : ℕ) → x ≡ add32 0xdeadbeef (length bytes % 2 ^ 32) → Few bytes
     → (final_mixed (grouped bytes 0 (record { a = x; b = x; c = x }))).c ≡ hashlittle bytes
-unfolding begun add32
 few-ended bytes x e h =
     let fit : x < 2 ^ 32 = omega (arith, e) in
     let s : State = record { a = x; b = x; c = x } in
@@ -81,6 +76,6 @@ few-ended bytes x e h =
 -- without bytes there is nothing to mix
 pub none-ended : (bytes : List ℕ) (x : ℕ) → x ≡ add32 0xdeadbeef (length bytes % 2 ^ 32) → length bytes ≡ 0
     → x ≡ hashlittle bytes
-unfolding hashlittle ended tail_of body run groups_of begun add32
+unfolding hashlittle run
 none-ended [] x e n = e
 none-ended (b ∷ bs) x e n = absurd (omega (arith, n))

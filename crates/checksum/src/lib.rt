@@ -16,7 +16,6 @@ use crate::mixing::{State, final_mix, mix};
 use fields::little_endian::{read_u16_le, read_u32_le, read_u64_le};
 
 // A word with the four bytes at `p` added.
-#[tactic(auto, unfolding(crate::specs::Words::add32))]
 fn add_word(x: u32, bytes: &[u8], p: usize) -> u32
     requires { p + 4 ≤ length bytes.now }
     ensures { result ≡ add32 x (le_at bytes.now p 4) }
@@ -25,7 +24,6 @@ fn add_word(x: u32, bytes: &[u8], p: usize) -> u32
 }
 
 // The 12 bytes at `at` added to the words, four to each.
-#[tactic(auto, unfolding(crate::specs::Lookup3::grouped))]
 fn add_group(s: State, bytes: &[u8], at: usize) -> State
     requires { at + 12 ≤ length bytes.now }
     ensures { result ≡ grouped bytes.now at s }
@@ -156,7 +154,6 @@ fn ended(s: State) -> u32
 }
 
 // What each word is at the start.
-#[tactic(auto, unfolding(crate::specs::Words::add32))]
 fn begun(n: usize) -> u32
     ensures { result ≡ add32 0xdeadbeef (n % 2 ^ 32) }
 {

@@ -3,7 +3,7 @@ use Rattle.std.specs.Prelude.{ℕ, suc, ◌-◌, ◌^◌, ◌≤◌, ◌<◌, mi
 use Rattle.std.specs.Int.Count.{count_leading_zeros}
 
 -- n, or the largest 64-bit number where n is above it
-abbrev pub saturated : ℕ → ℕ
+unfoldable pub saturated : ℕ → ℕ
 saturated n = min n (2 ^ 64 - 1)
 
 -- the exponent of the largest power of two that is at most v, for v below 2 ^ 64; 0 of 0

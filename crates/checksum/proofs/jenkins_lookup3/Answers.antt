@@ -4,7 +4,6 @@ use Rattle.std.specs.Prelude.{◌==◌}
 use Rattle.std.proofs.lemmas.Bool.{eqb-true}
 use Rattle.std.proofs.lemmas.Bool.Decides.{nat_tests}
 use Rattle.checksum.specs.Mix.{final_mixed}
-use Rattle.checksum.specs.Words.{add32}
 use Rattle.checksum.specs.declared.mixing.State.{State}
 use Rattle.checksum.proofs.Tails.{in_one}
 use Rattle.checksum.proofs.Walk.{few-ended, none-ended}
@@ -23,7 +22,6 @@ returns-then-is_empty c =
     none-ended _ _ c.begun-first.ensures (eqb-true _ _ (sym c.is_empty.ensures ∙ c.if-is_empty.true))
 
 pub returns : goal.returns
-unfolding add32
 returns c =
     let some = nonempty c.is_empty.ensures c.if-is_empty.false in
     rw (c.ended-2.ensures, c.short_word.ensures)
