@@ -109,8 +109,8 @@ module _ (s : List ℕ) where
         ≡ grouped s at w
     in_halves at w t =
         let third : at + 4 + 4 ≡ at + 8 = omega arith in
-        let near : length s ≤ at + 4 + 8 = omega (arith, t.most) in
-        rw (low-half (at + 4) t.eight near, high-half (at + 4) t.eight near, third) refl
+        let near : length s ≤ at + 4 + 8 = omega (arith, t.at_most_group) in
+        rw (low-half (at + 4) t.eight_bytes near, high-half (at + 4) t.eight_bytes near, third) refl
 
   module _ {x : ℕ} (f : x < 2 ^ 32) where
     -- three bytes or fewer are all in the first word

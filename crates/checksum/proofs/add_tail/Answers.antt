@@ -9,4 +9,4 @@ pub returns : goal.returns
 returns c =
     rw (c.add_tail_word.ensures, c.last_bytes-rest.ensures)
     (in_halves _ (λ j. omega (arith, c.type_inv.bytes j)) _ _ c.requires
-    ∙ tail-group _ _ c.requires.most (record { a = omega arith; b = omega arith; c = omega arith }))
+    ∙ tail-group _ _ c.requires.at_most_group (record { a = omega arith; b = omega arith; c = omega arith }))
