@@ -6,7 +6,7 @@ use Rattle.table.specs.Table.{Table, row_bits}
 
 -- a block of a row: a direct one holds what its header of so many bytes leaves, an indirect one what its own rows
 -- hold, whose capacities stand in front in the list below
-unfoldable pub block_capacity : (t : Table) (header row : ℕ) (below : List ℕ) → ℕ
+abbrev pub block_capacity : (t : Table) (header row : ℕ) (below : List ℕ) → ℕ
 block_capacity t h r l =
     if nat_le (row_bits t r) t.direct_bits
     then 2 ^ row_bits t r - h
@@ -18,5 +18,5 @@ capacities t h zero = []
 capacities t h (suc n) = capacities t h n ++ (block_capacity t h n (capacities t h n) ∷ [])
 
 -- the rows before n together
-unfoldable pub capacity : (t : Table) (header n : ℕ) → ℕ
+abbrev pub capacity : (t : Table) (header n : ℕ) → ℕ
 capacity t h n = 2 ^ t.width_bits * sum (capacities t h n)

@@ -21,7 +21,7 @@ pub data Direct (t : Table) : ℕ → ℕ → ℕ → Type 0 where
 unfoldable pub slot_start : (t : Table) (offset : ℕ) → ℕ
 slot_start t x = x / 2 ^ row_bits t (row_of t x) * 2 ^ row_bits t (row_of t x)
 
-unfoldable pub table_slot : (t : Table) (offset : ℕ) → TableSlot
+abbrev pub table_slot : (t : Table) (offset : ℕ) → TableSlot
 table_slot t x = record { row = row_of t x; start = slot_start t x; size = 2 ^ row_bits t (row_of t x) }
 
 -- the direct slot that holds x has 2 ^ slot_bits x bytes; an indirect slot is searched in turn, so many levels deep

@@ -15,6 +15,13 @@ pub record Table : Type 0 where
 abbrev pub fixed : Table
 fixed = record { width_bits = 2; start_bits = 10; direct_bits = 16; heap_bits = 40 }
 
+-- in bytes: a block of the first rows, and the heap space, below whose end all heap offsets lie
+abbrev pub starting_size : Table → ℕ
+starting_size t = 2 ^ t.start_bits
+
+abbrev pub heap_space : Table → ℕ
+heap_space t = 2 ^ t.heap_bits
+
 -- a block of row r has 2 ^ row_bits r bytes: rows 0 and 1 the starting size, each later row twice the one before
 unfoldable pub row_bits : (t : Table) (row : ℕ) → ℕ
 row_bits t r = t.start_bits + (r - 1)
@@ -34,12 +41,12 @@ unfoldable pub row_of : (t : Table) (offset : ℕ) → ℕ
 row_of t x = row_in t t.heap_bits x
 
 -- row and column of an offset
-unfoldable pub place_of : (t : Table) (offset : ℕ) → RowCol
+abbrev pub place_of : (t : Table) (offset : ℕ) → RowCol
 place_of t x = record { row = row_of t x; col = (x - row_offset t (row_of t x)) / 2 ^ row_bits t (row_of t x) }
 
 -- the most rows that a root has: as many as the heap space holds ('Fractal Heap Header': Starting # of Rows in Root
 -- Indirect Block, its value 0). The format does not give their number; it is our rule (docs/RULES.md)
-unfoldable pub max_rows : Table → ℕ
+abbrev pub max_rows : Table → ℕ
 max_rows t = t.heap_bits - (t.start_bits + t.width_bits) + 1
 
 -- of so many row counts from n on the first whose rows span at least so many bytes
@@ -54,5 +61,5 @@ covering t span = covering_in t (max_rows t) 1 span
 
 -- rows 0 and 1 alike, row 7 the last direct one, 29 rows at most
 rows-fixed : (row_bits fixed 0 ≡ 10) × (row_bits fixed 1 ≡ 10) × (row_bits fixed 7 ≡ 16) × (max_rows fixed ≡ 29)
-unfolding row_bits max_rows
+unfolding row_bits
 rows-fixed = (refl, refl, refl, refl)
