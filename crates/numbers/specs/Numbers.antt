@@ -7,7 +7,7 @@ unfoldable pub saturated : ℕ → ℕ
 saturated n = min n (2 ^ 64 - 1)
 
 -- the exponent of the largest power of two that is at most v, for v below 2 ^ 64; 0 of 0
-abbrev pub log2 : ℕ → ℕ
+unfoldable pub log2 : ℕ → ℕ
 log2 v = 63 - count_leading_zeros 64 v
 
 -- k is the exponent of the largest power of two that is at most x: the law of `log2`
