@@ -1,11 +1,9 @@
 -- What the walks ask of their arguments, so that they stay in the region and within 64 bits, and
 -- what they give.
 use Rattle.std.specs.Prelude.{ℕ, ◌+◌, ◌-◌, ◌^◌, ◌≤◌, ◌<◌, ◌≡◌, if◌then◌else◌, List, [], ◌++◌}
-use Rattle.std.specs.Prelude.{length, drop}
-use Rattle.std.specs.Prelude.{replicate, nat_lt, Option, Some, None}
-use Rattle.fields.specs.LittleEndian.{le}
-use Rattle.table.specs.Table.{fixed}
-use Rattle.region_blocks.specs.Storing.{stored}
+use Rattle.std.specs.Prelude.{length, drop, replicate, sum_by, nat_lt, Option, Some, None}
+use Rattle.fields.specs.LittleEndian.{le, put}
+use Rattle.table.specs.Table.{fixed, row_bits}
 use Rattle.region_indirects.specs.declared.cursor.Cursor.{Cursor}
 use Rattle.region_indirects.specs.declared.cursor.Slots.{Slots}
 use Rattle.region_indirects.specs.declared.Walk.{Walk}
@@ -17,6 +15,10 @@ unfoldable pub rows_left : ℕ → Slots → List ℕ
 rows_left n s =
     let next = s.row + 1 in
     if nat_lt s.row n then replicate s.left s.row ++ rows_of_slots fixed (n - next) next else []
+
+-- how many bytes these slots have together
+abbrev pub span_left : ℕ → Slots → ℕ
+span_left n s = sum_by (λ r. 2 ^ row_bits fixed r) (rows_left n s)
 
 -- the walks' outcomes, where the region's own bytes begin at the region's address
 
@@ -67,7 +69,7 @@ entry_bytes w None = replicate w 0xFF
 -- an outcome o was written from where `out` stood, and e is its entry
 pub record Wrote (walk : Walk) (out : Output) (o : Walked) (e : Option ℕ) (out' : Output)
     : Type 0 where
-  pub bytes : out'.region.now ≡ stored out.region.now out.cursor.place o.bytes
+  pub bytes : out'.region.now ≡ put out.region.now out.cursor.place o.bytes
   pub entry : entry_bytes walk.site.offset_size e ≡ o.entries
   pub moved : Moved walk out.cursor o out'.cursor
 
@@ -76,7 +78,7 @@ pub record Wrote (walk : Walk) (out : Output) (o : Walked) (e : Option ℕ) (out
 pub record WroteSlots (walk : Walk) (out : Output) (o : Walked) (from : ℕ) (out' : Output)
     : Type 0 where
   pub bytes : out'.region.now
-      ≡ stored (stored out.region.now out.cursor.place o.bytes) (out'.cursor.place + from) o.entries
+      ≡ put (put out.region.now out.cursor.place o.bytes) (out'.cursor.place + from) o.entries
   pub moved : Moved walk out.cursor o out'.cursor
 
 -- ---- of a block, some slots, and one
