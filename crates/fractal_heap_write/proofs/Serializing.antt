@@ -109,11 +109,11 @@ module _ {xs : List ℕ} {lent : Lent} {site : Site} {p : ManagedPlan} (A : Acce
         let u = below-undefined w (a + p.region_size) passes.width A.fit.end in
         record {
           narrow = legal-small w passes.width;
-          few = few;
+          rows_of_root = few;
           room = omega arith;
-          behind = omega arith;
-          addresses = omega arith;
-          direct =
+          directs_in_region = omega arith;
+          addresses_fit = omega arith;
+          next_fits =
               λ l. (let m =
               (indirect-planned xs lent.offset_places lent.block_places w p A.planned l h a (a + size)).next in
               omega arith);
@@ -131,7 +131,7 @@ module _ {xs : List ℕ} {lent : Lent} {site : Site} {p : ManagedPlan} (A : Acce
           rooted = rooted;
           starts-are = refl;
           size_is = omega arith;
-          ahead = omega arith;
+          indirects_fill = omega arith;
           small = sizes-small;
           runs = runs;
           joined = sym j;

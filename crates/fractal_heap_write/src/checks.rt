@@ -58,7 +58,7 @@ fn check_header_address(address: u64, width: Width) -> Result<(), FormatError>
 // wrap.
 fn check_region_address(address: u64, size: u64, width: Width) -> Result<(), FormatError>
     ensures value { result ≡ region_address_checked (byte_count width) address size }
-    ensures end { OnOk result (address + size ≤ undefined_address (byte_count width)) }
+    ensures end_defined { OnOk result (address + size ≤ undefined_address (byte_count width)) }
 {
     let undefined = undefined_address(width);
     if !has_room(undefined as usize, address as usize, size as usize) {

@@ -19,8 +19,8 @@ use table::STARTING_BLOCK_SIZE;
 #[tactic(auto, using(region_blocks::proofs::Parts::direct_put))]
 fn write_at(region: &mut [u8], at: usize, offset: u64, size: usize, objects: &[u8], site: Site)
     requires narrow { site.offset_size ≤ 8 }
-    requires size_in_bounds { at + size ≤ length region.old }
-    requires objects_bound { direct_header fixed site.offset_size + length objects.now ≤ size }
+    requires block_in_region { at + size ≤ length region.old }
+    requires objects_fit { direct_header fixed site.offset_size + length objects.now ≤ size }
     ensures { region.new ≡ put region.old at
         (direct_block fixed site.offset_size site.heap_header_address offset size objects.now) }
 {
@@ -34,8 +34,8 @@ fn write_placed(sizes: &[u64], objects: &[u8], region: &mut [u8], place: usize, 
     requires narrow { site.offset_size ≤ 8 }
     requires small { Small (max_managed fixed site.offset_size) sizes.now }
     requires runs { Runs site.offset_size sizes.now }
-    requires objects_len { length objects.now ≡ sum sizes.now }
-    requires sizes_in_bounds { place + length
+    requires objects_joined { length objects.now ≡ sum sizes.now }
+    requires blocks_in_region { place + length
         (opened_of site sizes.now objects.now) ≤ length region.old }
     ensures { region.new ≡ put region.old place (opened_of site sizes.now objects.now) }
 {
@@ -67,8 +67,8 @@ pub fn write_directs(sizes: &[u64], objects: &[u8], region: &mut [u8], place: us
     requires narrow { site.offset_size ≤ 8 }
     requires small { Small (max_managed fixed site.offset_size) sizes.now }
     requires runs { Runs site.offset_size sizes.now }
-    requires objects_len { length objects.now ≡ sum sizes.now }
-    requires sizes_in_bounds { place + length
+    requires objects_joined { length objects.now ≡ sum sizes.now }
+    requires blocks_in_region { place + length
         (directs_of site sizes.now objects.now) ≤ length region.old }
     ensures { region.new ≡ put region.old place (directs_of site sizes.now objects.now) }
 {

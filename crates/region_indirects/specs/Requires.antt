@@ -49,14 +49,14 @@ slot_of walk row at c =
 -- an outcome o of a walk from where `out` stands, and `more` bytes behind it, fit into the region
 pub record Fits (walk : Walk) (out : Output) (o : Walked) (more : ℕ) : Type 0 where
   pub narrow : walk.site.offset_size ≤ 8
-  pub known : out.cursor.index ≤ length walk.starts.now
+  pub index_in_starts : out.cursor.index ≤ length walk.starts.now
   pub room : out.cursor.place + length o.bytes + more ≤ length out.region.now
-  pub addresses : walk.site.region_address + length out.region.now < 2 ^ 64
-  pub direct : o.next < 2 ^ 64
+  pub addresses_fit : walk.site.region_address + length out.region.now < 2 ^ 64
+  pub next_fits : o.next < 2 ^ 64
 
 -- the cursor d stands where the outcome o of a walk from c on ends
 pub record Moved (walk : Walk) (c : Cursor) (o : Walked) (d : Cursor) : Type 0 where
-  pub known : d.index ≤ length walk.starts.now
+  pub index_in_starts : d.index ≤ length walk.starts.now
   pub rest : drop d.index walk.starts.now ≡ o.rest
   pub place : d.place ≡ c.place + length o.bytes
   pub next : d.next ≡ o.next

@@ -40,8 +40,8 @@ pub fn fixed_header(root: u64, rows: u16) -> FractalHeapHeader
 
 /// The header of the heap of a plan.
 pub fn header_of(site: Site, plan: ManagedPlan) -> FractalHeapHeader
-    requires root { site.region_address + plan.root_place < 2 ^ 64 }
-    requires rows { plan.root_rows < 2 ^ 16 }
+    requires root_fits { site.region_address + plan.root_place < 2 ^ 64 }
+    requires rows_fit { plan.root_rows < 2 ^ 16 }
     ensures { result ≡ header_of site plan }
 {
     fixed_header(site.region_address + plan.root_place, plan.root_rows as u16)
