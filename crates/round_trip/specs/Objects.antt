@@ -1,5 +1,5 @@
 -- Headers of heaps with the fixed geometry, and an object read by the ID that the writer gives it.
-use Rattle.std.specs.Prelude.{ℕ, ◌+◌, List, Result}
+use Rattle.std.specs.Prelude.{ℕ, ◌+◌, ◌^◌, List, Result}
 use Rattle.refusals.specs.Steps.{◌>>=◌}
 use Rattle.refusals.specs.declared.FormatError.{FormatError}
 use Rattle.table.specs.Table.{fixed}
@@ -21,10 +21,10 @@ fixed_header root_address root_rows = record {
   btree_huge_objects_address = 0x123456789ABCDEF;
   managed_objects_count = 77777;
   table = record {
-    table_width = 4;
-    starting_block_size = 1024;
-    max_direct_block_size = 65536;
-    max_heap_size = 40;
+    table_width = 2 ^ fixed.width_bits;
+    starting_block_size = 2 ^ fixed.start_bits;
+    max_direct_block_size = 2 ^ fixed.direct_bits;
+    max_heap_size = fixed.heap_bits;
   };
   start_root_rows = 999;
   root_block_address = root_address;

@@ -13,6 +13,7 @@ use plan::ManagedPlan;
 use reading::rows::DoublingTable;
 use refusals::FormatError;
 use region_blocks::Site;
+use table::{MAX_DIRECT_BLOCK_SIZE, MAX_HEAP_SIZE_BITS, STARTING_BLOCK_SIZE, TABLE_WIDTH};
 
 /// The header of a heap with the fixed geometry, for tests and as an example: a reader heeds the root, its rows and the
 /// geometry, and not the other numbers.
@@ -26,10 +27,10 @@ pub fn fixed_header(root: u64, rows: u16) -> FractalHeapHeader
         btree_huge_objects_address: 0x0123_4567_89AB_CDEF,
         managed_objects_count: 77_777,
         table: DoublingTable {
-            table_width: 4,
-            starting_block_size: 1_024,
-            max_direct_block_size: 65_536,
-            max_heap_size: 40,
+            table_width: TABLE_WIDTH as u16,
+            starting_block_size: STARTING_BLOCK_SIZE,
+            max_direct_block_size: MAX_DIRECT_BLOCK_SIZE,
+            max_heap_size: MAX_HEAP_SIZE_BITS as u16,
         },
         start_root_rows: 999,
         root_block_address: root,
@@ -39,8 +40,8 @@ pub fn fixed_header(root: u64, rows: u16) -> FractalHeapHeader
 
 /// The header of the heap of a plan.
 pub fn header_of(site: Site, plan: ManagedPlan) -> FractalHeapHeader
-    requires root { site.region_address + plan.root_place < 2 ^ 64 }
-    requires rows { plan.root_rows < 2 ^ 16 }
+    requires root_fits { site.region_address + plan.root_place < 2 ^ 64 }
+    requires rows_fit { plan.root_rows < 2 ^ 16 }
     ensures { result ≡ header_of site plan }
 {
     fixed_header(site.region_address + plan.root_place, plan.root_rows as u16)
@@ -48,7 +49,7 @@ pub fn header_of(site: Site, plan: ManagedPlan) -> FractalHeapHeader
 
 /// The ID of the `i`-th object while there are these sizes and no more: from their plan alone, which goes into the
 /// lists. Refused as planning refuses, and by 16 where the object has no ID.
-#[tactic(auto, using(crate::proofs::ReadBack::id_written), unfolding(table::specs::Sizes::offset_bytes))]
+#[tactic(auto, unfolding(table::specs::Sizes::offset_bytes))]
 pub fn early_id(
     sizes: &[u64],
     i: usize,
@@ -73,7 +74,7 @@ pub fn early_id(
 }
 
 /// Writes the ID of the object of `size` bytes at the heap offset `offset`, and reads by it.
-#[tactic(auto, using(crate::proofs::ReadBack::id_written), unfolding(table::specs::Sizes::offset_bytes))]
+#[tactic(auto, unfolding(table::specs::Sizes::offset_bytes))]
 pub fn read_object(
     file: &[u8],
     header: &FractalHeapHeader,

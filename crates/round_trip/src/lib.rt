@@ -56,8 +56,8 @@ pub fn write_and_fetch(
     i: usize,
     found: &mut [u8],
 ) -> Result<usize, FormatError>
-    requires index { i < early }
-    requires front { early ≤ length sizes.now }
+    requires among_early { i < early }
+    requires early_in_list { early ≤ length sizes.now }
     requires not_empty { 0 < slice_index sizes.now i }
     requires room { slice_index sizes.now i ≤ length found.old }
     ensures answer { result ≡ came_back
