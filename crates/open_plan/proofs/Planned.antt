@@ -144,7 +144,7 @@ module _ {w : ℕ} {s : State} {n : ℕ} {xs : List ℕ} (P : IsPlanOf w s n xs)
 module _ (w : ℕ) (s : State) (n x : ℕ) where
   module _ (s' : State) (o : ℕ) (q : addition w s n x ≡ Ok (s', o)) where
     -- what is accepted was small enough, and placed
-    small-placed : (x ≤ max_managed fixed w) × (step_of fixed w s x ≡ Some (s', o))
+    pub small-placed : (x ≤ max_managed fixed w) × (step_of fixed w s x ≡ Some (s', o))
     small-placed = (grind (arith, nat_tests), grind (arith, nat_tests))
 
     -- and there was a number for it
