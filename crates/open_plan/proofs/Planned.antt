@@ -222,17 +222,22 @@ came w (x ∷ asked) s n xs ys P few e = by (addition w s n x) refl (came w aske
           offsets_are = ap (λ (l : List ℕ). plan_offsets fixed w xs ++ l) (given-same w s n x f q asked) ∙ C.offsets_are;
         }
 
+-- from the plan of no objects on
+came-first : (w : ℕ) (asked : List ℕ)
+    → Came w (initial fixed w) 0 [] asked (accepted_sizes w (initial fixed w) 0 asked)
+came-first w asked =
+    came w asked (initial fixed w) 0 [] (accepted_sizes w (initial fixed w) 0 asked) (of-none w) (omega arith) refl
+
 pub additions-planned : AdditionsPlanned
 unfolding plan_offsets offsets_from
 additions-planned w asked =
-    let all : List ℕ = accepted_sizes w (initial fixed w) 0 asked in
-    let C = came w asked (initial fixed w) 0 [] all (of-none w) (omega arith) refl in
+    let C = came-first w asked in
     record {
-      accepted = all;
+      accepted = accepted_sizes w (initial fixed w) 0 asked;
       are_accepted = refl;
       are_counted = C.are_counted;
       is_plan = C.is_plan;
       offsets_are = C.offsets_are;
       totals_are = planned-totals C.is_plan;
-      next = next-as-planned C.is_plan;
+      each = λ before size after e. next-as-planned (came-first w before).is_plan size;
     }

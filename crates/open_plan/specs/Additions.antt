@@ -74,8 +74,8 @@ pub record NextAsPlanned (offset_size : ℕ) (accepted : List ℕ) (size : ℕ)
       → answer ≡ Err (ObjectTooLarge (2 ^ 64 - 1) size)
 
 -- sizes asked for one after another, from the plan of no objects on: state, heap offsets and all totals are those of
--- planning the accepted ones in one list, and what is asked for next, accepted or refused, is answered as planning
--- answers. Of any longer sequence this is so at each of its places
+-- planning the accepted ones in one list, and each of them, accepted or refused, was answered as planning answers it
+-- behind the accepted ones among those before it
 pub record IsPlanned (offset_size : ℕ) (asked : List ℕ) : Type 0 where
   pub accepted : List ℕ
   pub are_accepted : accepted ≡ accepted_sizes offset_size (initial fixed offset_size) 0 asked
@@ -90,8 +90,10 @@ pub record IsPlanned (offset_size : ℕ) (asked : List ℕ) : Type 0 where
       → planned_for accepted offset_places block_places offset_size
       ≡ Ok (totals fixed offset_size
       (end_state fixed offset_size (state_after offset_size (initial fixed offset_size) 0 asked)))
-  pub next : (size : ℕ) → NextAsPlanned offset_size accepted size
-      (addition offset_size (state_after offset_size (initial fixed offset_size) 0 asked) (length accepted) size)
+  pub each : (before : List ℕ) (size : ℕ) (after : List ℕ) → asked ≡ before ++ size ∷ after
+      → NextAsPlanned offset_size (accepted_sizes offset_size (initial fixed offset_size) 0 before) size
+      (addition offset_size (state_after offset_size (initial fixed offset_size) 0 before)
+      (length (accepted_sizes offset_size (initial fixed offset_size) 0 before)) size)
 
 abbrev pub AdditionsPlanned : Type 0
 AdditionsPlanned = (offset_size : ℕ) (asked : List ℕ) → IsPlanned offset_size asked
