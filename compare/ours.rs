@@ -162,6 +162,12 @@ pub fn write_managed_id(offset: u64, size: u64, id: &mut [u8], slot: &mut [u8]) 
     unsafe { tools_write_managed_id(offset, size, i, k, s, n) }
 }
 
+/// The loader's, likewise.
+pub fn loader_write_managed_id(offset: u64, size: u64, id: &mut [u8], slot: &mut [u8]) -> u32 {
+    let (i, k, s, n) = (id.as_mut_ptr(), id.len(), slot.as_mut_ptr(), slot.len());
+    unsafe { fractal_heap_write_managed_id(offset, size, i, k, s, n) }
+}
+
 /// Every function with a slot, lent one of fewer than 16 bytes: nothing is written anywhere.
 pub fn short_slot(len: usize, bytes: &mut [u8]) {
     let before = bytes.to_vec();

@@ -385,6 +385,74 @@ static void layout(void)
           "one byte more: in the fifth block, and blocks and objects are counted apart");
 }
 
+/* Opens a plan at this place, which holds whatever was there: the number of refusal. Where C's ABI is System V's for x86-64,
+ * a struct of this size is handed back at an address that is passed before the parameters, and so the library itself
+ * writes to the place; else a copy is put there. */
+static uint32_t open_at(uint8_t *place, uint8_t offset_size, uint8_t *slot, size_t slot_len)
+{
+#if defined __x86_64__ && !defined _WIN32
+    typedef void *handed_back(void *, uint8_t, uint8_t *, size_t);
+    handed_back *open = (handed_back *)(void (*)(void))fractal_heap_open_plan;
+    check(open(place, offset_size, slot, slot_len) == place, "what opening hands back is at the place that was passed");
+#else
+    struct fractal_heap_opened_plan opened = fractal_heap_open_plan(offset_size, slot, slot_len);
+    memcpy(place, &opened, sizeof opened);
+#endif
+    return (uint32_t)get(place, 4);
+}
+
+/* Whether the bytes in front of a place and behind so many are all the mark. */
+static int marked(const uint8_t *all, size_t len, const uint8_t *place, size_t taken, uint8_t mark)
+{
+    int holds = 1;
+    for (size_t i = 0; i < len; i++)
+        holds = holds && ((all + i >= place && all + i < place + taken) || all[i] == mark);
+    return holds;
+}
+
+/* The struct in the compiled library is as large as the header says: amid marked bytes all calls write to it up to its
+ * last byte, and to none around it; and no larger alignment is needed, since of the two addresses one is no multiple of
+ * 16. */
+static void marked_bytes(void)
+{
+    static const uint8_t marks[] = {0xA5, 0x5A};
+    static const size_t opened_size = sizeof(struct fractal_heap_opened_plan);
+    static uint64_t words[51]; /* 20 before the place, or 21, and as many behind it */
+    const size_t objects_at = offsetof(struct fractal_heap_opened_plan, plan) + offsetof(struct fractal_heap_plan, objects);
+    uint8_t *all = (uint8_t *)words, slot[16];
+    check(opened_size == 8 + FRACTAL_HEAP_PLAN_SIZE && objects_at + 8 == opened_size &&
+              offsetof(struct fractal_heap_opened_plan, plan) == 8,
+          "what opening hands back has 80 bytes, and the last eight count the objects");
+    for (size_t i = 0; i < 4; i++) {
+        uint8_t mark = marks[i / 2], *place = all + 8 * (20 + i % 2);
+        struct fractal_heap_plan *plan = (struct fractal_heap_plan *)(place + 8);
+        uint64_t totals[FRACTAL_HEAP_PLAN_TOTALS];
+        int holds;
+
+        memset(words, mark, sizeof words);
+        check(open_at(place, 3, slot, 16) == FRACTAL_HEAP_INVALID_OFFSET_SIZE && get(slot, 8) == 3 &&
+                  marked(all, sizeof words, place, opened_size, mark),
+              "a plan that is refused, amid marked bytes");
+        memset(words, mark, sizeof words);
+        check(open_at(place, 8, slot, 15) == FRACTAL_HEAP_SLICE_TOO_SHORT &&
+                  marked(all, sizeof words, place, opened_size, mark),
+              "one for which the slot is too short");
+        memset(words, mark, sizeof words);
+        check(open_at(place, 8, slot, 16) == FRACTAL_HEAP_OK && place[8] == 8 && get(place + objects_at, 8) == 0 &&
+                  marked(all, sizeof words, place, opened_size, mark),
+              "a plan that is opened: written to its last byte, and nothing around it");
+
+        memset(all, mark, (size_t)(place + 8 - all)); /* the number, too */
+        holds = add(plan, 1002) == FRACTAL_HEAP_OK && first == 22 && add(plan, 65515) == FRACTAL_HEAP_OBJECT_TOO_LARGE &&
+                add(plan, 1) == FRACTAL_HEAP_OK && first == 1046 && get(place + objects_at, 8) == 2;
+        check(holds && marked(all, sizeof words, place + 8, FRACTAL_HEAP_PLAN_SIZE, mark),
+              "additions write to the plan's last byte, and nothing around it");
+        check(fractal_heap_plan_totals(plan, totals, FRACTAL_HEAP_PLAN_TOTALS) == FRACTAL_HEAP_OK &&
+                  totals[0] == 2 && totals[6] == 3005 && marked(all, sizeof words, place + 8, FRACTAL_HEAP_PLAN_SIZE, mark),
+              "nor do its totals");
+    }
+}
+
 static void plans(void)
 {
     for (int with_refusals = 0; with_refusals < 2; with_refusals++) {
@@ -440,21 +508,50 @@ static void plans_refused(void)
           "totals into ten places: eight are put, the rest is as it was");
 }
 
+/* Writes an ID with a slot of 16 bytes, whose numbers go to `first` and `second`. */
+static uint32_t write_id(uint64_t offset, uint64_t size, uint8_t *id, size_t id_len)
+{
+    uint8_t slot[16];
+    uint32_t number;
+    memset(slot, 0xA5, sizeof slot);
+    number = fractal_heap_write_managed_id(offset, size, id, id_len, slot, sizeof slot);
+    first = get(slot, 8);
+    second = get(slot + 8, 8);
+    return number;
+}
+
 /* IDs of what was planned. */
 static void planned_ids(void)
 {
     static const uint8_t worked[8] = {0x00, 0x16, 0x20, 0x00, 0x00, 0x00, 0xEB, 0x03};
-    uint8_t id[8], before[8];
-    check(fractal_heap_put_managed_id(id, 8214, 1003) == FRACTAL_HEAP_OK && memcmp(id, worked, 8) == 0,
-          "offset 8214, length 1003 is ID 00 16 20 00 00 00 EB 03");
-    check(fractal_heap_put_managed_id(id, ((uint64_t)1 << 40) - 1, 65535) == FRACTAL_HEAP_OK &&
-              get(id, 8) == UINT64_MAX - 255,
+    static const uint64_t end = (uint64_t)1 << 40, kept = 0xA5A5A5A5A5A5A5A5;
+    uint8_t id[11], before[11], slot[24], slot_before[24];
+    for (int i = 0; i < 11; i++)
+        id[i] = before[i] = (uint8_t)(0xC0 + i);
+    check(answers(write_id(8214, 1003, id, 11), FRACTAL_HEAP_OK, 0, 0) && memcmp(id, worked, 8) == 0 &&
+              memcmp(id + 8, before + 8, 3) == 0,
+          "offset 8214, length 1003 is ID 00 16 20 00 00 00 EB 03, and bytes behind it are as they were");
+    check(answers(write_id(end - 1, 65535, id, 8), FRACTAL_HEAP_OK, 0, 0) && get(id, 8) == UINT64_MAX - 255,
           "the largest offset and length");
-    memcpy(before, id, 8);
-    check(fractal_heap_put_managed_id(id, (uint64_t)1 << 40, 0) == FRACTAL_HEAP_HEAP_ID_TOO_LARGE &&
-              fractal_heap_put_managed_id(id, 22, 65536) == FRACTAL_HEAP_HEAP_ID_TOO_LARGE &&
-              memcmp(id, before, 8) == 0,
-          "offset 2^40, length 2^16: 16, and nothing is put");
+    memcpy(before, id, 11);
+    check(answers(write_id(end, 0, id, 8), FRACTAL_HEAP_HEAP_ID_TOO_LARGE, end, 0) &&
+              answers(write_id(22, 65536, id, 8), FRACTAL_HEAP_HEAP_ID_TOO_LARGE, 22, 65536) &&
+              answers(write_id(UINT64_MAX, UINT64_MAX, NULL, 0), FRACTAL_HEAP_HEAP_ID_TOO_LARGE, UINT64_MAX, UINT64_MAX) &&
+              memcmp(id, before, 11) == 0,
+          "offset 2^40, length 2^16, and both before a short ID: 16 with them, and no ID");
+    check(answers(write_id(22, 1, id, 7), FRACTAL_HEAP_SLICE_TOO_SHORT, kept, kept) &&
+              answers(write_id(22, 1, NULL, 0), FRACTAL_HEAP_SLICE_TOO_SHORT, kept, kept) && memcmp(id, before, 11) == 0,
+          "an ID of seven bytes or none: 13, and neither ID nor slot is written");
+    for (int i = 0; i < 24; i++)
+        slot[i] = slot_before[i] = (uint8_t)(0xA0 + i);
+    check(fractal_heap_write_managed_id(22, 1, id, 8, slot, 15) == FRACTAL_HEAP_SLICE_TOO_SHORT &&
+              fractal_heap_write_managed_id(end, 0, id, 8, slot, 15) == FRACTAL_HEAP_SLICE_TOO_SHORT &&
+              fractal_heap_write_managed_id(22, 1, id, 8, NULL, 0) == FRACTAL_HEAP_SLICE_TOO_SHORT &&
+              memcmp(id, before, 11) == 0 && memcmp(slot, slot_before, 24) == 0,
+          "a slot of 15 bytes or none: 13, before 16, and nothing is written");
+    check(fractal_heap_write_managed_id(22, 1, id, 8, slot, 24) == FRACTAL_HEAP_OK && get(slot, 8) == 0 &&
+              get(slot + 8, 8) == 0 && memcmp(slot + 16, slot_before + 16, 8) == 0,
+          "a slot of 24 bytes: two zeros in 16, the rest as it was");
 }
 
 /* No bytes at no address: one by one, and all together. */
@@ -490,6 +587,7 @@ int main(void)
     nulls(fractal_heap_decode_managed_id, id);
     nulls(fractal_heap_read_managed_object, id);
     layout();
+    marked_bytes();
     plans();
     plans_refused();
     planned_ids();

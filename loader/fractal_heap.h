@@ -1,6 +1,6 @@
-/* The loader's interface to the fractal heap: the six functions of the library fractal_heap_c
- * (loader/static_libraries fractal_heap_c, target/staticlib/libfractal_heap_c.a), and three short ones that stand
- * here whole: where a file's superblock is, how long a heap's IDs are, and the ID of an object that was planned.
+/* The loader's interface to the fractal heap: the seven functions of the library fractal_heap_c
+ * (loader/static_libraries fractal_heap_c, target/staticlib/libfractal_heap_c.a), and two short ones that stand
+ * here whole: where a file's superblock is, and how long a heap's IDs are.
  *
  * A file that is lent begins at its superblock. HDF5's addresses count from there: in a file with a user block
  * that is 512, 1,024, 2,048 .. bytes after the file's start. Lent from its start, such a file gives other bytes
@@ -30,8 +30,8 @@ extern "C" {
 #endif
 
 /* What the functions answer, but for the checksum and the length of IDs: 0, or why they refuse. Behind each number are
- * its two values, which go into the slot where a function takes one. Those that read give 0 to 10 and 13; an open plan gives 0, 2 and 11 to 13, an ID that
- * is written 0 and 16; 14 and 15 are those of writing, in the same table. */
+ * its two values, which go into the slot where a function takes one. Those that read give 0 to 10 and 13; an open plan
+ * gives 0, 2 and 11 to 13, the writer of IDs 0, 13 and 16; 14 and 15 are those of writing, in the same table. */
 enum fractal_heap_number {
     FRACTAL_HEAP_OK = 0,                                /* the answer's own */
     FRACTAL_HEAP_UNEXPECTED_EOF = 1,                    /* expected end (at most 2^64 - 1), available */
@@ -46,7 +46,7 @@ enum fractal_heap_number {
     FRACTAL_HEAP_DEPTH_EXCEEDED = 10,                   /* 64, 0 */
     FRACTAL_HEAP_OBJECT_TOO_LARGE = 11,                 /* index, size */
     FRACTAL_HEAP_HEAP_SPACE_EXHAUSTED = 12,             /* index, 0 */
-    FRACTAL_HEAP_SLICE_TOO_SHORT = 13,                  /* needed, lent; for a slot: nothing is put */
+    FRACTAL_HEAP_SLICE_TOO_SHORT = 13,                  /* of a slot, a list or an ID: nothing is put */
     FRACTAL_HEAP_OBJECT_BYTES_MISMATCH = 14,            /* sum of the sizes, bytes given */
     FRACTAL_HEAP_ADDRESS_TOO_LARGE = 15,                /* header address, 0; or region address, region size */
     FRACTAL_HEAP_HEAP_ID_TOO_LARGE = 16                 /* offset, length */
@@ -206,21 +206,14 @@ uint32_t fractal_heap_plan_add(struct fractal_heap_plan *plan, uint64_t size, ui
  * them keep their content. totals_len counts numbers; a list of fewer than eight gives 13 and is not written. */
 uint32_t fractal_heap_plan_totals(const struct fractal_heap_plan *plan, uint64_t *totals, size_t totals_len);
 
-/* Puts the ID of an object of `size` bytes at a heap offset into eight bytes: 0, the offset in five bytes, the size
- * in two. Returns 0; or 16 where the offset is not below 2^40 or the size not below 2^16, and then nothing is put.
+/* Writes the ID of an object of `size` bytes at a heap offset into the first eight bytes of `id`: 0, the offset in
+ * five bytes, the size in two; bytes behind them keep their content. Returns 0, with 0 and 0 in the slot; 16 where the
+ * offset is not below 2^40 or the size not below 2^16, with both in the slot; or 13 where id_len is below 8, and then
+ * nothing is put into the slot. A slot of fewer than 16 bytes gives 13 before all else and is not written. Refused, the
+ * ID's bytes stay as they are. ID and slot must not overlap.
  * Adding accepts an object without bytes at heap offset 2^40, the end of the heap space: that one has no ID. */
-static inline uint32_t fractal_heap_put_managed_id(uint8_t *id, uint64_t offset, uint64_t size)
-{
-    int i;
-    if (offset >> 40 != 0 || size >> 16 != 0)
-        return FRACTAL_HEAP_HEAP_ID_TOO_LARGE;
-    id[0] = 0;
-    for (i = 0; i < 5; i++)
-        id[1 + i] = (uint8_t)(offset >> 8 * i);
-    for (i = 0; i < 2; i++)
-        id[6 + i] = (uint8_t)(size >> 8 * i);
-    return FRACTAL_HEAP_OK;
-}
+uint32_t fractal_heap_write_managed_id(uint64_t offset, uint64_t size, uint8_t *id, size_t id_len,
+                                       uint8_t *slot, size_t slot_len);
 
 #ifdef __cplusplus
 }

@@ -5,6 +5,7 @@
 #![tactic(auto)]
 
 pub mod open_plans;
+pub mod written_ids;
 
 ghost use Rattle.std.specs.Prelude.{◌≡◌, ◌≤◌, ℕ, length, Ok, ◌+◌, IfOk};
 ghost use Rattle.checksum.specs.Lookup3.{hashlittle};

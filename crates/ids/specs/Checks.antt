@@ -2,9 +2,11 @@
 -- for Managed Objects'; the sizes of Offset and Length are those of docs/RULES.md (docs/DIFFERENCES.md).
 use Rattle.std.specs.Prelude.{ℕ, ◌+◌, ◌*◌, ◌^◌, ◌&&◌, nat_le, nat_lt, Result}
 use Rattle.refusals.specs.Steps.{◌>>=◌, required}
+use Rattle.refusals.specs.Refusals.{answer, report_of}
+use Rattle.refusals.specs.declared.answer.Answer.{Answer}
 use Rattle.refusals.specs.declared.FormatError.{FormatError}
 use Rattle.refusals.specs.declared.FormatError.TheVariants.{SliceTooShort, HeapIdTooLarge}
-use Rattle.table.specs.Table.{Table}
+use Rattle.table.specs.Table.{Table, fixed}
 use Rattle.table.specs.Sizes.{offset_bytes}
 use Rattle.ids.specs.Written.{length_bytes}
 
@@ -17,3 +19,7 @@ abbrev pub id_checked : Table → ℕ → ℕ → ℕ → Result (Unit {0}) Form
 id_checked t offset len lent = do
   _ ← required (nat_lt offset (2 ^ t.heap_bits) && nat_lt len (2 ^ (8 * length_bytes))) (HeapIdTooLarge offset len)
   required (nat_le (id_length t) lent) (SliceTooShort (id_length t) lent)
+
+-- what C is told of it: 0 and two zeros, or the refusal
+abbrev pub written_id_report : ℕ → ℕ → ℕ → Answer
+written_id_report offset len lent = report_of (λ _. answer 0 0 0) (id_checked fixed offset len lent)

@@ -119,4 +119,12 @@ unsafe extern "C" {
         totals: *mut u64,
         totals_len: usize,
     ) -> u32;
+    pub fn fractal_heap_write_managed_id(
+        offset: u64,
+        size: u64,
+        id: *mut u8,
+        id_len: usize,
+        slot: *mut u8,
+        slot_len: usize,
+    ) -> u32;
 }

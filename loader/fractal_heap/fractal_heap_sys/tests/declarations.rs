@@ -281,7 +281,7 @@ fn the_header_declares_what_rust_is_declared() {
     let Some(root) = repository() else { return };
     let (header, rust) = (text(&root, "loader/fractal_heap.h"), rust(&root, "lib"));
     assert_eq!(c_functions(&header), rust_functions(&rust));
-    assert_eq!(rust_functions(&rust).len(), 6);
+    assert_eq!(rust_functions(&rust).len(), 7);
     assert_eq!(numbers(&header), numbers(&rust));
     assert_eq!(numbers(&rust).len(), 17 + 3);
     assert_eq!(c_structs(&header), rust_structs(&rust));
@@ -380,6 +380,7 @@ fn a_change_of_one_side_is_seen() {
             "struct fractal_heap_plan *",
         ),
         ("uint64_t *totals", "uint32_t *totals"),
+        ("uint64_t size, uint8_t *id", "uint64_t size, const uint8_t *id"),
         ("uint64_t fill;", "uint32_t fill;"),
         ("uint64_t indirect;", ""),
         ("uint64_t objects;", "uint64_t objects; uint64_t bytes;"),
