@@ -6,7 +6,7 @@ ghost use Rattle.fractal_heap.specs.Header.{header_at};
 use crate::frame::{check_start, check_sum};
 use crate::header_fields::reader::Reader;
 use reading::DoublingTable;
-use refusals::{Answer, FormatError, Reported};
+use refusals::FormatError;
 
 /// How many fields a header has between version and checksum.
 pub const FIELD_COUNT: usize = 23;
@@ -164,16 +164,5 @@ impl FractalHeapHeader {
         ensures { list.new ≡ listed list.old self }
     {
         put_front(list, &self.numbers());
-    }
-}
-
-impl Reported for FractalHeapHeader {
-    ghost use Rattle.refusals.specs.Refusals.{answer};
-
-    // its numbers are handed out in a list
-    ghost report = { λ _. answer 0 0 0 };
-
-    fn answer(self) -> Answer {
-        Answer::accepted(0, 0)
     }
 }
