@@ -60,16 +60,22 @@ Examples, one after another:
 
 const IDS_MORE: &str = "\
 Each line has the size of an object in bytes; the objects are in the order in which
-they will be written. An object's line, its heap offset and its ID, is printed before the
-next size is read, and both stay the object's whatever follows. The sizes are not kept.
+they will be written. Each line of the input, the last one without an end too, has one
+line on standard output, which is printed before the next one is read: the heap offset, a
+space, and the ID. Both stay the object's whatever follows. The sizes are not kept.
 
-A size that is refused has the refusal on its line and makes no object: what follows is
-placed as without it. An empty object at the end of the heap space, at heap offset
-2^40, is an object, but has no ID: its line has the offset and the refusal. A line that is
-no number is told on standard error, with which line it is, and has none on standard
-output. An empty line is none, either.
+Where there is none, - stands in its column, and why in a third one; why in words, and
+which line it is, is told on standard error:
+  22 00:16:00:00:00:00:1C:00     an object
+  - - refused by 11              a size that is refused; it makes no object, and
+                                 what follows is placed as without it
+  1099511627776 - refused by 16  an empty object at the end of the heap space,
+                                 at heap offset 2^40, which no ID holds
+  - - no number                  a line that is no number, an empty one too
 
-Exit status: 2 where a line is no number, else 1 where one has a refusal.
+Exit status: 0 every line has its ID; 1 a line is refused; 2 a line is no number, which
+goes before 1, or wrong use, or standard input cannot be read: then what was planned so
+far is told.
 
 Examples:
   printf '28\\n' | PROGRAM ids

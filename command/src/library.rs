@@ -1,5 +1,5 @@
 //! The proved functions that this program calls beside the loader's, each behind a safe one.
-use fractal_heap::{Heap, Refusal};
+use fractal_heap::{Heap, Refusal, Totals};
 use fractal_heap_sys::{
     tools_heap_id_type, tools_parse_header, tools_plan, tools_read_tiny_object, tools_serialize,
     tools_write_managed_id,
@@ -7,19 +7,6 @@ use fractal_heap_sys::{
 
 /// A managed object's ID.
 pub type Id = [u8; 8];
-
-/// The eight numbers of a plan.
-#[derive(Clone, Copy, PartialEq, Eq)]
-pub struct Totals {
-    pub blocks: u64,
-    pub region_size: u64,
-    pub root_rows: u64,
-    pub root_place: u64,
-    pub managed: u64,
-    pub allocated: u64,
-    pub free: u64,
-    pub iterator: u64,
-}
 
 /// Both lists of a plan: the objects' heap offsets, and the heap offsets of the placed blocks.
 #[derive(Default)]
@@ -46,26 +33,7 @@ fn accepted(number: u32, first: u64, second: u64) -> Result<(), Refusal> {
 
 fn totals(number: u32, numbers: [u64; 8]) -> Result<Totals, Refusal> {
     accepted(number, numbers[0], numbers[1])?;
-    let [
-        blocks,
-        region_size,
-        root_rows,
-        root_place,
-        managed,
-        allocated,
-        free,
-        iterator,
-    ] = numbers;
-    Ok(Totals {
-        blocks,
-        region_size,
-        root_rows,
-        root_place,
-        managed,
-        allocated,
-        free,
-        iterator,
-    })
+    Ok(numbers.into())
 }
 
 /// Plans these sizes; the lists hold the plan.
