@@ -1,3 +1,4 @@
 pub mod InSlot
 pub mod WrittenIds
 pub mod Opened
+pub mod Parsed
