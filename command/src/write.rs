@@ -122,7 +122,7 @@ fn place(arguments: &Write) -> Result<Place, Failure> {
     };
     let none = library::plan(&[], &mut Lists::default(), offset_size)?;
     let header = image::header(&place, &none, 0)?;
-    library::parse_header(&place.heap(&header, 0))?;
+    place.heap(&header, 0).header()?;
     let writing = Writing {
         sizes: &[],
         objects: &[],
