@@ -12,33 +12,32 @@ import subprocess
 import sys
 
 sys.path.insert(0, os.path.join(os.path.dirname(os.path.abspath(__file__)), "..", "loader"))
-from hdf5_format import HEADER_FIELDS, expect, lookup3  # noqa: E402
+from hdf5_format import FIELD_NAMES, HEADER_FIELDS, expect, lookup3, told_fields
 
-# The names of the fields and the words of the table, in header order.
-NAMES = [
-    ("heap_id_length", "length of an ID"),
-    ("io_filter_encoded_length", "length of the filters"),
-    ("flags", "flags"),
-    ("max_managed_object_size", "largest managed object"),
-    ("next_huge_object_id", "next huge ID"),
-    ("btree_huge_objects_address", "index of huge objects"),
-    ("free_space_managed_blocks", "free space"),
-    ("managed_block_free_space_manager_address", "its manager"),
-    ("managed_space_in_heap", "managed space"),
-    ("allocated_managed_space_in_heap", "allocated space"),
-    ("direct_block_allocation_iterator_offset", "iterator"),
-    ("managed_objects_count", "managed objects"),
-    ("huge_objects_size", "size of huge objects"),
-    ("huge_objects_count", "huge objects"),
-    ("tiny_objects_size", "size of tiny objects"),
-    ("tiny_objects_count", "tiny objects"),
-    ("table_width", "table width"),
-    ("starting_block_size", "starting block"),
-    ("max_direct_block_size", "largest direct block"),
-    ("max_heap_size", "heap space"),
-    ("start_root_rows", "rows of a new root"),
-    ("root_block_address", "root block"),
-    ("current_rows_in_root_indirect_block", "rows of the root"),
+WORDS = [  # of the table, in header order
+    "length of an ID",
+    "length of the filters",
+    "flags",
+    "largest managed object",
+    "next huge ID",
+    "index of huge objects",
+    "free space",
+    "its manager",
+    "managed space",
+    "allocated space",
+    "iterator",
+    "managed objects",
+    "size of huge objects",
+    "huge objects",
+    "size of tiny objects",
+    "tiny objects",
+    "table width",
+    "starting block",
+    "largest direct block",
+    "heap space",
+    "rows of a new root",
+    "root block",
+    "rows of the root",
 ]
 PROGRAM, FOLDER = sys.argv[1:]
 
@@ -69,14 +68,6 @@ def spelled(fields, sizes):
     return data + lookup3(data).to_bytes(4, "little")
 
 
-def due_object(fields, sizes, at, offset_size, length_size):
-    undefined = (1 << 8 * offset_size) - 1
-    due = {"position": at, "offset_size": offset_size, "length_size": length_size}
-    for (name, _), (_, kind), number in zip(NAMES, HEADER_FIELDS, fields):
-        due[name] = None if kind == "address" and number == undefined else number
-    return due
-
-
 def share(free, managed):
     """In percent, downward."""
     if managed == 0:
@@ -95,7 +86,7 @@ def check_table(text, due):
     lines = text.splitlines()
     sizes = f"offset size {due['offset_size']}, length size {due['length_size']}"
     expect(lines[0] == f"heap header at {due['position']:,}; {sizes}", lines[0])
-    for line, (name, words) in zip(lines[1:], NAMES, strict=False):
+    for line, (name, words) in zip(lines[1:], zip(FIELD_NAMES, WORDS)):
         found, rest = line[2:24].rstrip(), line[24:].split()
         number = "none" if due[name] is None else f"{due[name]:,}"
         expect((found, rest[0]) == (words, number), f"{line!r}, not {words}: {number}")
@@ -133,7 +124,7 @@ def check_pair(offset_size, length_size):
             header[draw.randrange(9, len(header) - 4)] ^= 1 << draw.randrange(8)
             damaged[at] = stored, lookup3(bytes(header[:-4]))
         else:
-            sound[at] = due_object(fields, sizes, at, offset_size, length_size)
+            sound[at] = told_fields(fields, at, offset_size, length_size)
         data += header
     # Random bytes between them begin headers, too.
     chance = [at for at in range(len(data)) if data[at : at + 4] == b"FRHP" and at not in sound and at not in damaged]
