@@ -3,9 +3,8 @@
 -- entries here, row by row. That an undefined address is a block that is not there the text does not say: the original.
 -- w is Size of Offsets, target the wanted heap offset. An address is a place in s, which is to begin at Base Address
 -- (II.A).
-use Rattle.std.specs.Prelude.{ℕ, zero, suc, ◌+◌, ◌/◌, ◌==◌, List, [], ◌∷◌, ◌++◌, replicate, Bool, not, ◌&&◌, nat_le}
-use Rattle.std.specs.Prelude.{nat_lt, drop, if◌then◌else◌, Option, Some, None, Result, Ok}
-use Rattle.fields.specs.LittleEndian.{value, le_at}
+use Rattle.std.specs.Prelude.{ℕ, zero, suc, ◌+◌, ◌/◌, List, [], ◌∷◌, ◌++◌, replicate, Bool, not, ◌&&◌, nat_le}
+use Rattle.std.specs.Prelude.{nat_lt, take, drop, bytes_eq, if◌then◌else◌, Option, Some, None, Result, Ok}
 use Rattle.numbers.specs.Numbers.{saturated}
 use Rattle.fields.specs.Signatures.{indirect_signature}
 use Rattle.fields.specs.Fields.{len_ensured, offset_at}
@@ -52,7 +51,7 @@ entries_place table w = 5 + w + (table.max_heap_size + 7) / 8
 unfoldable pub child_in : DoublingTable → List ℕ → ℕ → ℕ → ℕ → ℕ → Result (Option HeapChild) FormatError
 child_in table s n start target w = do
   _ ← len_ensured s 0 4
-  _ ← required (le_at s 0 4 == value indirect_signature) InvalidFractalHeapSignature
+  _ ← required (bytes_eq (take 4 s) indirect_signature) InvalidFractalHeapSignature
   child_in_slots table s w target (slot_rows table n 0) (entries_place table w) start
 
 -- the same at address a of the file

@@ -5,7 +5,7 @@ ghost use Rattle.reading.specs.Blocks.{holds_offset, child_of, slot_rows, child_
 use crate::Search;
 use crate::rows::DoublingTable;
 use fields::convert::{is_undefined_addr, to_usize};
-use fields::little_endian::read_u32_le;
+use fields::signature::has_signature;
 use fields::{ensure_len, is_width, read_offset};
 use numbers::saturating_mul;
 use refusals::FormatError;
@@ -100,7 +100,7 @@ impl Search<'_> {
     /// The child that holds the target, of the block whose bytes these begin with: `nrows` rows, the first slot at the
     /// heap offset `start`. Filtered heaps, whose entries are longer, were refused before, and are not tested for
     /// again.
-    #[tactic(auto, unfolding(crate::specs::Blocks::child_in, crate::specs::Blocks::entries_place, fields::specs::LittleEndian::value))]
+    #[tactic(auto, unfolding(crate::specs::Blocks::child_in, crate::specs::Blocks::entries_place))]
     pub fn find_child_for_offset(
         &self,
         block: &[u8],
@@ -111,7 +111,7 @@ impl Search<'_> {
             ≡ child_in self.now.table block.now nrows start self.now.target self.now.offset_size }
     {
         ensure_len(block, 0, 4)?;
-        if read_u32_le(block, 0) != 0x4249_4846 {
+        if !has_signature(block, 0, b"FHIB") {
             return Err(FormatError::InvalidFractalHeapSignature);
         }
         let offset_bytes = (usize::from(self.table.max_heap_size) + 7) / 8;
