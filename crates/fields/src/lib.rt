@@ -5,6 +5,7 @@
 pub mod convert;
 pub mod little_endian;
 pub mod place;
+pub mod signature;
 pub mod slot;
 pub mod stores;
 pub mod width;

@@ -58,7 +58,6 @@ offset_read s p w l room = rw l (grind (arith, common_steps))
 
 -- a slot that ends at or before the target does not hold it
 pub not_held : (a w start end t : ℕ) → end ≤ t → holds_offset a w start end t ≡ false
-unfolding holds_offset
 not_held a w start end t h = grind (arith, common_steps)
 
 -- slots whose entries are there, and which end at or before the target, are passed
