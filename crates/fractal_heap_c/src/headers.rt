@@ -11,7 +11,6 @@ use refusals::{Answer, Reported, SLICE_TOO_SHORT};
 /// The header at `at`: its 23 fields, in header order, in the first places of `fields`, and two zeros in the slot. A
 /// refusal leaves the list as it was. A slot of fewer than 16 bytes gives 13 before all else, then a list of fewer than
 /// 23 places; both are then left as they were.
-#[tactic(auto, unfolding(fields::specs::Slot::slot_number, fields::specs::Slot::slot_bytes))]
 #[unsafe(no_mangle)]
 pub extern "C" fn fractal_heap_parse_header(
     file: &[u8],

@@ -15,7 +15,6 @@ use refusals::{FormatError, Reported, SLICE_TOO_SHORT};
 /// Writes the ID of the object of `size` bytes at the heap offset `offset` into the first eight bytes of `id`, and two
 /// zeros into the slot. An offset of 2^40 or more and a size of 2^16 or more are refused by 16, fewer than eight bytes by
 /// 13, of which the slot says nothing; then `id` stays as it is. A slot of fewer than 16 bytes gives 13 before all else.
-#[tactic(auto, unfolding(fields::specs::Slot::slot_number, fields::specs::Slot::slot_bytes))]
 #[unsafe(no_mangle)]
 pub extern "C" fn fractal_heap_write_managed_id(
     offset: u64,

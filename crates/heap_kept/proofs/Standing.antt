@@ -134,7 +134,7 @@ pub walk-scans : (t : Table) (w header : ℕ) (d : DoublingTable) → d.max_heap
     → walk_from d F w target len (suc depth) p n at
     ≡ onward d F w target len depth
     (child_in_slots d (drop p F) w target (slot_rows d n 0) (5 + w + offset_bytes t) at)
-unfolding walk_from len_ensured offset_bytes
+unfolding walk_from offset_bytes
 walk-scans t w header d bits F target len p n at depth es H =
     let r = H.in_file in
     let l = indirect-length t w header at es in

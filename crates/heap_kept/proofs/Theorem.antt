@@ -48,7 +48,6 @@ by-id {h = h} T F w o x lo hi =
 -- len bytes in a block that the file holds
 pub in_block : (F : List ℕ) (a b t len : ℕ) → a + (t - b) ≤ 2 ^ 64 - 1 → a + (t - b) + len ≤ length F
     → direct_at F a b t len ≡ Ok (record { position = a + (t - b); length = len })
-unfolding len_ensured
 in_block F a b t len u v = grind (arith, nat_tests)
 
 -- ---- an object

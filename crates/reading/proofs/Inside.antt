@@ -18,7 +18,6 @@ abbrev pub InFile : List ℕ → Result Place FormatError → Type 0
 InFile s r = IfOk r (λ place. place.position + place.length ≤ length s)
 
 pub direct_in_file : (s : List ℕ) (a start t len : ℕ) → InFile s (direct_at s a start t len)
-unfolding len_ensured
 direct_in_file s a start t len = grind (arith, common_steps)
 
 pub walk_in_file : (table : DoublingTable) (s : List ℕ) (w t len d a n start : ℕ)

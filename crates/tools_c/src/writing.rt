@@ -114,7 +114,6 @@ pub extern "C" fn tools_serialize(
 
 /// Writes a managed ID, and puts a refusal's two values, or two zeros, into the first 16 bytes of `slot`; a shorter
 /// slot gives 13 before all else.
-#[tactic(auto, unfolding(fields::specs::Slot::slot_number, fields::specs::Slot::slot_bytes))]
 #[unsafe(no_mangle)]
 pub extern "C" fn tools_write_managed_id(
     offset: u64,

@@ -72,7 +72,7 @@ third-missed starts is =
     (omega arith)
 
 pub worked : All cases
-unfolding add32 mixed_groups groups_of begun body tail_of ended hashlittle legal saturated le value le_at
+unfolding add32 mixed_groups groups_of begun body tail_of ended hashlittle saturated le value le_at
     count_leading_zeros log2 block_size direct_rows size_to_rows heap_size slot_size len_ensured row_bits row_offset
     row_in row_of max_rows covering_in covering slot_start slot_bits_in slot_bits slot_at entered_bytes_in
     entered_bytes offset_bytes direct_header max_managed indirect_size sum block_capacity capacities capacity

@@ -32,7 +32,7 @@ impl Reader<'_> {
 
     /// A number of one byte.
     #[inline(always)]
-    #[tactic(auto, unfolding(fields::specs::Fields::plain_at, fields::specs::LittleEndian::le_at, fields::specs::LittleEndian::value))]
+    #[tactic(auto, unfolding(fields::specs::LittleEndian::le_at, fields::specs::LittleEndian::value))]
     pub fn u8(&self, pos: usize) -> Result<(u8, usize), FormatError>
         ensures value { result ≡ plain_field self.now.file.now pos 1 }
         ensures next { IfOk result (λ field. field.1 ≡ pos + 1) }
@@ -66,7 +66,6 @@ impl Reader<'_> {
 
     /// An address; an `offset_size` that is no width is refused first (2).
     #[inline(always)]
-    #[tactic(auto, unfolding(fields::specs::Fields::offset_at, fields::specs::Fields::number_at))]
     pub fn offset(&self, pos: usize) -> Result<(u64, usize), FormatError>
         ensures value { result ≡ offset_field self.now.file.now pos self.now.offset_size }
         ensures next { IfOk result (λ field. field.1 ≡ pos + self.now.offset_size) }
@@ -79,7 +78,6 @@ impl Reader<'_> {
 
     /// A length; a `length_size` that is no width is refused first (3).
     #[inline(always)]
-    #[tactic(auto, unfolding(fields::specs::Fields::length_at, fields::specs::Fields::number_at))]
     pub fn length(&self, pos: usize) -> Result<(u64, usize), FormatError>
         ensures value { result ≡ length_field self.now.file.now pos self.now.length_size }
         ensures next { IfOk result (λ field. field.1 ≡ pos + self.now.length_size) }
