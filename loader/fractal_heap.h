@@ -31,7 +31,8 @@ extern "C" {
 
 /* What the functions answer, but for the checksum and the length of IDs: 0, or why they refuse. Behind each number are
  * its two values, which go into the slot where a function takes one. Those that read give 0 to 10 and 13; an open plan
- * gives 0, 2 and 11 to 13, the writer of IDs 0, 13 and 16; 14 and 15 are those of writing, in the same table. */
+ * gives 0, 2 and 11 to 13, the writer of IDs 0, 13 and 16; 14, 15
+ * and 17 are those of writing, in the same table. */
 enum fractal_heap_number {
     FRACTAL_HEAP_OK = 0,                                /* the answer's own */
     FRACTAL_HEAP_UNEXPECTED_EOF = 1,                    /* expected end (at most 2^64 - 1), available */
@@ -49,7 +50,8 @@ enum fractal_heap_number {
     FRACTAL_HEAP_SLICE_TOO_SHORT = 13,                  /* of a slot, a list or an ID: nothing is put */
     FRACTAL_HEAP_OBJECT_BYTES_MISMATCH = 14,            /* sum of the sizes, bytes given */
     FRACTAL_HEAP_ADDRESS_TOO_LARGE = 15,                /* header address, 0; or region address, region size */
-    FRACTAL_HEAP_HEAP_ID_TOO_LARGE = 16                 /* offset, length */
+    FRACTAL_HEAP_HEAP_ID_TOO_LARGE = 16,                /* offset, length */
+    FRACTAL_HEAP_HEADER_FIELD_TOO_LARGE = 17            /* the field's place in header order, its value */
 };
 
 /* A pointer whose length is 0 is not touched and may be NULL. That was seen in the compiled library;

@@ -54,6 +54,8 @@ pub enum Refusal {
     RegionAddressTooLarge { address: u64, region_size: u64 },
     /// 16: the ID writer's offset or length is too large.
     HeapIdTooLarge { offset: u64, length: u64 },
+    /// 17: a header's field, by its place in header order counted from 0, is too large for its width.
+    HeaderFieldTooLarge { place: u64, value: u64 },
     /// A number that this version has no words for.
     Other {
         number: u32,
@@ -65,7 +67,7 @@ pub enum Refusal {
 impl Refusal {
     /// The numbers that this version has words for.
     pub const NUMBERS: RangeInclusive<u32> =
-        sys::FRACTAL_HEAP_UNEXPECTED_EOF..=sys::FRACTAL_HEAP_HEAP_ID_TOO_LARGE;
+        sys::FRACTAL_HEAP_UNEXPECTED_EOF..=sys::FRACTAL_HEAP_HEADER_FIELD_TOO_LARGE;
 
     /// The cause with this number and these values; a value that the cause does not have is passed over.
     pub fn new(number: u32, first: u64, second: u64) -> Self {
@@ -122,6 +124,10 @@ impl Refusal {
                 offset: first,
                 length,
             },
+            (sys::FRACTAL_HEAP_HEADER_FIELD_TOO_LARGE, value) => Refusal::HeaderFieldTooLarge {
+                place: first,
+                value,
+            },
             _ => Refusal::Other {
                 number,
                 first,
@@ -164,6 +170,7 @@ impl Refusal {
                 sys::FRACTAL_HEAP_ADDRESS_TOO_LARGE
             }
             Refusal::HeapIdTooLarge { .. } => sys::FRACTAL_HEAP_HEAP_ID_TOO_LARGE,
+            Refusal::HeaderFieldTooLarge { .. } => sys::FRACTAL_HEAP_HEADER_FIELD_TOO_LARGE,
             Refusal::Other { number, .. } => number,
         }
     }
@@ -202,6 +209,7 @@ impl Refusal {
                 offset: a,
                 length: b,
             }
+            | Refusal::HeaderFieldTooLarge { place: a, value: b }
             | Refusal::Other {
                 first: a,
                 second: b,
@@ -235,6 +243,7 @@ impl Refusal {
                 "the header's address is too large for the offset size, or the region ends past its largest"
             }
             16 => "no ID holds the offset and the length: they must be below 2^40 and below 2^16",
+            17 => "a field of the header to be written is too large for its width",
             _ => return None,
         })
     }
@@ -295,6 +304,9 @@ impl Refusal {
             Refusal::HeapIdTooLarge { .. } => format!(
                 "no ID holds offset {a} and length {b}: they must be below 2^40 and below 2^16"
             ),
+            Refusal::HeaderFieldTooLarge { .. } => format!(
+                "the field at place {a} of the header to be written, counted from 0, is {b}, too large for its width"
+            ),
             _ => format!("a number that no table has, with the values {a} and {b}"),
         }
     }
@@ -328,7 +340,7 @@ mod tests {
     use super::*;
 
     /// Numbers and values as the table in README.md has them: 15 stands there twice.
-    const TABLE: [(u32, u64, u64); 17] = [
+    const TABLE: [(u32, u64, u64); 18] = [
         (1, 5120, 4096),
         (2, 3, 0),
         (3, 16, 0),
@@ -346,6 +358,7 @@ mod tests {
         (15, 65_535, 0),
         (15, 65_000, 1024),
         (16, 1 << 40, 0),
+        (17, 18, 65_536),
     ];
 
     #[test]

@@ -38,6 +38,7 @@ pub const FRACTAL_HEAP_SLICE_TOO_SHORT: u32 = 13;
 pub const FRACTAL_HEAP_OBJECT_BYTES_MISMATCH: u32 = 14;
 pub const FRACTAL_HEAP_ADDRESS_TOO_LARGE: u32 = 15;
 pub const FRACTAL_HEAP_HEAP_ID_TOO_LARGE: u32 = 16;
+pub const FRACTAL_HEAP_HEADER_FIELD_TOO_LARGE: u32 = 17;
 
 // How many numbers the fields of a header are.
 pub const FRACTAL_HEAP_HEADER_FIELDS: u32 = 23;
