@@ -5,17 +5,16 @@ use Rattle.std.proofs.Math.Decide.{ℕ_discrete}
 use Rattle.std.specs.Int.Count.{count_leading_zeros}
 use Rattle.fields.specs.Widths.{legal}
 use Rattle.numbers.specs.Numbers.{saturated, log2}
-use Rattle.checksum.specs.Words.{add32}
-use Rattle.checksum.specs.Lookup3.{run as mixed_groups, groups_of, begun, body, tail_of, ended, hashlittle}
-use Rattle.table.specs.Table.{fixed, row_bits, row_offset, row_in, row_of, max_rows, covering_in, covering}
+use Rattle.checksum.specs.Lookup3.{run as mixed_groups, hashlittle}
+use Rattle.table.specs.Table.{fixed, row_bits, row_offset, row_in, row_of, covering_in, covering}
 use Rattle.table.specs.Slots.{slot_start, slot_bits_in, slot_bits, slot_at, entered_bytes_in, entered_bytes}
 use Rattle.table.specs.Sizes.{offset_bytes, direct_header, max_managed, indirect_size}
 use Rattle.numbers.specs.Sums.{sum}
-use Rattle.table.specs.Capacity.{block_capacity, capacities, capacity}
+use Rattle.table.specs.Capacity.{capacities}
 use Rattle.planner.specs.Steps.{open_in, open_at, step_of, run_from, offsets_from, starts_from, run, plan_offsets}
 use Rattle.planner.specs.Steps.{plan_starts}
 use Rattle.plan.specs.declared.ManagedPlan.{ManagedPlan}
-use Rattle.plan.specs.End.{end_state, rows_of_root}
+use Rattle.plan.specs.End.{end_state}
 use Rattle.plan.specs.Answer.{totals, planned_for}
 use Rattle.plan.specs.Checks.{sizes_checked, input_checked}
 use Rattle.fields.specs.LittleEndian.{le, value, le_at}
@@ -72,12 +71,11 @@ third-missed starts is =
     (omega arith)
 
 pub worked : All cases
-unfolding add32 mixed_groups groups_of begun body tail_of ended hashlittle saturated le value le_at
-    count_leading_zeros log2 block_size direct_rows size_to_rows heap_size slot_size len_ensured row_bits row_offset
-    row_in row_of max_rows covering_in covering slot_start slot_bits_in slot_bits slot_at entered_bytes_in
-    entered_bytes offset_bytes direct_header max_managed indirect_size sum block_capacity capacities capacity
-    open_in open_at step_of run_from offsets_from starts_from run plan_offsets plan_starts end_state rows_of_root
-    totals sizes_checked input_checked planned_for
+unfolding mixed_groups hashlittle saturated le value le_at count_leading_zeros log2
+    size_to_rows heap_size slot_size len_ensured row_bits row_offset row_in row_of covering_in covering slot_start
+    slot_bits_in slot_bits slot_at entered_bytes_in entered_bytes offset_bytes direct_header max_managed
+    indirect_size sum capacities open_in open_at step_of run_from offsets_from starts_from run plan_offsets
+    plan_starts end_state totals sizes_checked input_checked planned_for
 worked =
     both (refl, refl, refl, planned _ _ _ refl)
     (both (refl, refl, refl, planned _ _ _ refl)
