@@ -11,7 +11,10 @@ use Rattle.std.proofs.lemmas.Bool.{cases_lt}
 use Rattle.std.proofs.lemmas.Bool.Decides.{nat_tests}
 use Rattle.fields.proofs.LittleEndian.{length-le}
 use Rattle.table.specs.Table.{Table, fixed, row_bits, row_offset}
+use Rattle.table.specs.Sizes.{indirect_size}
 use Rattle.table.proofs.Rows.{row, slot-rows}
+use Rattle.region_blocks.specs.Blocks.{indirect_block}
+use Rattle.region_blocks.proofs.Lengths.{indirect-length}
 use Rattle.region_indirects.specs.declared.cursor.Slots.{Slots}
 use Rattle.region_indirects.specs.Slots.{block_slots, next_rows, next_slots}
 use Rattle.region_indirects.specs.Walk.{Walked, WalkedFrom, begins_before, rows_of_slots, unplaced, direct, nothing}
@@ -164,6 +167,17 @@ module _ (t : Table) (w header : ℕ) where
   block-entries n at ss pos next =
       let sound = slots-sound (smaller t w header n) (smaller-sound n) (rows_of_slots t n 0) at ss pos next in
       rw (length-rows n 0) at sound.wide
+
+  -- a block stands after those in its slots
+  pub block-length : (n at : ℕ) (ss : List ℕ) (pos next : ℕ)
+      → length (block t w header n at ss pos next).bytes
+      ≡ length (all_slots t w header n at ss pos next).bytes + indirect_size t w n
+  unfolding block finished indirect_size
+  block-length n at ss pos next =
+      let inner : Walked = all_slots t w header n at ss pos next in
+      let own = indirect-length t w header at inner.entries in
+      let entries = block-entries n at ss pos next in
+      length-append inner.bytes (indirect_block t w header at inner.entries) ∙ omega arith
 
 -- ---- the rows of the slots that are left
 

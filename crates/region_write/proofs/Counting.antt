@@ -10,11 +10,11 @@ use Rattle.table.proofs.Rows.{row, row-of-is, heap-rows}
 use Rattle.table.proofs.Slots.{slot-some}
 use Rattle.plan.specs.Plans.{sizes_at}
 use Rattle.region_indirects.specs.Walk.{Walked, unplaced, direct, nothing, both, slot, slots, smaller, all_slots, block}
+use Rattle.region_indirects.proofs.Walking.{block-length}
 use Rattle.region_write.proofs.Geometry.{cell-end, SlotAt, Ahead, done, slot_of, slot-end, all-ahead, BlockAt}
 use Rattle.region_write.proofs.Geometry.{inner-span, root-block, inner_block}
 use Rattle.region_write.proofs.Starts.{Placed, none, more, before, from, last_end, before-yes, before-none}
 use Rattle.region_write.proofs.Starts.{before-later, end-append, before-whole, from-none}
-use Rattle.region_write.proofs.Lengths.{block-length}
 use Rattle.region_write.proofs.Walking.{by-smaller, Way, empty, placed, deeper, way, cut-placed, slot-cut, block-cut}
 
 -- the bytes of the indirect blocks that direct blocks at ss open in the indirect block at `at`, f deep, where the

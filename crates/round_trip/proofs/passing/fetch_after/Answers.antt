@@ -52,7 +52,8 @@ returns-clause-kept g c =
     let A = accepts c.in_ok-plan.ensures.answer in
     let D = drawn c.requires.among_early c.requires.early_in_list c.requires.not_empty c.serialize_and_pass.auto.offsets
     c.serialize_and_pass.auto.blocks in
-    let I = its-id A c.requires.among_early c.requires.early_in_list c.requires.not_empty (given-is A D c.in_ok-id.ensures.answer) in
+    let id = given-is A D c.in_ok-id.ensures.answer in
+    let I = its-id A c.requires.among_early c.requires.early_in_list c.requires.not_empty id in
     if-accepted A _
     (λ region room.
     let H = holds A c.header_of.ensures (record { region_there = region }) in
