@@ -30,7 +30,7 @@ module _ (c : Call) (p : ManagedPlan) (W : WriterAccepts c p) (xs later : List �
 
   offset-is : offset_of w c.sizes i ≡ o
   offset-is =
-      let (small, placed) = small-placed w G.before i x G.after o G.is_accepted in
+      let (small, placed) = small-placed w G.before G.objects x G.after o G.is_accepted in
       ap (λ (l : List ℕ). slice_index (plan_offsets fixed w l) i) E
       ∙ stays G.is_plan small placed later c.offset_places c.block_places p
       (ap (λ (l : List ℕ). planned_for l c.offset_places c.block_places w) (sym E) ∙ planned W)

@@ -14,9 +14,10 @@ use Rattle.heap_kept.specs.Kept.{IsIdOf}
 -- an open plan of these sizes accepted one more, and gave it this heap offset
 pub record IsGiven (offset_size : ℕ) (sizes : List ℕ) (size offset : ℕ) : Type 0 where
   pub before : State
+  pub objects : ℕ
+  pub is_plan : IsPlanOf offset_size before objects sizes
   pub after : State
-  pub is_plan : IsPlanOf offset_size before (length sizes) sizes
-  pub is_accepted : addition offset_size before (length sizes) size ≡ Ok (after, offset)
+  pub is_accepted : addition offset_size before objects size ≡ Ok (after, offset)
 
 -- the ID of this heap offset and this size is that of the call's object with this index; where the object is not empty
 -- it is an ID that it was given early, too, and by it every file that holds what the writer wrote gives the object's

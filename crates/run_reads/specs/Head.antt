@@ -40,7 +40,7 @@ header_place_in head = le_at head 14 8
 abbrev pub number_in : (head : List ℕ) → ℕ
 number_in head = le_at head 22 4
 
--- how many words are recorded: two of an answer, twelve of a header
+-- how many words are recorded: two of an answer, 23 of a header
 abbrev pub word_count_in : (head : List ℕ) → ℕ
 word_count_in head = slice_index head 26
 
