@@ -208,6 +208,14 @@ fn headers(list: &mut List, random: &mut Random) {
         let head = made::fixed(20, 1);
         list.parse(&headed(random, &head, w, l, 1));
     }
+    // what is stepped over is tested as bytes that are there, several fields together, and no width with them
+    let whole = headed(random, &made::fixed(20, 1), 8, 8, 0);
+    for (len, w, l) in [(146, 3, 3), (40, 8, 3), (40, 8, 8), (80, 8, 8)] {
+        let mut heap = whole.clone();
+        heap.file.truncate(len);
+        (heap.offset_size, heap.length_size) = (w, l);
+        list.parse(&heap);
+    }
     let mut heap = headed(random, &made::fixed(20, 1), 4, 4, 7);
     let len = heap.file.len() as u64;
     for at in [

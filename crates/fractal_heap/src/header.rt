@@ -68,6 +68,7 @@ pub struct FractalHeapHeader {
 }
 
 // Puts numbers into the first places of a list.
+#[inline(always)]
 #[tactic(auto, unfolding(fields::specs::LittleEndian::put))]
 fn put_front(list: &mut [u64], numbers: &[u64])
     requires { length numbers.now ≤ length list.old }
@@ -82,6 +83,8 @@ impl FractalHeapHeader {
     ghost use Rattle.fractal_heap.specs.ReadLaws.{HeaderFits};
 
     /// The header at `offset` of the file, whose addresses have `offset_size` bytes and whose lengths `length_size`.
+    // Inlined, so that a caller reads no field that it does not use.
+    #[inline(always)]
     pub fn parse(
         file: &[u8],
         offset: usize,
@@ -128,6 +131,7 @@ impl FractalHeapHeader {
     }
 
     /// The fields as numbers, in header order.
+    #[inline(always)]
     pub fn numbers(self) -> [u64; FIELD_COUNT]
         ensures { result ≡ header_numbers self }
     {
@@ -159,6 +163,7 @@ impl FractalHeapHeader {
     }
 
     /// Puts the fields into the first places of a list.
+    #[inline(always)]
     pub fn put_numbers(self, list: &mut [u64])
         requires { field_count ≤ length list.old }
         ensures { list.new ≡ listed list.old self }
