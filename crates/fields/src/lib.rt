@@ -16,8 +16,10 @@ ghost use Rattle.fields.specs.Widths.{legal, byte_count};
 ghost use Rattle.fields.specs.Fields.{len_ensured, plain_at, number_at, offset_at, length_at};
 
 use crate::little_endian::{read_le, read_u16_le, read_u32_le};
-use crate::width::Width;
+pub use place::Place;
 use refusals::FormatError;
+pub use stores::Writer;
+pub use width::Width;
 
 // The refusal where no `needed` bytes stand at `offset`. The end that it reports saturates at 2^64 - 1.
 #[tactic(auto, unfolding(numbers::specs::Numbers::saturated))]

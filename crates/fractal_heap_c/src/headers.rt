@@ -5,7 +5,7 @@ ghost use Rattle.fractal_heap_c.specs.Parsed.{parsed_number, parsed_slot, parsed
 
 use fields::convert::to_usize;
 use fields::slot::put_answer;
-use fractal_heap::header::{FIELD_COUNT, FractalHeapHeader};
+use fractal_heap::{FIELD_COUNT, FractalHeapHeader};
 use refusals::{Answer, Reported, SLICE_TOO_SHORT};
 
 /// The header at `at`: its 23 fields, in header order, in the first places of `fields`, and two zeros in the slot. A

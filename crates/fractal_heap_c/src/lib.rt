@@ -24,13 +24,12 @@ ghost use Rattle.fractal_heap_c.specs.InSlot.{NamesPlace, NamesPair};
 ghost use Rattle.fractal_heap_c.specs.WrittenIds.{IsWrittenId};
 
 use checksum::jenkins_lookup3;
+use fields::Place;
 use fields::convert::to_usize;
-use fields::place::Place;
 use fields::slot::put_answer;
-use fractal_heap::header::FractalHeapHeader;
-use ids::decode::ManagedId;
-use refusals::FormatError;
-use refusals::answer::Reported;
+use fractal_heap::FractalHeapHeader;
+use ids::ManagedId;
+use refusals::{FormatError, Reported};
 
 /// The checksum of HDF5's metadata: lookup3 of the bytes, with initial value 0.
 #[unsafe(no_mangle)]

@@ -10,8 +10,8 @@ ghost use Rattle.open_plan.specs.Additions.{addition};
 ghost use Rattle.open_plan.specs.Open.{IsPlanOf, Extends, RefusedAsPlanned};
 ghost use Rattle.fractal_heap_c.specs.Opened.{opening_report, addition_report};
 
+use fields::Width;
 use fields::slot::put_answer;
-use fields::width::Width;
 use open_plan::OpenPlan;
 use plan::report::put_planned;
 use refusals::{Answer, Reported, SLICE_TOO_SHORT};

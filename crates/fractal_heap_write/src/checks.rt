@@ -7,8 +7,7 @@ ghost use Rattle.fractal_heap_write.specs.Answer.{Accepted, serialized_for};
 ghost use Rattle.fractal_heap_write.specs.Checks.{bytes_checked, header_address_checked, region_address_checked};
 
 use fields::convert::undefined_address;
-use fields::width::Width;
-use fields::{has_room, offset_width};
+use fields::{Width, has_room, offset_width};
 use plan::checks::check_places;
 use plan::{ManagedPlan, planned_for};
 use refusals::FormatError;

@@ -5,7 +5,7 @@ ghost use Rattle.fields.specs.declared.place.Place.{Place};
 ghost use Rattle.fractal_heap.specs.Read.{managed_at};
 ghost use Rattle.heap_kept.specs.Kept.{ForKept, IsFetched, fetched};
 
-use fractal_heap::header::FractalHeapHeader;
+use fractal_heap::FractalHeapHeader;
 use refusals::FormatError;
 
 /// Copies the bytes of the managed object that an ID names into the front of `found`, and answers how many they are.

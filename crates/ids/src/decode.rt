@@ -7,8 +7,7 @@ ghost use Rattle.ids.specs.Decoded.{split_id, decoded_id};
 
 use crate::decode::types::type_of;
 use fields::little_endian::read_u64_le;
-use refusals::FormatError;
-use refusals::answer::{Answer, Reported};
+use refusals::{Answer, FormatError, Reported};
 
 /// Where a managed object lies in the heap space, and how many bytes it has.
 #[derive(Clone, Copy, Debug, PartialEq, Eq)]

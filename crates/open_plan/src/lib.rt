@@ -11,8 +11,7 @@ ghost use Rattle.plan.specs.End.{end_state};
 ghost use Rattle.open_plan.specs.Additions.{addition, AdditionsPlanned};
 ghost use Rattle.open_plan.specs.Open.{IsPlanOf, Extends, RefusedAsPlanned};
 
-use fields::offset_width;
-use fields::width::Width;
+use fields::{Width, offset_width};
 use plan::ManagedPlan;
 use planner::Planner;
 use refusals::FormatError;

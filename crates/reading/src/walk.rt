@@ -5,8 +5,7 @@ ghost use Rattle.reading.specs.Walk.{direct_at, walk_from, root_walk};
 use crate::Search;
 use crate::children::HeapChild;
 use fields::convert::{is_undefined_addr, to_usize};
-use fields::ensure_len;
-use fields::place::Place;
+use fields::{Place, ensure_len};
 use refusals::FormatError;
 
 impl Search<'_> {

@@ -7,7 +7,7 @@ ghost use Rattle.region_blocks.specs.Blocks.{block_head, direct_body, direct_blo
 
 use crate::{Site, put_head};
 use checksum::jenkins_lookup3;
-use fields::stores::Writer;
+use fields::Writer;
 use table::block_sizes::direct_block_header;
 
 // All but the checksum, whose field is zero.

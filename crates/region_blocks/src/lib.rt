@@ -9,7 +9,7 @@ ghost use Rattle.table.specs.Table.{fixed};
 ghost use Rattle.fields.specs.Writing.{Puts};
 ghost use Rattle.region_blocks.specs.Blocks.{block_head, head_size};
 
-use fields::stores::Writer;
+use fields::Writer;
 use table::BLOCK_OFFSET_BYTES;
 
 /// What all blocks of a region share: the width of addresses in bytes, and where the heap's header and the region

@@ -6,11 +6,11 @@ ghost use Rattle.plan.specs.Answer.{planned_for, list_after};
 ghost use Rattle.round_trip.specs.Objects.{fixed_header, header_of, object_at};
 ghost use Rattle.round_trip.specs.Early.{early_id};
 
-use fields::place::Place;
-use fractal_heap::header::FractalHeapHeader;
+use fields::Place;
+use fractal_heap::FractalHeapHeader;
 use ids::write::write_managed_id;
 use plan::ManagedPlan;
-use reading::rows::DoublingTable;
+use reading::DoublingTable;
 use refusals::FormatError;
 use region_blocks::Site;
 use table::{MAX_DIRECT_BLOCK_SIZE, MAX_HEAP_SIZE_BITS, STARTING_BLOCK_SIZE, TABLE_WIDTH};

@@ -7,7 +7,7 @@
 
 use Size::{Bytes, FullBlock, Largest};
 use checksum::jenkins_lookup3;
-use fractal_heap::header::FractalHeapHeader;
+use fractal_heap::FractalHeapHeader;
 use ids::write::write_managed_id;
 use plan::ManagedPlan;
 use refusals::{FormatError, Reported};

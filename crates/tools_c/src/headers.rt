@@ -5,7 +5,7 @@ ghost use Rattle.fractal_heap.specs.Listed.{header_number};
 ghost use Rattle.tools_c.specs.HeaderTools.{header_list};
 
 use fields::convert::to_usize;
-use fractal_heap::header::{FIELD_COUNT, FractalHeapHeader};
+use fractal_heap::{FIELD_COUNT, FractalHeapHeader};
 use refusals::{Reported, SLICE_TOO_SHORT};
 
 /// The header's fields in header order, or the refusal's pair, in the first places of a list of at least 23; a shorter
