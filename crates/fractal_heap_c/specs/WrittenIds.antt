@@ -4,6 +4,11 @@ use Rattle.fields.specs.Slot.{slot_bytes}
 use Rattle.table.specs.Table.{fixed}
 use Rattle.ids.specs.Checks.{id_checked, written_id_report}
 use Rattle.ids.specs.Written.{managed_id}
+use Rattle.fractal_heap.specs.declared.header.FractalHeapHeader.{FractalHeapHeader}
+
+-- a header under which an ID of our writer decodes to its pair: one of the fixed geometry, whose heap bits alone matter
+abbrev pub DecodesOurIds : FractalHeapHeader → Type 0
+DecodesOurIds header = header.table.max_heap_size ≡ fixed.heap_bits
 
 -- the ID writer accepted the heap offset and the length for some lent slice, and these are the eight bytes that it
 -- wrote

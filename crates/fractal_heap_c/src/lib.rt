@@ -19,9 +19,8 @@ ghost use Rattle.fractal_heap.specs.declared.header.FractalHeapHeader.{FractalHe
 ghost use Rattle.fractal_heap.specs.Header.{header_at};
 ghost use Rattle.fractal_heap.specs.Read.{id_by, object_by};
 ghost use Rattle.heap_kept.specs.Kept.{ForKept};
-ghost use Rattle.table.specs.Table.{fixed};
 ghost use Rattle.fractal_heap_c.specs.InSlot.{NamesPlace, NamesPair};
-ghost use Rattle.fractal_heap_c.specs.WrittenIds.{IsWrittenId};
+ghost use Rattle.fractal_heap_c.specs.WrittenIds.{DecodesOurIds, IsWrittenId};
 
 use checksum::jenkins_lookup3;
 use fields::Place;
@@ -84,7 +83,7 @@ pub extern "C" fn fractal_heap_decode_managed_id(
         (report_of id_report (id_by file.now at offset_size length_size id.now)) }
     ensures kept { (header : FractalHeapHeader)
         → header_at file.now at offset_size length_size ≡ Ok header
-        → header.table.max_heap_size ≡ fixed.heap_bits
+        → DecodesOurIds header
         → (offset len : ℕ) → IsWrittenId id.now offset len
         → 16 ≤ length slot.old → NamesPair result slot.new offset len }
 {

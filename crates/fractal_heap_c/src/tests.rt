@@ -4,8 +4,7 @@ ghost use Rattle.std.specs.Prelude.{◌≡◌, ℕ, Ok, Some, IsSomeAnd};
 ghost use Rattle.fractal_heap.specs.declared.header.FractalHeapHeader.{FractalHeapHeader};
 ghost use Rattle.fractal_heap.specs.Header.{header_at};
 ghost use Rattle.heap_kept.specs.Kept.{ForKept};
-ghost use Rattle.table.specs.Table.{fixed};
-ghost use Rattle.fractal_heap_c.specs.WrittenIds.{IsWrittenId};
+ghost use Rattle.fractal_heap_c.specs.WrittenIds.{DecodesOurIds, IsWrittenId};
 
 use super::*;
 use crate::open_plans::{
@@ -52,7 +51,7 @@ fn object_bytes<'a>(
 fn id_pair(file: &[u8], at: u64, offset_size: u8, length_size: u8, id: &[u8]) -> Option<(u64, u64)>
     ensures { (header : FractalHeapHeader)
         → header_at file.now at offset_size length_size ≡ Ok header
-        → header.table.max_heap_size ≡ fixed.heap_bits
+        → DecodesOurIds header
         → (offset len : ℕ) → IsWrittenId id.now offset len → result ≡ Some (offset, len) }
 {
     let mut slot = [0u8; 16];
