@@ -6,6 +6,7 @@ mod checksum;
 mod damage;
 mod differences;
 mod fields;
+mod format;
 mod guarded;
 mod heap;
 mod image;

@@ -182,7 +182,7 @@ pub fn loader_checksum(bytes: &[u8]) -> u32 {
     unsafe { fractal_heap_checksum(bytes.as_ptr(), bytes.len()) }
 }
 
-/// The refusal's number, or 0; its pair, or the twelve fields, are put into `fields`.
+/// The refusal's number, or 0; its pair, or the 23 fields, are put into `fields`.
 pub fn parse(heap: &Heap, fields: &mut [u64]) -> u32 {
     let (file, w, l) = (&heap.file, heap.offset_size, heap.length_size);
     unsafe {

@@ -27,12 +27,12 @@ file_in s = take (file_bytes s) (drop (head_bytes s) s)
 abbrev pub id_in : List ℕ → List ℕ
 id_in s = take (id_bytes s) (drop (file_bytes s) (drop (head_bytes s) s))
 
--- a whole case is in front: one of the five kinds, with two words or twelve
+-- a whole case is in front: one of the five kinds, with two words or 23
 unfoldable pub begins_case : List ℕ → Bool
 begins_case s =
     nat_le 27 (length s)
     && (nat_le (slice_index s 0) 4
-    && (((slice_index s 26 == 2) || (slice_index s 26 == 12)) && nat_le (case_size s) (length s)))
+    && (((slice_index s 26 == 2) || (slice_index s 26 == 23)) && nat_le (case_size s) (length s)))
 
 -- the case in front
 pub record IsCase (c : Case) (s : List ℕ) : Type 0 where

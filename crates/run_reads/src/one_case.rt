@@ -63,7 +63,7 @@ impl<'a> Case<'a> {
         if list[0] > 4 {
             return None;
         }
-        if n != 2 && n != 12 {
+        if n != 2 && n != 23 {
             return None;
         }
         let head_bytes = 27 + 8 * usize::from(n);
