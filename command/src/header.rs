@@ -71,18 +71,17 @@ fn geometry(header: &Header) -> Vec<String> {
 }
 
 impl Found<'_> {
-    /// An address, undefined or not. Positions are told where addresses count from elsewhere than the file's start.
+    /// An address, undefined or not, with its position in the file where addresses count from elsewhere than the file's
+    /// start. Of a header before that it is not known where they count from.
     fn address(&self, name: &'static str, words: &'static str, address: u64) -> Field {
         let value = self.heap.defined(address);
-        let remark = match (value, self.base) {
-            (None, _) | (_, 0) => String::new(),
-            (Some(address), base) => {
-                let position = u128::from(address) + u128::from(base);
-                match u64::try_from(position) {
-                    Ok(position) => format!("in the file at {}", grouped(position)),
-                    Err(_) => "past every file".into(),
-                }
-            }
+        let is_moved = self.base != 0 && self.position >= self.base;
+        let remark = match value.filter(|_| is_moved) {
+            None => String::new(),
+            Some(address) => match address.checked_add(self.base) {
+                Some(position) => format!("in the file at {}", grouped(position)),
+                None => "past every file".into(),
+            },
         };
         Field {
             name,

@@ -245,14 +245,14 @@ fn take_in(
     let number = names.len();
     let (mut sizes, mut ids) = (memory::with_room(number)?, memory::with_room(number)?);
     let (mut files, mut plan) = (memory::with_room(number)?, OpenPlan::open(w)?);
-    let (mut joined, mut object) = (destination.joined(), inputs::room_for_one()?);
+    let (mut joined, mut room) = (destination.joined(), inputs::room_for_one()?);
     let mut progress = Progress::unless(talk.is_seen(), "taking in the files", number as u64);
     if !names.is_empty() {
         talk.say(" object     size     heap offset  ID                       file");
     }
     for (i, name) in names.iter().enumerate() {
-        let taken = inputs::take_in(name, &mut object)?;
-        joined.add(&object)?;
+        let taken = inputs::take_in(name, &mut room)?;
+        joined.add(taken.bytes)?;
         let added = plan.add(taken.size).map_err(|r| not_taken(&r, name, w))?;
         let id = given_id(added, name)?;
         let Added { offset, size } = added;
