@@ -380,7 +380,10 @@ fn a_change_of_one_side_is_seen() {
             "struct fractal_heap_plan *",
         ),
         ("uint64_t *totals", "uint32_t *totals"),
-        ("uint64_t size, uint8_t *id", "uint64_t size, const uint8_t *id"),
+        (
+            "uint64_t size, uint8_t *id",
+            "uint64_t size, const uint8_t *id",
+        ),
         ("uint64_t fill;", "uint32_t fill;"),
         ("uint64_t indirect;", ""),
         ("uint64_t objects;", "uint64_t objects; uint64_t bytes;"),
