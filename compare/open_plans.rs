@@ -77,9 +77,9 @@ fn widths() -> Row {
     row("widths at which a plan is opened, or refused by 2", 256)
 }
 
-/// Up to the last block of the heap space, an object at a time: every heap offset, and all totals at each power of two and
-/// in front of the last block. There a size that finds no slot is followed by smaller ones that still fit: what is accepted
-/// has offset and totals of the original, what is refused changes nothing. In the end an empty object is at 2^40.
+/// Up to the last block of the heap space, an object at a time: every heap offset, and all totals at each power of two
+/// and in front of the last block. There a size that finds no slot is followed by smaller ones that still fit: what is
+/// accepted has offset and totals of the original, what is refused changes nothing. In the end an empty object is at 2^40.
 pub fn heap_space(w: u8) -> Vec<Row> {
     let original = |sizes: &[u64]| original::plan(sizes, w).expect("within the heap space");
     let mut sizes = vec![limit(w); FULL - 1];

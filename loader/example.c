@@ -445,9 +445,9 @@ static void layout(void)
           "one byte more: in the fifth block, and blocks and objects are counted apart");
 }
 
-/* Opens a plan at this place, which holds whatever was there: the number of refusal. Where C's ABI is System V's for x86-64,
- * a struct of this size is handed back at an address that is passed before the parameters, and so the library itself
- * writes to the place; else a copy is put there. */
+/* Opens a plan at this place, which holds whatever was there: the number of the refusal, or 0. Where C's ABI is System
+ * V's for x86-64, a struct of this size is handed back at an address that is passed before the parameters, and so the
+ * library itself writes to the place; else a copy is put there. */
 static uint32_t open_at(uint8_t *place, uint8_t offset_size, uint8_t *slot, size_t slot_len)
 {
 #if defined __x86_64__ && !defined _WIN32
@@ -478,7 +478,8 @@ static void marked_bytes(void)
     static const uint8_t marks[] = {0xA5, 0x5A};
     static const size_t opened_size = sizeof(struct fractal_heap_opened_plan);
     static uint64_t words[51]; /* 20 before the place, or 21, and as many behind it */
-    const size_t objects_at = offsetof(struct fractal_heap_opened_plan, plan) + offsetof(struct fractal_heap_plan, objects);
+    static const size_t objects_at =
+            offsetof(struct fractal_heap_opened_plan, plan) + offsetof(struct fractal_heap_plan, objects);
     uint8_t *all = (uint8_t *)words, slot[16];
     check(opened_size == 8 + FRACTAL_HEAP_PLAN_SIZE && objects_at + 8 == opened_size &&
               offsetof(struct fractal_heap_opened_plan, plan) == 8,
@@ -498,17 +499,19 @@ static void marked_bytes(void)
                   marked(all, sizeof words, place, opened_size, mark),
               "one for which the slot is too short");
         memset(words, mark, sizeof words);
-        check(open_at(place, 8, slot, 16) == FRACTAL_HEAP_OK && place[8] == 8 && get(place + objects_at, 8) == 0 &&
-                  marked(all, sizeof words, place, opened_size, mark),
+        check(open_at(place, 8, slot, 16) == FRACTAL_HEAP_OK && place[8] == 8 &&
+                  get(place + objects_at, 8) == 0 && marked(all, sizeof words, place, opened_size, mark),
               "a plan that is opened: written to its last byte, and nothing around it");
 
         memset(all, mark, (size_t)(place + 8 - all)); /* the number, too */
-        holds = add(plan, 1002) == FRACTAL_HEAP_OK && first == 22 && add(plan, 65515) == FRACTAL_HEAP_OBJECT_TOO_LARGE &&
-                add(plan, 1) == FRACTAL_HEAP_OK && first == 1046 && get(place + objects_at, 8) == 2;
+        holds = add(plan, 1002) == FRACTAL_HEAP_OK && first == 22 &&
+                add(plan, 65515) == FRACTAL_HEAP_OBJECT_TOO_LARGE && add(plan, 1) == FRACTAL_HEAP_OK && first == 1046 &&
+                get(place + objects_at, 8) == 2;
         check(holds && marked(all, sizeof words, place + 8, FRACTAL_HEAP_PLAN_SIZE, mark),
               "additions write to the plan's last byte, and nothing around it");
         check(fractal_heap_plan_totals(plan, totals, FRACTAL_HEAP_PLAN_TOTALS) == FRACTAL_HEAP_OK &&
-                  totals[0] == 2 && totals[6] == 3005 && marked(all, sizeof words, place + 8, FRACTAL_HEAP_PLAN_SIZE, mark),
+                  totals[0] == 2 && totals[6] == 3005 &&
+                  marked(all, sizeof words, place + 8, FRACTAL_HEAP_PLAN_SIZE, mark),
               "nor do its totals");
     }
 }
@@ -596,11 +599,13 @@ static void planned_ids(void)
     memcpy(before, id, 11);
     check(answers(write_id(end, 0, id, 8), FRACTAL_HEAP_HEAP_ID_TOO_LARGE, end, 0) &&
               answers(write_id(22, 65536, id, 8), FRACTAL_HEAP_HEAP_ID_TOO_LARGE, 22, 65536) &&
-              answers(write_id(UINT64_MAX, UINT64_MAX, NULL, 0), FRACTAL_HEAP_HEAP_ID_TOO_LARGE, UINT64_MAX, UINT64_MAX) &&
+              answers(write_id(UINT64_MAX, UINT64_MAX, NULL, 0), FRACTAL_HEAP_HEAP_ID_TOO_LARGE, UINT64_MAX,
+                      UINT64_MAX) &&
               memcmp(id, before, 11) == 0,
           "offset 2^40, length 2^16, and both before a short ID: 16 with them, and no ID");
     check(answers(write_id(22, 1, id, 7), FRACTAL_HEAP_SLICE_TOO_SHORT, kept, kept) &&
-              answers(write_id(22, 1, NULL, 0), FRACTAL_HEAP_SLICE_TOO_SHORT, kept, kept) && memcmp(id, before, 11) == 0,
+              answers(write_id(22, 1, NULL, 0), FRACTAL_HEAP_SLICE_TOO_SHORT, kept, kept) &&
+              memcmp(id, before, 11) == 0,
           "an ID of seven bytes or none: 13, and neither ID nor slot is written");
     for (int i = 0; i < 24; i++)
         slot[i] = slot_before[i] = (uint8_t)(0xA0 + i);

@@ -133,10 +133,13 @@ module _ {w : ℕ} {s : State} {n : ℕ} {xs : List ℕ} (P : IsPlanOf w s n xs)
 
   next-as-planned : NextAsPlanned w xs x (addition w s n x)
   next-as-planned =
+      let counted = P.objects_counted in
       record {
         as_planned = next-planned;
-        full = λ many small. answer-full w s n x small (let c = P.objects_counted in omega arith) ∙ ap (λ i. Err (HeapSpaceExhausted i)) (let c = P.objects_counted in omega arith);
-        full_too_large = λ many big. answer-large w s n x big ∙ ap (λ i. Err (ObjectTooLarge i x)) (let c = P.objects_counted in omega arith);
+        full = λ many small. let e : n ≡ 2 ^ 64 - 1 = omega arith in
+            answer-full w s n x small e ∙ ap (λ (i : ℕ). Err (HeapSpaceExhausted i)) e;
+        full_too_large = λ many big. let e : n ≡ 2 ^ 64 - 1 = omega arith in
+            answer-large w s n x big ∙ ap (λ (i : ℕ). Err (ObjectTooLarge i x)) e;
       }
 
 -- ---- additions one after another

@@ -415,7 +415,10 @@ fn a_change_of_one_side_is_seen() {
             "struct fractal_heap_plan *",
         ),
         ("uint64_t *totals", "uint32_t *totals"),
-        ("uint64_t size, uint8_t *id", "uint64_t size, const uint8_t *id"),
+        (
+            "uint64_t size, uint8_t *id",
+            "uint64_t size, const uint8_t *id",
+        ),
         ("uint64_t *fields, size_t", "const uint64_t *fields, size_t"),
         ("HEADER_FIELDS = 23", "HEADER_FIELDS = 22"),
         ("uint64_t fill;", "uint32_t fill;"),
