@@ -110,8 +110,8 @@ fn third_word(bytes: &[u8]) -> u32
 }
 
 // 4 to 12 bytes, which are all of the tail, added to three words that are `first`. The branch between 8 and 9 stays:
-// without it lengths at random took 0.78 to 0.91 of the time, but 5 bytes of one length up to 1.19 of the original's,
-// whose jump costs nothing where the processor foresees it.
+// without it lengths at random took 0.78 to 0.91 of the time, but 5 bytes of one length 1.05 to 1.19 of the
+// original's, whose jump costs nothing where the processor foresees it.
 fn add_few(first: u32, bytes: &[u8]) -> State
     requires at_least_four { 4 ≤ length bytes.now }
     requires at_most_group { length bytes.now ≤ GROUP_SIZE }
