@@ -1,24 +1,32 @@
 -- What is read is spelled, each byte of it.
 use Rattle.std.proofs.Common.{◌≡◌, refl, sym, ap, ap₂, subst, ◌∙◌, ℕ, zero, suc, ◌+◌, ◌-◌, ◌*◌, ◌^◌, ◌%◌, ◌/◌, ◌<◌, ◌≤◌, List, [], ◌∷◌, ◌++◌}
-use Rattle.std.proofs.Common.{length, take, drop, true, append_assoc, length-drop, drop-drop, length-take-le, length-take, get_or-drop, get_or, inl, inr, arith}
+use Rattle.std.proofs.Common.{length, take, drop, true, append_assoc, take_at, length-append, length-drop, drop-drop, drop-cons, length-take-le, length-take, get_or-drop, get_or, inl, inr, arith}
 use Rattle.std.proofs.lemmas.Bool.{cases_lt}
 use Rattle.std.proofs.lemmas.List.{get_or-take, get_or_past, take-append-drop}
 use Rattle.std.proofs.lemmas.Grind.{common_steps}
-use Rattle.std.specs.Prelude.{slice_index, Result, Ok, Err}
-use Rattle.refusals.specs.Steps.{◌>>=◌}
+use Rattle.std.proofs.lemmas.Bool.Decides.{nat_tests}
+use Rattle.std.proofs.lemmas.Slice.Eq.{bytes_eq-Decides}
+use Rattle.std.specs.Prelude.{slice_index, bytes_eq, nat_le, ◌==◌, Bool, false, Result, Ok, Err}
+use Rattle.refusals.specs.Steps.{◌>>=◌, required}
+use Rattle.refusals.specs.declared.FormatError.TheVariants.{InvalidFractalHeapSignature, InvalidFractalHeapVersion}
+use Rattle.checksum.specs.Lookup3.{hashlittle}
+use Rattle.fields.specs.Signatures.{header_signature}
+use Rattle.fractal_heap.specs.Frame.{start_checked, sum_checked}
 use Rattle.refusals.specs.declared.FormatError.{FormatError}
 use Rattle.fields.specs.LittleEndian.{le, value, le_at}
 use Rattle.fields.specs.Fields.{len_ensured, plain_at, number_at, offset_at, length_at}
-use Rattle.fields.proofs.LittleEndian.{value-lt}
-use Rattle.fractal_heap.specs.Header.{fields_at, header_numbers}
+use Rattle.fields.proofs.LittleEndian.{length-le, value-lt}
+use Rattle.fractal_heap.specs.Header.{fields_at, sum_place, header_at, header_numbers}
+use Rattle.fractal_heap.specs.SpellingLaws.{ReadIsSpelled}
 use Rattle.fractal_heap.specs.Groups.{front_fields, object_fields, table_fields, root_fields}
-use Rattle.fractal_heap.specs.Spelling.{spelled, AllFit, field_widths}
+use Rattle.fractal_heap.specs.Spelling.{spelled, AllFit, field_widths, unsummed, header_spelled}
 use Rattle.fractal_heap.specs.declared.header.FractalHeapHeader.{FractalHeapHeader}
 use Rattle.fractal_heap.specs.declared.header_fields.FrontFields.{FrontFields}
 use Rattle.fractal_heap.specs.declared.header_fields.ObjectFields.{ObjectFields}
 use Rattle.fractal_heap.specs.declared.header_fields.TableFields.{TableFields}
 use Rattle.fractal_heap.specs.declared.header_fields.RootFields.{RootFields}
-use Rattle.fractal_heap.proofs.Holding.{span, Held}
+use Rattle.fractal_heap.proofs.Holding.{span, Held, length-spelled}
+use Rattle.fractal_heap.proofs.Spelling.{paired}
 
 -- ---- numbers that stand in a file, as bytes
 
@@ -188,3 +196,103 @@ fields-gave s p q os ls h e =
     let go = gave-append s a.0.1 b.0.1 d.0.1 (object_widths os ls) (object_numbers o) (table_widths ls ++ root_widths os) (table_numbers t ++ root_numbers r) (objects-gave s a.0.1 b.0.1 os ls o b.1) gt in
     let gf = gave-append s p a.0.1 d.0.1 front_widths (front_numbers f) (object_widths os ls ++ (table_widths ls ++ root_widths os)) (object_numbers o ++ (table_numbers t ++ root_numbers r)) (front-gave s p a.0.1 f a.1) go in
     subst (λ (y : FractalHeapHeader × ℕ). Gave s p y.1 (field_widths os ls) (header_numbers y.0)) (ok_is _ (h, q) d.2) gf
+
+-- ---- the whole header
+
+required_ok : (b : Bool) (e : FormatError) (x : Unit {0}) → required b e ≡ Ok x → b ≡ true
+required_ok true e x r = refl
+required_ok false e x r = absurd cc
+
+pub record Started (s : List ℕ) (p next : ℕ) : Type 0 where
+  pub first : next ≡ p + 5
+  pub room : p + 5 ≤ length s
+  pub front : drop p s ≡ header_signature ++ 0 ∷ drop (p + 5) s
+
+start-gave : (s : List ℕ) (p next : ℕ) → start_checked s p ≡ Ok next → Started s p next
+unfolding len_ensured
+start-gave s p next e =
+    let a = bind_ok (len_ensured s p 5) _ next e in
+    let b = bind_ok (required (bytes_eq (take 4 (drop p s)) header_signature) InvalidFractalHeapSignature) _ next a.2 in
+    let c = bind_ok (required (slice_index s (p + 4) == 0) (InvalidFractalHeapVersion (slice_index s (p + 4)))) _ next b.2 in
+    let room : p + 5 ≤ length s = grind (arith, nat_tests, required_ok (nat_le (p + 5) (length s)) _ a.0 a.1) in
+    let signature : take 4 (drop p s) ≡ header_signature =
+    (bytes_eq-Decides (take 4 (drop p s)) header_signature).0 (required_ok _ _ b.0 b.1) in
+    let version : slice_index s (p + 4) ≡ 0 = grind (arith, nat_tests, required_ok _ _ c.0 c.1) in
+    let next_place : suc (p + 4) ≡ p + 5 = omega arith in
+    let behind : drop 4 (drop p s) ≡ 0 ∷ drop (p + 5) s =
+    drop-drop 4 p s
+    ∙ drop-cons s (p + 4) 0 (omega (arith, room))
+    ∙ ap₂ (λ (x k : ℕ). x ∷ drop k s) version next_place in
+    record {
+      first = sym (ok_is (p + 5) next c.2);
+      room = room;
+      front = sym (take-append-drop 4 (drop p s)) ∙ ap₂ (λ (xs ys : List ℕ). xs ++ ys) signature behind;
+    }
+
+sum-gave : (s : List ℕ) (p q : ℕ) → sum_checked s p q ≡ Ok tt
+    → (q + 4 ≤ length s) × (le_at s q 4 ≡ hashlittle (take (q - p) (drop p s)))
+unfolding len_ensured
+sum-gave s p q e =
+    let a = bind_ok (len_ensured s q 4) _ tt e in
+    (grind (arith, nat_tests, required_ok (nat_le (q + 4) (length s)) _ a.0 a.1), grind (arith, nat_tests, required_ok _ _ tt a.2))
+
+module _ (h : FractalHeapHeader) (s : List ℕ) (p os ls : ℕ) (bytes : IsBytes s) (plain : h.io_filter_encoded_length ≡ 0) where
+  abbrev fields : List ℕ
+  fields = spelled (field_widths os ls) (header_numbers h)
+
+  abbrev unsummed_here : List ℕ
+  unsummed_here = unsummed h os ls
+
+  -- from where the fields end, and the checksum stands
+  spelled-here : (q : ℕ) → Started s p (p + 5) → Gave s (p + 5) q (field_widths os ls) (header_numbers h)
+      → sum_checked s p q ≡ Ok tt
+      → AllFit (field_widths os ls) (header_numbers h) × (drop p s ≡ header_spelled h os ls ++ drop (p + length (header_spelled h os ls)) s)
+  spelled-here q start gave right =
+      let held = held-spelled (field_widths os ls) (header_numbers h) s (p + 5) bytes start.room gave.held in
+      let sum = sum-gave s p q right in
+      let here : drop (p + 5) s ≡ fields ++ drop q s =
+      held.1 ∙ ap (λ (k : ℕ). fields ++ drop k s) (sym gave.end) in
+      let whole : drop p s ≡ unsummed_here ++ drop q s =
+      start.front ∙ ap (λ (ys : List ℕ). header_signature ++ 0 ∷ ys) here in
+      let n : length fields ≡ span (field_widths os ls) =
+      length-spelled (field_widths os ls) (header_numbers h) (paired h os ls) in
+      let long : length unsummed_here ≡ q - p = omega (arith, n, gave.end) in
+      let covered : take (q - p) (drop p s) ≡ unsummed_here =
+      ap (take (q - p)) whole ∙ take_at unsummed_here (drop q s) (q - p) long in
+      let stored : le_at s q 4 ≡ hashlittle unsummed_here = sum.1 ∙ ap hashlittle covered in
+      let sealed : le 4 (hashlittle unsummed_here) ≡ take 4 (drop q s) =
+      front-bytes s q 4 (hashlittle unsummed_here) bytes sum.0 stored in
+      let last : drop q s ≡ le 4 (hashlittle unsummed_here) ++ drop (q + 4) s =
+      sym (take-append-drop 4 (drop q s)) ∙ ap₂ (λ (xs ys : List ℕ). xs ++ ys) (sym sealed) (drop-drop 4 q s) in
+      let end : q + 4 ≡ p + length (header_spelled h os ls) =
+      omega (
+        arith,
+        long,
+        gave.end,
+        length-append unsummed_here (le 4 (hashlittle unsummed_here)),
+        length-le 4 (hashlittle unsummed_here),
+      ) in (
+        held.0,
+        whole
+            ∙ ap (λ (ys : List ℕ). unsummed_here ++ ys) last
+            ∙ sym (append_assoc unsummed_here (le 4 (hashlittle unsummed_here)) (drop (q + 4) s))
+            ∙ ap (λ (k : ℕ). header_spelled h os ls ++ drop k s) end,
+      )
+
+pub read-spelled : ReadIsSpelled
+read-spelled h s p os ls bytes plain e =
+    let a = bind_ok (start_checked s p) _ h e in
+    let b = bind_ok (fields_at s a.0 os ls) _ h a.2 in
+    let c = bind_ok (sum_checked s p (sum_place b.0.0.io_filter_encoded_length ls b.0.1)) _ h b.2 in
+    let same : b.0.0 ≡ h = ok_is b.0.0 h c.2 in
+    let start = start-gave s p a.0 a.1 in
+    let gave : Gave s (p + 5) b.0.1 (field_widths os ls) (header_numbers h) =
+    subst (λ (x : ℕ). Gave s x b.0.1 (field_widths os ls) (header_numbers h)) start.first
+    (subst (λ (y : FractalHeapHeader). Gave s a.0 b.0.1 (field_widths os ls) (header_numbers y)) same
+    (fields-gave s a.0 b.0.1 os ls b.0.0 b.1)) in
+    let no_filter : b.0.0.io_filter_encoded_length ≡ 0 =
+    ap (λ (y : FractalHeapHeader). y.io_filter_encoded_length) same ∙ plain in
+    let right : sum_checked s p b.0.1 ≡ Ok tt =
+    sym (ap (λ (f : ℕ). sum_checked s p (sum_place f ls b.0.1)) no_filter) ∙ c.1 in
+    let begun : Started s p (p + 5) = record { first = refl; room = start.room; front = start.front } in
+    spelled-here h s p os ls bytes plain b.0.1 begun gave right

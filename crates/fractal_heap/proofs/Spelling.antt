@@ -24,7 +24,7 @@ sum_fits bytes some =
     let last : length (tail_of bytes) ≡ length bytes - 12 * groups_of (length bytes) = length-drop (12 * groups_of (length bytes)) bytes in
     rw (ne_eqb (length (tail_of bytes)) 0 (λ z. absurd (omega (arith, last, z, some)))) (omega arith)
 
-paired : (h : FractalHeapHeader) (os ls : ℕ) → Paired (field_widths os ls) (header_numbers h)
+pub paired : (h : FractalHeapHeader) (os ls : ℕ) → Paired (field_widths os ls) (header_numbers h)
 unfolding Paired
 paired h os ls = refl
 
