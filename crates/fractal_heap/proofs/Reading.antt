@@ -115,7 +115,7 @@ abbrev front_numbers : FrontFields → List ℕ
 front_numbers f = f.heap_id_length ∷ f.io_filter_encoded_length ∷ f.flags ∷ f.max_managed_object_size ∷ []
 
 front-gave : (s : List ℕ) (p q : ℕ) (f : FrontFields) → front_fields s p ≡ Ok (f, q) → Gave s p q front_widths (front_numbers f)
-unfolding plain_at len_ensured Held span
+unfolding Held span
 front-gave s p q f e = grind (arith, common_steps)
 
 abbrev object_widths : ℕ → ℕ → List ℕ
@@ -135,7 +135,7 @@ object_numbers o =
 
 objects-gave : (s : List ℕ) (p q os ls : ℕ) (o : ObjectFields) → object_fields s p os ls ≡ Ok (o, q)
     → Gave s p q (object_widths os ls) (object_numbers o)
-unfolding plain_at offset_at length_at number_at len_ensured Held span
+unfolding Held span
 objects-gave s p q os ls o e = grind (arith, common_steps)
 
 abbrev table_widths : ℕ → List ℕ
@@ -155,7 +155,7 @@ table_numbers t =
 
 table-gave : (s : List ℕ) (p q ls : ℕ) (t : TableFields) → table_fields s p ls ≡ Ok (t, q)
     → Gave s p q (table_widths ls) (table_numbers t)
-unfolding plain_at length_at number_at len_ensured Held span
+unfolding Held span
 table-gave s p q ls t e = grind (arith, common_steps)
 
 abbrev root_widths : ℕ → List ℕ
@@ -166,7 +166,7 @@ root_numbers r = r.start_root_rows ∷ r.root_block_address ∷ r.current_rows_i
 
 root-gave : (s : List ℕ) (p q os : ℕ) (r : RootFields) → root_fields s p os ≡ Ok (r, q)
     → Gave s p q (root_widths os) (root_numbers r)
-unfolding plain_at offset_at number_at len_ensured Held span
+unfolding Held span
 root-gave s p q os r e = grind (arith, common_steps)
 
 pub bind_ok : {T U : Type 0} (r : Result T FormatError) (f : T → Result U FormatError) (y : U) → (r >>= f) ≡ Ok y
@@ -199,7 +199,7 @@ fields-gave s p q os ls h e =
 
 -- ---- the whole header
 
-required_ok : (b : Bool) (e : FormatError) (x : Unit {0}) → required b e ≡ Ok x → b ≡ true
+pub required_ok : (b : Bool) (e : FormatError) (x : Unit {0}) → required b e ≡ Ok x → b ≡ true
 required_ok true e x r = refl
 required_ok false e x r = absurd cc
 
@@ -209,7 +209,6 @@ pub record Started (s : List ℕ) (p next : ℕ) : Type 0 where
   pub front : drop p s ≡ header_signature ++ 0 ∷ drop (p + 5) s
 
 start-gave : (s : List ℕ) (p next : ℕ) → start_checked s p ≡ Ok next → Started s p next
-unfolding len_ensured
 start-gave s p next e =
     let a = bind_ok (len_ensured s p 5) _ next e in
     let b = bind_ok (required (bytes_eq (take 4 (drop p s)) header_signature) InvalidFractalHeapSignature) _ next a.2 in
@@ -231,7 +230,6 @@ start-gave s p next e =
 
 sum-gave : (s : List ℕ) (p q : ℕ) → sum_checked s p q ≡ Ok tt
     → (q + 4 ≤ length s) × (le_at s q 4 ≡ hashlittle (take (q - p) (drop p s)))
-unfolding len_ensured
 sum-gave s p q e =
     let a = bind_ok (len_ensured s q 4) _ tt e in
     (grind (arith, nat_tests, required_ok (nat_le (q + 4) (length s)) _ a.0 a.1), grind (arith, nat_tests, required_ok _ _ tt a.2))
