@@ -5,7 +5,7 @@ ghost use Rattle.checksum.specs.Lookup3.{hashlittle};
 ghost use Rattle.fields.specs.LittleEndian.{le, put};
 ghost use Rattle.fields.specs.Widths.{legal};
 ghost use Rattle.fields.specs.Writing.{Puts};
-ghost use Rattle.fractal_heap.specs.Header.{header_end, header_numbers, header_of};
+ghost use Rattle.fractal_heap.specs.Header.{fields_size, header_end, header_numbers, header_of};
 ghost use Rattle.fractal_heap.specs.Spelling.{field_widths, spelled, unsummed, header_spelled};
 ghost use Rattle.fractal_heap.specs.Writing.{header_length, field_width, widths_checked, header_checked, header_written};
 ghost use Rattle.fractal_heap.specs.Writing.{ReadsBack, WrittenBack};
@@ -156,4 +156,137 @@ fn put_four(writer: &mut Writer<'_>, place: usize, numbers: &[u64], widths: &[u8
     put_field(writer, numbers[place + 1], widths[place + 1]);
     put_field(writer, numbers[place + 2], widths[place + 2]);
     put_field(writer, numbers[place + 3], widths[place + 3]);
+}
+
+// Tests that each number fits its width.
+#[inline(always)]
+fn check_fields(numbers: &[u64], offset_size: u8, length_size: u8) -> Result<(), FormatError>
+    requires numbers { FIELD_COUNT ≤ length numbers.now }
+    requires offsets { legal offset_size ≡ true }
+    requires lengths { legal length_size ≡ true }
+    ensures { result ≡ widths_checked 0 (field_widths offset_size length_size)
+        (header_numbers (header_of numbers.now)) }
+{
+    let widths = field_widths(offset_size, length_size);
+    check_four(0, numbers, &widths)?;
+    check_four(4, numbers, &widths)?;
+    check_four(8, numbers, &widths)?;
+    check_four(12, numbers, &widths)?;
+    check_four(16, numbers, &widths)?;
+    check_field(20, numbers[20], widths[20])?;
+    check_field(21, numbers[21], widths[21])?;
+    check_field(22, numbers[22], widths[22])
+}
+
+// Puts all fields, one behind the other.
+#[inline(always)]
+#[tactic(auto, unfolding(crate::specs::Spelling::spelled))]
+fn put_fields(writer: &mut Writer<'_>, numbers: &[u64], offset_size: u8, length_size: u8)
+    requires numbers { FIELD_COUNT ≤ length numbers.now }
+    requires offsets { legal offset_size ≡ true }
+    requires lengths { legal length_size ≡ true }
+    requires room { writer.old.at + fields_size offset_size length_size ≤ length writer.old.bytes.now }
+    ensures { Puts writer.old writer.new (fields_size offset_size length_size)
+        (spelled (field_widths offset_size length_size) (header_numbers (header_of numbers.now))) }
+{
+    let widths = field_widths(offset_size, length_size);
+    put_four(writer, 0, numbers, &widths);
+    put_four(writer, 4, numbers, &widths);
+    put_four(writer, 8, numbers, &widths);
+    put_four(writer, 12, numbers, &widths);
+    put_four(writer, 16, numbers, &widths);
+    put_field(writer, numbers[20], widths[20]);
+    put_field(writer, numbers[21], widths[21]);
+    put_field(writer, numbers[22], widths[22]);
+}
+
+// All before the checksum: signature, version 0 and the fields.
+fn put_unsummed(bytes: &mut [u8], numbers: &[u64], offset_size: u8, length_size: u8)
+    requires numbers { FIELD_COUNT ≤ length numbers.now }
+    requires offsets { legal offset_size ≡ true }
+    requires lengths { legal length_size ≡ true }
+    requires room { length bytes.old ≡ header_end offset_size length_size }
+    ensures { bytes.new ≡ unsummed (header_of numbers.now) offset_size length_size }
+{
+    let mut writer = Writer::new(bytes);
+    writer.put(b"FRHP");
+    writer.put(&[0]);
+    put_fields(&mut writer, numbers, offset_size, length_size);
+}
+
+// The whole header in front of `bytes`, whose other bytes stay as they are; its checksum.
+fn put_header(bytes: &mut [u8], numbers: &[u64], offset_size: u8, length_size: u8) -> u32
+    requires numbers { FIELD_COUNT ≤ length numbers.now }
+    requires offsets { legal offset_size ≡ true }
+    requires lengths { legal length_size ≡ true }
+    requires room { header_length offset_size length_size ≤ length bytes.old }
+    ensures checksum { result ≡ hashlittle (unsummed (header_of numbers.now) offset_size length_size) }
+    ensures written { bytes.new ≡ put bytes.old 0
+        (header_spelled (header_of numbers.now) offset_size length_size) }
+{
+    let (header, _) = bytes.split_at_mut(header_length(offset_size, length_size));
+    let (summed, seal) = header.split_at_mut(header.len() - 4);
+    put_unsummed(summed, numbers, offset_size, length_size);
+    let checksum = jenkins_lookup3(summed);
+    seal.copy_from_slice(&checksum.to_le_bytes());
+    checksum
+}
+
+// The tests of a header of these numbers, into `lent` bytes, in their order.
+#[inline(always)]
+fn check_header(
+    numbers: &[u64],
+    offset_size: u8,
+    length_size: u8,
+    lent: usize,
+) -> Result<(), FormatError>
+    requires { FIELD_COUNT ≤ length numbers.now }
+    ensures value { result ≡ header_checked (header_numbers (header_of numbers.now))
+        offset_size length_size lent }
+    ensures offsets { OnOk result (legal offset_size ≡ true) }
+    ensures lengths { OnOk result (legal length_size ≡ true) }
+    ensures room { OnOk result (header_length offset_size length_size ≤ lent) }
+{
+    if !is_width(offset_size) {
+        return Err(FormatError::InvalidOffsetSize(offset_size));
+    }
+    if !is_width(length_size) {
+        return Err(FormatError::InvalidLengthSize(length_size));
+    }
+    if numbers[1] != 0 {
+        return Err(FormatError::UnsupportedFilteredHeapObject);
+    }
+    check_fields(numbers, offset_size, length_size)?;
+    let needed = header_length(offset_size, length_size);
+    if lent < needed {
+        return Err(FormatError::SliceTooShort {
+            needed: needed as u64,
+            lent: lent as u64,
+        });
+    }
+    Ok(())
+}
+
+/// Writes the header of these numbers, which are its fields in header order, as `FractalHeapHeader::write` does; what is
+/// behind the first 23 is not read.
+#[inline(always)]
+pub fn write_numbers(
+    numbers: &[u64],
+    offset_size: u8,
+    length_size: u8,
+    bytes: &mut [u8],
+) -> Result<WrittenHeader, FormatError>
+    requires { FIELD_COUNT ≤ length numbers.now }
+    ensures value { result ≡ header_written (header_of numbers.now) offset_size length_size
+        (length bytes.old) }
+    ensures written { OnOk result (bytes.new ≡ put bytes.old 0
+        (header_spelled (header_of numbers.now) offset_size length_size)) }
+    ensures untouched { OnErr result (bytes.new ≡ bytes.old) }
+{
+    check_header(numbers, offset_size, length_size, bytes.len())?;
+    let checksum = put_header(bytes, numbers, offset_size, length_size);
+    Ok(WrittenHeader {
+        length: header_length(offset_size, length_size) as u64,
+        checksum,
+    })
 }
