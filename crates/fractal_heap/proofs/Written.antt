@@ -1,9 +1,9 @@
 -- What an accepted header fulfils, and what is accepted.
-use Rattle.std.proofs.Common.{◌≡◌, refl, ap, ◌∙◌, append_assoc, drop, drop-drop, ◌++◌, ℕ, ◌+◌, ◌*◌, ◌^◌, ◌<◌, ◌≤◌, List, [], ◌∷◌, true, false, arith}
+use Rattle.std.proofs.Common.{◌≡◌, refl, sym, ap, ◌∙◌, take_at, append_assoc, length, length-append, take, drop, drop-drop, ◌++◌, ℕ, ◌+◌, ◌*◌, ◌^◌, ◌<◌, ◌≤◌, List, [], ◌∷◌, true, false, arith}
 use Rattle.std.proofs.lemmas.Bool.Decides.{nat_tests}
 use Rattle.std.proofs.lemmas.Grind.{common_steps}
 use Rattle.std.proofs.lemmas.List.{append-nil}
-use Rattle.std.specs.Prelude.{slice_index, nat_lt, nat_le, ◌==◌, Bool, Result, Ok, Err}
+use Rattle.std.specs.Prelude.{slice_index, nat_lt, nat_le, ◌==◌, Bool, Result, Ok, Err, OnOk, IsOk}
 use Rattle.refusals.specs.Steps.{◌>>=◌, required}
 use Rattle.refusals.specs.declared.FormatError.{FormatError}
 use Rattle.refusals.specs.declared.FormatError.TheVariants.{InvalidOffsetSize, InvalidLengthSize, UnsupportedFilteredHeapObject, HeaderFieldTooLarge}
@@ -11,11 +11,16 @@ use Rattle.fields.specs.Widths.{legal}
 use Rattle.fields.specs.Writing.{Puts, written, behind}
 use Rattle.fields.specs.declared.stores.writer.Writer.{Writer}
 use Rattle.fractal_heap.specs.Header.{fields_size, header_numbers, header_of}
-use Rattle.fields.specs.LittleEndian.{le}
-use Rattle.fractal_heap.specs.Spelling.{AllFit, spelled, field_widths}
-use Rattle.fractal_heap.specs.Writing.{header_length, widths_checked, header_checked}
+use Rattle.checksum.specs.Lookup3.{hashlittle}
+use Rattle.fields.specs.LittleEndian.{le, put}
+use Rattle.fields.proofs.LittleEndian.{length-le, put_front}
+use Rattle.fractal_heap.specs.Spelling.{AllFit, spelled, field_widths, unsummed, header_spelled}
+use Rattle.fractal_heap.specs.Writing.{header_length, widths_checked, header_checked, header_written, ReadsBack, WrittenBack}
+use Rattle.fractal_heap.specs.declared.write.WrittenHeader.{WrittenHeader}
 use Rattle.fractal_heap.specs.declared.header.FractalHeapHeader.{FractalHeapHeader}
-use Rattle.fractal_heap.proofs.Reading.{bind_ok, required_ok}
+use Rattle.fractal_heap.proofs.Holding.{span, length-spelled}
+use Rattle.fractal_heap.proofs.Spelling.{paired, spelled-read}
+use Rattle.fractal_heap.proofs.Reading.{bind_ok, required_ok, read-spelled, read-widths}
 
 pub widths_fit : (place : ℕ) (ws ns : List ℕ) → widths_checked place ws ns ≡ Ok tt → AllFit ws ns
 unfolding widths_checked AllFit
@@ -143,3 +148,52 @@ pub width_by_fours : (os ls : ℕ) (ws : List ℕ) → ws ≡ field_widths os ls
     + (slice_index ws 20 + (slice_index ws 21 + slice_index ws 22))))))
     ≡ fields_size os ls
 width_by_fours os ls ws e = rw e (omega arith)
+
+-- ---- the whole header
+
+pub length-header_spelled : (h : FractalHeapHeader) (os ls : ℕ) → length (header_spelled h os ls) ≡ header_length os ls
+unfolding span
+length-header_spelled h os ls =
+    let fields = spelled (field_widths os ls) (header_numbers h) in
+    let n : length fields ≡ span (field_widths os ls) = length-spelled (field_widths os ls) (header_numbers h) (paired h os ls) in
+    let sum = le 4 (hashlittle (unsummed h os ls)) in
+    omega (arith, n, length-append (unsummed h os ls) sum, length-le 4 (hashlittle (unsummed h os ls)))
+
+-- two parts in front of what was behind them
+pub parts_put : (b u v : List ℕ) (x y z : List ℕ) (n : ℕ) → x ≡ u → y ≡ v → z ≡ drop n b → length (u ++ v) ≡ n
+    → (x ++ y) ++ z ≡ put b 0 (u ++ v)
+parts_put b u v x y z n e f g k = rw (e, f, g, ← k, put_front b (u ++ v)) refl
+
+fits_is_read_back : (h : FractalHeapHeader) (os ls lent : ℕ) (w : WrittenHeader) (t : Result (Unit {0}) FormatError)
+    → header_checked (header_numbers h) os ls lent ≡ t → OnOk (t >>= λ _. Ok w) (ReadsBack h os ls)
+fits_is_read_back h os ls lent w (Ok tt) e =
+    let a = accepted h os ls lent e in
+    λ s p rest there. spelled-read h s p os ls rest a.offsets a.lengths a.plain a.fits there
+fits_is_read_back h os ls lent w (Err d) e = tt
+
+pub is_read_back : (h : FractalHeapHeader) (os ls lent : ℕ) (r : Result WrittenHeader FormatError)
+    → r ≡ header_written h os ls lent → OnOk r (ReadsBack h os ls)
+is_read_back h os ls lent r e = rw e (fits_is_read_back h os ls lent _ _ refl)
+
+pub is_written_back : (h : FractalHeapHeader) (os ls : ℕ) (old new : List ℕ) (r : Result WrittenHeader FormatError)
+    → r ≡ header_written h os ls (length old) → length new ≡ length old
+    → OnOk r (new ≡ put old 0 (header_spelled h os ls)) → WrittenBack h os ls r new
+is_written_back h os ls old new r e l w = λ s p bytes parsed plain room.
+    let widths = read-widths h s p os ls parsed in
+    let there = read-spelled h s p os ls bytes plain parsed in
+    let whole : List ℕ = header_spelled h os ls in
+    let n : length whole ≡ header_length os ls = length-header_spelled h os ls in
+    let a : Accepted h os ls (length old) =
+    record { offsets = widths.0; lengths = widths.1; plain = plain; fits = there.0; room = omega (arith, l, room) } in
+    let accepted_now : r ≡ Ok (record { length = header_length os ls; checksum = hashlittle (unsummed h os ls) }) =
+    e ∙ rw (acceptable h os ls (length old) a) refl in
+    let put_there : new ≡ put old 0 whole = (rw accepted_now at w) in
+    let front : take (header_length os ls) new ≡ whole =
+    ap (take (header_length os ls)) (put_there ∙ put_front old whole) ∙ take_at whole _ (header_length os ls) n in
+    let file : take (header_length os ls) (drop p s) ≡ whole =
+    ap (take (header_length os ls)) there.1 ∙ take_at whole _ (header_length os ls) n in
+    (rw accepted_now refl, front ∙ sym file)
+
+-- a header is that of its numbers
+pub header_of-numbers : (h : FractalHeapHeader) (ns : List ℕ) → ns ≡ header_numbers h → header_of ns ≡ h
+header_of-numbers h ns e = ap header_of e

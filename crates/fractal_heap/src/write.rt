@@ -267,10 +267,9 @@ fn check_header(
     Ok(())
 }
 
-/// Writes the header of these numbers, which are its fields in header order, as `FractalHeapHeader::write` does; what is
-/// behind the first 23 is not read.
+// The tests, then the stores.
 #[inline(always)]
-pub fn write_numbers(
+fn store_header(
     numbers: &[u64],
     offset_size: u8,
     length_size: u8,
@@ -289,4 +288,47 @@ pub fn write_numbers(
         length: header_length(offset_size, length_size) as u64,
         checksum,
     })
+}
+
+/// Writes the header of these numbers, its fields in header order, as `FractalHeapHeader::write` does. Numbers behind
+/// the first 23 are not read.
+#[inline(always)]
+pub fn write_numbers(
+    numbers: &[u64],
+    offset_size: u8,
+    length_size: u8,
+    bytes: &mut [u8],
+) -> Result<WrittenHeader, FormatError>
+    requires { FIELD_COUNT ≤ length numbers.now }
+    ensures value { result ≡ header_written (header_of numbers.now) offset_size length_size
+        (length bytes.old) }
+    ensures written { OnOk result (bytes.new ≡ put bytes.old 0
+        (header_spelled (header_of numbers.now) offset_size length_size)) }
+    ensures reads_back { OnOk result (ReadsBack (header_of numbers.now) offset_size length_size) }
+    ensures written_back { WrittenBack (header_of numbers.now) offset_size length_size result bytes.new }
+    ensures untouched { OnErr result (bytes.new ≡ bytes.old) }
+{
+    store_header(numbers, offset_size, length_size, bytes)
+}
+
+impl FractalHeapHeader {
+    /// Writes the header to the front of `bytes`; addresses have `offset_size` bytes, lengths `length_size`. Refused
+    /// are a size that is none (2, 3), filters (8), the first field, by its place in header order, that is too large for
+    /// its width (17), and fewer bytes than the header has (13), in this order; then `bytes` stay as they are. No
+    /// exception is made for the undefined address, which is all ones in its width.
+    pub fn write(
+        self,
+        offset_size: u8,
+        length_size: u8,
+        bytes: &mut [u8],
+    ) -> Result<WrittenHeader, FormatError>
+        ensures value { result ≡ header_written self offset_size length_size (length bytes.old) }
+        ensures written { OnOk result (bytes.new ≡ put bytes.old 0
+            (header_spelled self offset_size length_size)) }
+        ensures reads_back { OnOk result (ReadsBack self offset_size length_size) }
+        ensures written_back { WrittenBack self offset_size length_size result bytes.new }
+        ensures untouched { OnErr result (bytes.new ≡ bytes.old) }
+    {
+        write_numbers(&self.numbers(), offset_size, length_size, bytes)
+    }
 }
