@@ -290,6 +290,66 @@ static void id_lengths(const uint8_t *id)
     file[AT + 6] = 0;
 }
 
+/* The width of each field of a header at WIDTH, in header order: the places of their numbers in the list. */
+static const uint8_t FIELD_WIDTHS[FRACTAL_HEAP_HEADER_FIELDS] = {2, 2, 1, 4, 8, 8, 8, 8, 8, 8, 8, 8,
+                                                                 8, 8, 8, 8, 2, 8, 8, 2, 2, 8, 2};
+
+/* What a header says: every field has a number of its own, with every byte of its width. */
+static void header_fields(void)
+{
+    uint8_t header[HEADER], slot[24], before[24], *to = header;
+    uint64_t due[FRACTAL_HEAP_HEADER_FIELDS], fields[FRACTAL_HEAP_HEADER_FIELDS + 2];
+    int i, holds = 1;
+    memcpy(to, "FRHP", 4);
+    to = put(to + 4, 0, 1);
+    for (i = 0; i < FRACTAL_HEAP_HEADER_FIELDS; i++) {
+        due[i] = (UINT64_C(0xF1E2D3C4B5A69788) >> 8 * (8 - FIELD_WIDTHS[i])) - (uint64_t)i;
+        if (i == FRACTAL_HEAP_IO_FILTER_ENCODED_LENGTH)
+            due[i] = 0;
+        to = put(to, due[i], FIELD_WIDTHS[i]);
+    }
+    put(to, fractal_heap_checksum(header, HEADER - 4), 4);
+    memset(slot, 0xA5, sizeof slot);
+    memcpy(before, slot, sizeof before);
+    for (i = 0; i < FRACTAL_HEAP_HEADER_FIELDS + 2; i++)
+        fields[i] = UNDEFINED;
+    check(fractal_heap_parse_header(header, HEADER, 0, WIDTH, WIDTH, fields, 25, slot, 15) ==
+                  FRACTAL_HEAP_SLICE_TOO_SHORT &&
+              fractal_heap_parse_header(header, HEADER, 0, WIDTH, WIDTH, fields, 22, slot, 24) ==
+                  FRACTAL_HEAP_SLICE_TOO_SHORT &&
+              fractal_heap_parse_header(header, 7, 0, 3, 3, NULL, 0, slot, 24) == FRACTAL_HEAP_SLICE_TOO_SHORT &&
+              fractal_heap_parse_header(header, HEADER, 0, WIDTH, WIDTH, fields, 25, NULL, 0) ==
+                  FRACTAL_HEAP_SLICE_TOO_SHORT &&
+              memcmp(slot, before, sizeof slot) == 0 && fields[0] == UNDEFINED && fields[22] == UNDEFINED,
+          "a slot of 15 bytes or none, a list of 22 places or none: 13 before all else; both are as they were");
+    check(fractal_heap_parse_header(header, HEADER, 1, WIDTH, WIDTH, fields, 25, slot, 24) ==
+                  FRACTAL_HEAP_INVALID_SIGNATURE &&
+              get(slot, 8) == 0 && get(slot + 8, 8) == 0 && memcmp(slot + 16, before + 16, 8) == 0 &&
+              fractal_heap_parse_header(header, 40, 0, WIDTH, WIDTH, fields, 25, slot, 24) ==
+                  FRACTAL_HEAP_UNEXPECTED_EOF &&
+              get(slot, 8) == 70 && get(slot + 8, 8) == 40 && fields[0] == UNDEFINED && fields[1] == UNDEFINED,
+          "a header that is refused: its number, two numbers in the slot; the list is as it was");
+    check(fractal_heap_parse_header(header, HEADER, 0, WIDTH, WIDTH, fields, 25, slot, 24) == FRACTAL_HEAP_OK &&
+              get(slot, 8) == 0 && get(slot + 8, 8) == 0 && memcmp(slot + 16, before + 16, 8) == 0 &&
+              fields[23] == UNDEFINED && fields[24] == UNDEFINED,
+          "a header that is accepted: two zeros in the slot; places behind its fields as they were");
+    for (i = 0; i < FRACTAL_HEAP_HEADER_FIELDS; i++)
+        holds = holds && fields[i] == due[i];
+    check(holds, "every field of a header at its place");
+    check(fractal_heap_parse_header(file, FILE_LEN, AT, WIDTH, WIDTH, fields, 23, slot, 16) == FRACTAL_HEAP_OK &&
+              fields[FRACTAL_HEAP_HEAP_ID_LENGTH] == 8 && fields[FRACTAL_HEAP_FLAGS] == 2 &&
+              fields[FRACTAL_HEAP_BTREE_HUGE_OBJECTS_ADDRESS] == UNDEFINED &&
+              fields[FRACTAL_HEAP_FREE_SPACE_MANAGED_BLOCKS] == START - BLOCK_HEADER - sizeof OBJECT &&
+              fields[FRACTAL_HEAP_MANAGED_SPACE_IN_HEAP] == START &&
+              fields[FRACTAL_HEAP_MANAGED_OBJECTS_COUNT] == 1 && fields[FRACTAL_HEAP_TABLE_WIDTH] == 4 &&
+              fields[FRACTAL_HEAP_MAX_HEAP_SIZE] == 40 && fields[FRACTAL_HEAP_ROOT_BLOCK_ADDRESS] == ROOT &&
+              fields[FRACTAL_HEAP_CURRENT_ROWS_IN_ROOT_INDIRECT_BLOCK] == 0,
+          "the fields of the heap's header by their names");
+    check(fractal_heap_parse_header(NULL, 0, AT, WIDTH, WIDTH, fields, 23, slot, 16) == FRACTAL_HEAP_UNEXPECTED_EOF &&
+              get(slot, 8) == AT + 5 && get(slot + 8, 8) == 0,
+          "no file has no header: 1 with the end of signature and version");
+}
+
 /* In it the plan begins as many bytes behind the start as its alignment says. */
 struct behind_a_byte {
     uint8_t byte;
@@ -485,6 +545,7 @@ int main(void)
     refused(id);
     slots(id);
     id_lengths(id);
+    header_fields();
     superblocks();
     user_block(id);
     nulls(fractal_heap_decode_managed_id, id);

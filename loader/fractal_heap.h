@@ -1,4 +1,4 @@
-/* The loader's interface to the fractal heap: the six functions of the library fractal_heap_c
+/* The loader's interface to the fractal heap: the seven functions of the library fractal_heap_c
  * (loader/static_libraries fractal_heap_c, target/staticlib/libfractal_heap_c.a), and three short ones that stand
  * here whole: where a file's superblock is, how long a heap's IDs are, and the ID of an object that was planned.
  *
@@ -127,6 +127,48 @@ uint32_t fractal_heap_read_managed_object(const uint8_t *file, size_t file_len, 
                                           uint8_t offset_size, uint8_t length_size,
                                           const uint8_t *id, size_t id_len,
                                           uint8_t *slot, size_t slot_len);
+
+enum {
+    FRACTAL_HEAP_HEADER_FIELDS = 23     /* 64-bit numbers that fractal_heap_parse_header puts */
+};
+
+/* What the heap header at `at` in the file says, as the two functions above find it. Its fields between version and
+ * checksum go into the first 23 places of the list, in header order, which is that of enum fractal_heap_field below;
+ * places behind them keep their content, and two zeros go into the slot. An address is told as it is stored, undefined
+ * where all its offset_size bytes are 0xFF. Refused, the slot gets the refusal's two numbers, and the list keeps its
+ * content. fields_len counts numbers: a slot of fewer than 16 bytes, and then a list of fewer than 23 numbers, gives 13
+ * before all else; neither is written. The list overlaps nothing else that is lent. */
+uint32_t fractal_heap_parse_header(const uint8_t *file, size_t file_len, uint64_t at,
+                                   uint8_t offset_size, uint8_t length_size,
+                                   uint64_t *fields, size_t fields_len,
+                                   uint8_t *slot, size_t slot_len);
+
+/* The place of each field in the list. */
+enum fractal_heap_field {
+    FRACTAL_HEAP_HEAP_ID_LENGTH,                            /* bytes of an ID */
+    FRACTAL_HEAP_IO_FILTER_ENCODED_LENGTH,                  /* bytes of the filters; 0: there are none */
+    FRACTAL_HEAP_FLAGS,                                     /* 1: huge IDs have wrapped; 2: direct blocks have checksums */
+    FRACTAL_HEAP_MAX_MANAGED_OBJECT_SIZE,                   /* bytes */
+    FRACTAL_HEAP_NEXT_HUGE_OBJECT_ID,                       /* a number */
+    FRACTAL_HEAP_BTREE_HUGE_OBJECTS_ADDRESS,                /* address of the index of huge objects */
+    FRACTAL_HEAP_FREE_SPACE_MANAGED_BLOCKS,                 /* bytes */
+    FRACTAL_HEAP_MANAGED_BLOCK_FREE_SPACE_MANAGER_ADDRESS,  /* address */
+    FRACTAL_HEAP_MANAGED_SPACE_IN_HEAP,                     /* bytes */
+    FRACTAL_HEAP_ALLOCATED_MANAGED_SPACE_IN_HEAP,           /* bytes */
+    FRACTAL_HEAP_DIRECT_BLOCK_ALLOCATION_ITERATOR_OFFSET,   /* a heap offset, in bytes */
+    FRACTAL_HEAP_MANAGED_OBJECTS_COUNT,                     /* objects */
+    FRACTAL_HEAP_HUGE_OBJECTS_SIZE,                         /* bytes */
+    FRACTAL_HEAP_HUGE_OBJECTS_COUNT,                        /* objects */
+    FRACTAL_HEAP_TINY_OBJECTS_SIZE,                         /* bytes */
+    FRACTAL_HEAP_TINY_OBJECTS_COUNT,                        /* objects */
+    FRACTAL_HEAP_TABLE_WIDTH,                               /* blocks in a row */
+    FRACTAL_HEAP_STARTING_BLOCK_SIZE,                       /* bytes */
+    FRACTAL_HEAP_MAX_DIRECT_BLOCK_SIZE,                     /* bytes */
+    FRACTAL_HEAP_MAX_HEAP_SIZE,                             /* bits of a heap offset */
+    FRACTAL_HEAP_START_ROOT_ROWS,                           /* rows of a new root; 0: as many as there can be */
+    FRACTAL_HEAP_ROOT_BLOCK_ADDRESS,                        /* address */
+    FRACTAL_HEAP_CURRENT_ROWS_IN_ROOT_INDIRECT_BLOCK        /* rows; 0: the root is a direct block */
+};
 
 /* An open plan: objects are added to it one by one, in the order in which they will be written, and each has its
  * heap offset, and so its ID, at once. It is at any time the plan of the sizes that were accepted so far, and these

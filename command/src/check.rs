@@ -48,14 +48,25 @@ fn same_ids(heap: &Written, objects: &Objects, talk: &mut Talk) -> Result<(), Fa
 
 /// The header says what it should.
 fn check_header(readable: &Heap, heap: &Written, objects: &Objects) -> Result<(), Failure> {
-    let header = library::parse_header(readable)?;
-    let root = heap.place.region_at + heap.totals.root_place;
-    let due = (root, heap.totals.root_rows, objects.number());
-    let got = (
+    let (header, totals) = (readable.header()?, &heap.totals);
+    let due = [
+        heap.place.region_at + totals.root_place,
+        totals.root_rows,
+        objects.number(),
+        totals.free_space,
+        totals.managed_space,
+        totals.allocated_space,
+        totals.allocation_iterator,
+    ];
+    let got = [
         header.root_block_address,
-        header.root_rows,
-        header.managed_objects,
-    );
+        header.current_rows_in_root_indirect_block.into(),
+        header.managed_objects_count,
+        header.free_space_managed_blocks,
+        header.managed_space_in_heap,
+        header.allocated_managed_space_in_heap,
+        header.direct_block_allocation_iterator_offset,
+    ];
     match got == due {
         true => Ok(()),
         false => Err(wrong("the header does not say what was written")),

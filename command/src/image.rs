@@ -1,8 +1,7 @@
 //! A file image: a heap's header and its region, each at its place, and nothing around them.
 use crate::failure::Failure;
-use crate::library::Totals;
 use crate::memory::no_room;
-use fractal_heap::{Heap, checksum, grouped};
+use fractal_heap::{Heap, Totals, checksum, grouped};
 use memmap2::{Mmap, MmapMut};
 use std::fs::File;
 use std::io;
@@ -84,11 +83,11 @@ pub fn header(place: &Place, totals: &Totals, objects: u64) -> Result<Vec<u8>, F
     fields.fill(4, LARGEST_DIRECT.saturating_sub(block_header(w)));
     fields.fill(l, 0); // next huge ID
     fields.fill(w, undefined); // index of huge objects
-    fields.put(l, "free space", totals.free)?;
+    fields.put(l, "free space", totals.free_space)?;
     fields.fill(w, undefined); // free space manager
-    fields.put(l, "managed space", totals.managed)?;
-    fields.put(l, "allocated space", totals.allocated)?;
-    fields.put(l, "iterator", totals.iterator)?;
+    fields.put(l, "managed space", totals.managed_space)?;
+    fields.put(l, "allocated space", totals.allocated_space)?;
+    fields.put(l, "iterator", totals.allocation_iterator)?;
     fields.put(l, "number of objects", objects)?;
     for _ in 0..4 {
         fields.fill(l, 0); // huge and tiny objects

@@ -6,7 +6,7 @@ use crate::id::HeapId;
 use crate::image::{self, Image, Layout, Place};
 use crate::inputs::{self, Bytes, Identity};
 use crate::joined::{self, Joined};
-use crate::library::{self, Id, Lists, Totals, Writing};
+use crate::library::{self, Id, Lists, Writing};
 use crate::memory;
 use crate::output::Output;
 use crate::progress::Progress;
@@ -15,7 +15,7 @@ use crate::signals;
 use crate::table::Fullness;
 use crate::talk::{Talk, Volume, tell};
 use crate::{index, map, print};
-use fractal_heap::{Added, OpenPlan, Refusal, Superblock, count, grouped};
+use fractal_heap::{Added, OpenPlan, Refusal, Superblock, Totals, count, grouped};
 use memmap2::Mmap;
 use serde_json::json;
 use std::env;
@@ -122,7 +122,7 @@ fn place(arguments: &Write) -> Result<Place, Failure> {
     };
     let none = library::plan(&[], &mut Lists::default(), offset_size)?;
     let header = image::header(&place, &none, 0)?;
-    library::parse_header(&place.heap(&header, 0))?;
+    place.heap(&header, 0).header()?;
     let writing = Writing {
         sizes: &[],
         objects: &[],
@@ -163,6 +163,17 @@ fn lists(objects: usize) -> Result<Lists, Failure> {
     Ok(Lists {
         offsets: memory::with_room(objects)?,
         blocks: memory::with_room(objects.max(1))?,
+    })
+}
+
+/// The ID of an object that was placed; the file of one that has none is named.
+fn given_id(added: Added, name: &OsStr) -> Result<Id, Failure> {
+    let Added { offset, size } = added;
+    library::managed_id(offset, size).map_err(|refusal| {
+        let file = shown(name);
+        Failure::Not(format!(
+            "{refusal}\nthe file is {file}; it is empty, and the heap space is full"
+        ))
     })
 }
 
@@ -222,7 +233,8 @@ impl Line<'_> {
 }
 
 /// Takes the files in, one by one. A plan that stays open places each at once; as front parts are planned alike, the ID
-/// that an object gets here is its ID for good. Where nothing is kept, the work ends when nobody hears the IDs.
+/// that an object gets here is its ID for good. Its bytes are put by first, so that none is planned, and no ID printed, of
+/// an object that could not be kept. Where nothing is kept, the work ends when nobody hears the IDs.
 fn take_in(
     names: &[&OsStr],
     w: u8,
@@ -233,17 +245,18 @@ fn take_in(
     let number = names.len();
     let (mut sizes, mut ids) = (memory::with_room(number)?, memory::with_room(number)?);
     let (mut files, mut plan) = (memory::with_room(number)?, OpenPlan::open(w)?);
-    let (mut joined, mut object) = (destination.joined(), inputs::room_for_one()?);
+    let (mut joined, mut room) = (destination.joined(), inputs::room_for_one()?);
     let mut progress = Progress::unless(talk.is_seen(), "taking in the files", number as u64);
     if !names.is_empty() {
         talk.say(" object     size     heap offset  ID                       file");
     }
     for (i, name) in names.iter().enumerate() {
-        let taken = inputs::take_in(name, &mut object)?;
-        joined.add(&object)?;
+        let taken = inputs::take_in(name, &mut room)?;
+        joined.add(taken.bytes)?;
+        let added = plan.add(taken.size).map_err(|r| not_taken(&r, name, w))?;
+        let id = given_id(added, name)?;
+        let Added { offset, size } = added;
         files.push(taken.identity);
-        let Added { offset, size } = plan.add(taken.size).map_err(|r| not_taken(&r, name, w))?;
-        let id = library::managed_id(offset, size)?;
         sizes.push(size);
         ids.push(id);
         let line = Line {
@@ -321,7 +334,7 @@ fn print_totals(heap: &Written, objects: &Objects, talk: &mut Talk) {
         count(objects.bytes.len() as u64, "byte")
     ));
     let lines = [
-        ("blocks", t.blocks, String::new()),
+        ("blocks", t.block_count, String::new()),
         (
             "region size",
             t.region_size,
@@ -333,10 +346,10 @@ fn print_totals(heap: &Written, objects: &Objects, talk: &mut Talk) {
             t.root_place,
             format!("in the region, at {} in the image", grouped(root)),
         ),
-        ("managed space", t.managed, String::new()),
-        ("allocated space", t.allocated, String::new()),
-        ("free space", t.free, String::new()),
-        ("iterator", t.iterator, String::new()),
+        ("managed space", t.managed_space, String::new()),
+        ("allocated space", t.allocated_space, String::new()),
+        ("free space", t.free_space, String::new()),
+        ("iterator", t.allocation_iterator, String::new()),
     ];
     for (name, number, more) in lines {
         let line = format!("  {name:<16} {:>17}  {more}", grouped(number));
@@ -346,7 +359,7 @@ fn print_totals(heap: &Written, objects: &Objects, talk: &mut Talk) {
 
 fn print_map(heap: &Written, objects: &Objects, ascii: bool, talk: &mut Talk) {
     let (lists, totals) = (&heap.lists, &heap.totals);
-    let starts = &lists.blocks[..totals.blocks as usize];
+    let starts = &lists.blocks[..totals.block_count as usize];
     let w = heap.place.offset_size;
     let fullness = Fullness::new(starts, &lists.offsets, &objects.sizes, w);
     talk.say("");
@@ -450,4 +463,23 @@ pub fn write(arguments: &Write) -> Result<(), Failure> {
             tell("the image is whole, but standard output did not take all that was to be printed");
         }
     })
+}
+
+#[cfg(test)]
+mod tests {
+    use super::*;
+
+    // By docs/RULES.md the heap space ends at 2^40, where an empty object is placed, but no ID holds that offset.
+    #[test]
+    fn a_file_without_an_id_is_named() {
+        let id = |offset| given_id(Added { offset, size: 0 }, OsStr::new("a note"));
+        let last = [0, 0xFF, 0xFF, 0xFF, 0xFF, 0xFF, 0, 0];
+        assert_eq!(id((1 << 40) - 1).unwrap(), last);
+        let Err(Failure::Not(words)) = id(1 << 40) else {
+            panic!("it has an ID, or is called wrong use");
+        };
+        let due = "refused by 16: no ID holds offset 1,099,511,627,776 and length 0: they must be below 2^40 and below \
+                   2^16\nthe file is a note; it is empty, and the heap space is full";
+        assert_eq!(words, due);
+    }
 }

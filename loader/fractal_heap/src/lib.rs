@@ -52,11 +52,13 @@
 //! or another folder, as it may be in cron or an editor, the build ends and asks for an absolute one.
 #![warn(missing_docs)]
 
+mod header;
 mod numbers;
 mod open_plan;
 mod refusal;
 mod superblock;
 
+pub use header::Header;
 pub use numbers::{count, grouped};
 pub use open_plan::{Added, OpenPlan, Totals};
 pub use refusal::Refusal;
@@ -180,10 +182,7 @@ const ID_LENGTH_AT: u64 = 5;
 impl<'f> Heap<'f> {
     /// How many bytes each ID of the heap has, by a header that is sound.
     pub fn heap_id_length(&self) -> Result<u16, Refusal> {
-        // An ID of one byte, 0, is a managed object's: what is refused is the header.
-        self.decode_managed_id_of_any_length(&[0])?;
-        let length = self.stored_id_length();
-        Ok(length.expect("a header that is sound is in the file"))
+        Ok(self.header()?.heap_id_length)
     }
 
     /// Offset in the heap and length that a managed ID gives, which must have the length of the heap's IDs.

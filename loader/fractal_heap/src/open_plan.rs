@@ -117,6 +117,13 @@ impl OpenPlan {
         };
         // Only a shorter list is refused.
         assert_eq!(number, sys::FRACTAL_HEAP_OK, "a list of eight numbers");
+        numbers.into()
+    }
+}
+
+/// By the eight numbers of a plan, in the order in which the C functions put them.
+impl From<[u64; 8]> for Totals {
+    fn from(numbers: [u64; 8]) -> Totals {
         let [
             block_count,
             region_size,

@@ -39,6 +39,9 @@ pub const FRACTAL_HEAP_OBJECT_BYTES_MISMATCH: u32 = 14;
 pub const FRACTAL_HEAP_ADDRESS_TOO_LARGE: u32 = 15;
 pub const FRACTAL_HEAP_HEAP_ID_TOO_LARGE: u32 = 16;
 
+// How many numbers the fields of a header are.
+pub const FRACTAL_HEAP_HEADER_FIELDS: u32 = 23;
+
 // Bytes of an open plan, its alignment, and how many numbers its totals are.
 pub const FRACTAL_HEAP_PLAN_SIZE: u32 = 72;
 pub const FRACTAL_HEAP_PLAN_ALIGNMENT: u32 = 8;
@@ -104,6 +107,17 @@ unsafe extern "C" {
         length_size: u8,
         id: *const u8,
         id_len: usize,
+        slot: *mut u8,
+        slot_len: usize,
+    ) -> u32;
+    pub fn fractal_heap_parse_header(
+        file: *const u8,
+        file_len: usize,
+        at: u64,
+        offset_size: u8,
+        length_size: u8,
+        fields: *mut u64,
+        fields_len: usize,
         slot: *mut u8,
         slot_len: usize,
     ) -> u32;
