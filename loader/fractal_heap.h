@@ -31,8 +31,7 @@ extern "C" {
 
 /* What the functions answer, but for the checksum and the length of IDs: 0, or why they refuse. Behind each number are
  * its two values, which go into the slot where a function takes one. Those that read give 0 to 10 and 13; an open plan
- * gives 0, 2 and 11 to 13, the writer of IDs 0, 13 and 16; 14, 15
- * and 17 are those of writing, in the same table. */
+ * gives 0, 2 and 11 to 13, the writer of IDs 0, 13 and 16; 14, 15 and 17 are those of writing, in the same table. */
 enum fractal_heap_number {
     FRACTAL_HEAP_OK = 0,                                /* the answer's own */
     FRACTAL_HEAP_UNEXPECTED_EOF = 1,                    /* expected end (at most 2^64 - 1), available */
