@@ -31,8 +31,7 @@ extern "C" {
 
 /* What the functions answer, but for the checksum and the length of IDs: 0, or why they refuse. Behind each number are
  * its two values, which go into the slot where a function takes one. Those that read give 0 to 10 and 13; an open plan
- * gives 0, 2 and 11 to 13, the writer of IDs 0, 13 and 16; 14, 15
- * and 17 are those of writing, in the same table. */
+ * gives 0, 2 and 11 to 13, the writer of IDs 0, 13 and 16; 14, 15 and 17 are those of writing, in the same table. */
 enum fractal_heap_number {
     FRACTAL_HEAP_OK = 0,                                /* the answer's own */
     FRACTAL_HEAP_UNEXPECTED_EOF = 1,                    /* expected end (at most 2^64 - 1), available */
@@ -174,7 +173,7 @@ enum fractal_heap_field {
 
 /* An open plan: objects are added to it one by one, in the order in which they will be written, and each has its
  * heap offset, and so its ID, at once. It is at any time the plan of the sizes that were accepted so far, and these
- * need not be kept: an offset that was given stays the object's in every longer list.
+ * need not be kept: an offset that was given stays the object's in every longer list, and so does its ID.
  *
  *     struct fractal_heap_opened_plan opened = fractal_heap_open_plan(8, slot, 16);
  *     if (opened.number != FRACTAL_HEAP_OK)

@@ -1,6 +1,6 @@
 -- What is read is spelled, each byte of it.
 use Rattle.std.proofs.Common.{◌≡◌, refl, sym, ap, ap₂, subst, ◌∙◌, ℕ, zero, suc, ◌+◌, ◌-◌, ◌*◌, ◌^◌, ◌%◌, ◌/◌, ◌<◌, ◌≤◌, List, [], ◌∷◌, ◌++◌}
-use Rattle.std.proofs.Common.{length, take, drop, true, append_assoc, take_at, length-append, length-drop, drop-drop, drop-cons, length-take-le, length-take, get_or-drop, get_or, inl, inr, arith}
+use Rattle.std.proofs.Common.{length, take, drop, true, append_assoc, take_at, length-append, length-drop, drop-drop, drop-cons, length-take-le, length-take, get_or-drop, inl, inr, arith}
 use Rattle.std.proofs.lemmas.Bool.{cases_lt}
 use Rattle.std.proofs.lemmas.List.{get_or-take, get_or_past, take-append-drop}
 use Rattle.std.proofs.lemmas.Grind.{common_steps}
@@ -17,7 +17,7 @@ use Rattle.fields.specs.LittleEndian.{le, value, le_at}
 use Rattle.fields.specs.Widths.{legal}
 use Rattle.fields.specs.Fields.{len_ensured, plain_at, number_at, offset_at, length_at}
 use Rattle.fields.proofs.LittleEndian.{length-le, value-lt}
-use Rattle.fractal_heap.specs.Header.{fields_at, sum_place, header_at, header_numbers}
+use Rattle.fractal_heap.specs.Header.{fields_at, sum_place, header_numbers}
 use Rattle.fractal_heap.specs.SpellingLaws.{ReadIsSpelled}
 use Rattle.fractal_heap.specs.HeaderReader.{offset_field, length_field}
 use Rattle.fractal_heap.specs.Groups.{front_fields, object_fields, table_fields, root_fields}

@@ -11,7 +11,7 @@ use Rattle.table.specs.Sizes.{offset_bytes}
 use Rattle.fields.specs.Signatures.{indirect_signature}
 use Rattle.region_blocks.specs.Blocks.{block_head, indirect_block}
 use Rattle.region_blocks.proofs.Lengths.{indirect-head-length, indirect-length}
-use Rattle.region_indirects.specs.Walk.{Walked, both, finished, slot, smaller, all_slots, block}
+use Rattle.region_indirects.specs.Walk.{Walked, both, slot, smaller, all_slots, block}
 use Rattle.reading.specs.declared.rows.DoublingTable.{DoublingTable}
 use Rattle.reading.specs.declared.children.HeapChild.{HeapChild}
 use Rattle.fields.specs.declared.place.Place.{Place}
@@ -36,7 +36,6 @@ pub record Stands (F s : List ℕ) (w pos e : ℕ) (o : Walked) : Type 0 where
 
 module _ {F s : List ℕ} {w pos e : ℕ} (c o : Walked) where
   pub stands-first : Stands F s w pos e (both c o) → Stands F s w pos e c
-  unfolding both
   stands-first S =
       let n = length-append c.bytes o.bytes in
       let l = S.below in
@@ -47,7 +46,6 @@ module _ {F s : List ℕ} {w pos e : ℕ} (c o : Walked) where
       }
 
   pub stands-next : length c.entries ≡ w → Stands F s w pos e (both c o) → Stands F s w (pos + length c.bytes) (e + w) o
-  unfolding both
   stands-next k S =
       let n = length-append c.bytes o.bytes in
       let l = S.below in
@@ -61,12 +59,12 @@ module _ (t : Table) (w header n at : ℕ) (ss : List ℕ) (pos next : ℕ) wher
   pub block-bytes : (block t w header n at ss pos next).bytes
       ≡ (all_slots t w header n at ss pos next).bytes ++ indirect_block t w header at
       (all_slots t w header n at ss pos next).entries
-  unfolding block finished
+  unfolding block
   block-bytes = refl
 
   pub block-entry : (block t w header n at ss pos next).entries
       ≡ le w (pos + length (all_slots t w header n at ss pos next).bytes)
-  unfolding block finished
+  unfolding block
   block-entry = refl
 
   -- the block itself stands below what it ends below

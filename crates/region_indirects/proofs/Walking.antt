@@ -17,9 +17,9 @@ use Rattle.region_blocks.specs.Blocks.{indirect_block}
 use Rattle.region_blocks.proofs.Lengths.{indirect-length}
 use Rattle.region_indirects.specs.declared.cursor.Slots.{Slots}
 use Rattle.region_indirects.specs.Slots.{block_slots, next_rows, next_slots}
-use Rattle.region_indirects.specs.Walk.{Walked, WalkedFrom, begins_before, rows_of_slots, unplaced, direct, nothing}
+use Rattle.region_indirects.specs.Walk.{Walked, WalkedFrom, begins_before, rows_of_slots, unplaced, direct}
 use Rattle.region_indirects.specs.Walk.{both}
-use Rattle.region_indirects.specs.Walk.{slot, slots, finished, smaller, all_slots, block}
+use Rattle.region_indirects.specs.Walk.{slot, slots, smaller, all_slots, block}
 use Rattle.region_indirects.specs.Requires.{rows_left, span_left}
 
 -- ---- the next placed block
@@ -83,12 +83,10 @@ before-less [] a b l e = refl
 before-less (s ∷ ss) a b l e = grind (arith, nat_tests)
 
 both-none : (ss : List ℕ) (next w : ℕ) (o : Walked) → both (unplaced (0 * w) ss next) o ≡ o
-unfolding both unplaced
 both-none ss next w o = let none : 0 * w ≡ 0 = omega arith in rw none
 
 both-more : (ss : List ℕ) (next w k : ℕ) (o : Walked)
     → both (unplaced w ss next) (both (unplaced (k * w) ss next) o) ≡ both (unplaced (suc k * w) ss next) o
-unfolding both unplaced
 both-more ss next w k o =
     let n : w + k * w ≡ suc k * w = omega arith in
     let one : replicate w 0xFF ++ replicate (k * w) 0xFF ≡ replicate (suc k * w) 0xFF =
@@ -101,9 +99,10 @@ module _ (t : Table) (w header : ℕ) (inner : ℕ → WalkedFrom) where
       → begins_before ss (at + k * 2 ^ row_bits t r) ≡ false
       → slots t w header inner (replicate k r ++ rs) at ss pos next
       ≡ both (unplaced (k * w) ss next) (slots t w header inner rs (at + k * 2 ^ row_bits t r) ss pos next)
-  unfolding slots unplaced
+  unfolding slots
   slots-passed zero r rs at ss pos next b =
-      let here : at + 0 * 2 ^ row_bits t r ≡ at = omega arith in rw (here, both-none ss next w)
+      let here : at + 0 * 2 ^ row_bits t r ≡ at = omega arith in
+      rw (here, both-none ss next w (slots t w header inner rs at ss pos next))
   slots-passed (suc k) r rs at ss pos next b =
       let z : ℕ = 2 ^ row_bits t r in
       let on : at + z + k * z ≡ at + suc k * z = omega arith in
@@ -125,12 +124,12 @@ module _ (t : Table) (w header : ℕ) where
 
   slot-sound : (inner : ℕ → WalkedFrom) → AllSound inner → (r at : ℕ) (ss : List ℕ) (pos next : ℕ)
       → Sound w 1 next (slot t w header inner r at ss pos next)
-  unfolding slot unplaced direct
+  unfolding slot
   slot-sound inner h r at ss pos next = grind (arith, h, length-le, length-replicate {A = ℕ})
 
   slots-sound : (inner : ℕ → WalkedFrom) → AllSound inner → (rs : List ℕ) (at : ℕ) (ss : List ℕ) (pos next : ℕ)
       → Sound w (length rs) next (slots t w header inner rs at ss pos next)
-  unfolding slots both nothing
+  unfolding slots
   slots-sound inner h [] at ss pos next = grind arith
   slots-sound inner h (r ∷ rs) at ss pos next =
       let c : Walked = slot t w header inner r at ss pos next in
@@ -139,7 +138,7 @@ module _ (t : Table) (w header : ℕ) where
       grind (arith, length-append {A = ℕ})
 
   smaller-sound : (n : ℕ) → AllSound (smaller t w header n)
-  unfolding smaller unplaced finished
+  unfolding smaller
   smaller-sound zero j at ss pos next = grind (arith, length-replicate {A = ℕ})
   smaller-sound (suc n) j at ss pos next =
       let slots = slots-sound (smaller t w header n) (smaller-sound n) (rows_of_slots t n 0) at ss pos next in
@@ -172,7 +171,7 @@ module _ (t : Table) (w header : ℕ) where
   pub block-length : (n at : ℕ) (ss : List ℕ) (pos next : ℕ)
       → length (block t w header n at ss pos next).bytes
       ≡ length (all_slots t w header n at ss pos next).bytes + indirect_size t w n
-  unfolding block finished indirect_size
+  unfolding block indirect_size
   block-length n at ss pos next =
       let inner : Walked = all_slots t w header n at ss pos next in
       let own = indirect-length t w header at inner.entries in
