@@ -18,6 +18,7 @@ ghost use Rattle.fields.specs.Places.{place_report};
 ghost use Rattle.fractal_heap.specs.declared.header.FractalHeapHeader.{FractalHeapHeader};
 ghost use Rattle.fractal_heap.specs.Header.{header_at};
 ghost use Rattle.fractal_heap.specs.Read.{id_by, object_by};
+ghost use Rattle.heap_kept.specs.FromBytes.{ForWritten};
 ghost use Rattle.heap_kept.specs.Kept.{ForKept};
 ghost use Rattle.fractal_heap_c.specs.InSlot.{NamesPlace, NamesPair};
 ghost use Rattle.fractal_heap_c.specs.WrittenIds.{DecodesOurIds, IsWrittenId};
@@ -96,7 +97,7 @@ pub extern "C" fn fractal_heap_decode_managed_id(
 /// Position in the file and length of a managed object.
 ///
 /// Of a heap that our writer wrote, and by an ID that it gave, early or at the end, the file has the object's bytes
-/// there.
+/// there, whoever wrote its header: `kept` says so where the header parses, `from_bytes` where its bytes stand.
 #[unsafe(no_mangle)]
 pub extern "C" fn fractal_heap_read_managed_object(
     file: &[u8],
@@ -117,6 +118,9 @@ pub extern "C" fn fractal_heap_read_managed_object(
     ensures kept { (header : FractalHeapHeader)
         → header_at file.now at offset_size length_size ≡ Ok header
         → ForKept header file.now offset_size id.now
+        (λ bytes. 16 ≤ length slot.old → NamesPlace result slot.new file.now bytes) }
+    // The same where the file holds the header's bytes, as the header writer leaves them.
+    ensures from_bytes { ForWritten file.now at offset_size length_size id.now
         (λ bytes. 16 ≤ length slot.old → NamesPlace result slot.new file.now bytes) }
 {
     put_answer(slot, read(file, at, offset_size, length_size, id).answer())

@@ -1,8 +1,9 @@
 //! What a caller gets by `fractal_heap_read_managed_object` and `fractal_heap_decode_managed_id`, said from their
-//! clauses `kept` alone, and so read from a file.
+//! clauses `kept` and `from_bytes` alone, and so read from a file.
 ghost use Rattle.std.specs.Prelude.{◌≡◌, ℕ, Ok, Some, IsSomeAnd};
 ghost use Rattle.fractal_heap.specs.declared.header.FractalHeapHeader.{FractalHeapHeader};
 ghost use Rattle.fractal_heap.specs.Header.{header_at};
+ghost use Rattle.heap_kept.specs.FromBytes.{ForWritten};
 ghost use Rattle.heap_kept.specs.Kept.{ForKept};
 ghost use Rattle.fractal_heap_c.specs.WrittenIds.{DecodesOurIds, IsWrittenId};
 
@@ -25,9 +26,11 @@ fn object_bytes<'a>(
     length_size: u8,
     id: &[u8],
 ) -> Option<&'a [u8]>
-    ensures { (header : FractalHeapHeader)
+    ensures kept { (header : FractalHeapHeader)
         → header_at file.now at offset_size length_size ≡ Ok header
         → ForKept header file.now offset_size id.now
+        (λ bytes. IsSomeAnd result (λ found. found.now ≡ bytes)) }
+    ensures from_bytes { ForWritten file.now at offset_size length_size id.now
         (λ bytes. IsSomeAnd result (λ found. found.now ≡ bytes)) }
 {
     let mut slot = [0u8; 16];
