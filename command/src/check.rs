@@ -1,10 +1,9 @@
 //! What `poilures write` checks when the heap is written: the IDs, the header, and every object by its ID.
 use crate::failure::Failure;
-use crate::library;
 use crate::progress::Progress;
 use crate::talk::Talk;
 use crate::write::{Objects, Written};
-use fractal_heap::{Error, Heap, count, grouped};
+use fractal_heap::{Added, Error, Heap, count, grouped};
 
 fn wrong(words: &str) -> Failure {
     Failure::Not(format!("not as it should be: {words}"))
@@ -29,7 +28,7 @@ pub fn check(
 fn same_ids(heap: &Written, objects: &Objects, talk: &mut Talk) -> Result<(), Failure> {
     let offsets = &heap.lists.offsets;
     for (i, (&offset, &size)) in offsets.iter().zip(&objects.sizes).enumerate() {
-        if library::managed_id(offset, size)? != objects.ids[i] {
+        if (Added { offset, size }).id()? != objects.ids[i] {
             return Err(wrong(&format!(
                 "object {i} has another ID in the whole list"
             )));

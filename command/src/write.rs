@@ -168,8 +168,7 @@ fn lists(objects: usize) -> Result<Lists, Failure> {
 
 /// The ID of an object that was placed; the file of one that has none is named.
 fn given_id(added: Added, name: &OsStr) -> Result<Id, Failure> {
-    let Added { offset, size } = added;
-    library::managed_id(offset, size).map_err(|refusal| {
+    added.id().map_err(|refusal| {
         let file = shown(name);
         Failure::Not(format!(
             "{refusal}\nthe file is {file}; it is empty, and the heap space is full"

@@ -282,7 +282,7 @@ fn the_header_declares_what_rust_is_declared() {
     let Some(root) = repository() else { return };
     let (header, rust) = (text(&root, "loader/fractal_heap.h"), rust(&root, "lib"));
     assert_eq!(c_functions(&header), rust_functions(&rust));
-    assert_eq!(rust_functions(&rust).len(), 7);
+    assert_eq!(rust_functions(&rust).len(), 8);
     assert_eq!(numbers(&header), numbers(&rust));
     assert_eq!(numbers(&rust).len(), 17 + 4);
     assert_eq!(c_structs(&header), rust_structs(&rust));
