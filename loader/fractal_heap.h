@@ -196,7 +196,7 @@ uint32_t fractal_heap_write_header(const uint64_t *fields, size_t fields_len,
 
 /* An open plan: objects are added to it one by one, in the order in which they will be written, and each has its
  * heap offset, and so its ID, at once. It is at any time the plan of the sizes that were accepted so far, and these
- * need not be kept: an offset that was given stays the object's in every longer list.
+ * need not be kept: an offset that was given stays the object's in every longer list, and so does its ID.
  *
  *     struct fractal_heap_opened_plan opened = fractal_heap_open_plan(8, slot, 16);
  *     if (opened.number != FRACTAL_HEAP_OK)

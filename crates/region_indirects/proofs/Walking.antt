@@ -101,7 +101,8 @@ module _ (t : Table) (w header : ℕ) (inner : ℕ → WalkedFrom) where
       ≡ both (unplaced (k * w) ss next) (slots t w header inner rs (at + k * 2 ^ row_bits t r) ss pos next)
   unfolding slots
   slots-passed zero r rs at ss pos next b =
-      let here : at + 0 * 2 ^ row_bits t r ≡ at = omega arith in rw (here, both-none ss next w (slots t w header inner rs at ss pos next))
+      let here : at + 0 * 2 ^ row_bits t r ≡ at = omega arith in
+      rw (here, both-none ss next w (slots t w header inner rs at ss pos next))
   slots-passed (suc k) r rs at ss pos next b =
       let z : ℕ = 2 ^ row_bits t r in
       let on : at + z + k * z ≡ at + suc k * z = omega arith in

@@ -110,7 +110,8 @@ module _ (w x : ℕ) (xs : List ℕ) (p : ManagedPlan) (s : State) (ran : run fi
         opened = laid-opened laid-all ∙ zero-add _;
       }
 
-pub rooted : (xs : List ℕ) (o b w : ℕ) (p : ManagedPlan) → planned_for xs o b w ≡ Ok p → 0 < p.root_rows → RootRowed w xs p
+pub rooted : (xs : List ℕ) (o b w : ℕ) (p : ManagedPlan) → planned_for xs o b w ≡ Ok p → 0 < p.root_rows
+    → RootRowed w xs p
 rooted [] o b w p e l = absurd (let z = one-block [] o b w p e (starts_none w) in omega arith)
 rooted (x ∷ xs) o b w p e l = let G = (accepted (x ∷ xs) o b w p e).1 in
     rooted-some w x xs p G.state G.ran G.totals-is l

@@ -1,6 +1,6 @@
 -- The sizes of block headers and of indirect blocks in a file with addresses of offset_size bytes, unfiltered, with
--- checksummed direct blocks (bit 1 of Flags in 'Fractal Heap Header'). HDF5 File Format Specification 3.0, III.G, 'Fractal Heap
--- Direct Block', 'Fractal Heap Indirect Block'.
+-- checksummed direct blocks (bit 1 of Flags in 'Fractal Heap Header'). HDF5 File Format Specification 3.0, III.G,
+-- 'Fractal Heap Direct Block', 'Fractal Heap Indirect Block'.
 use Rattle.std.specs.Prelude.{ℕ, ◌+◌, ◌-◌, ◌*◌, ◌/◌, ◌^◌, ◌≡◌, refl}
 use Rattle.table.specs.Table.{Table, fixed}
 

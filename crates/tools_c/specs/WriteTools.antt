@@ -1,4 +1,4 @@
--- What the C functions over planning, writing and IDs answer.
+-- What the C functions over planning and writing answer.
 use Rattle.std.specs.Prelude.{ℕ, List, length, Result}
 use Rattle.refusals.specs.declared.FormatError.{FormatError}
 use Rattle.plan.specs.declared.ManagedPlan.{ManagedPlan}
