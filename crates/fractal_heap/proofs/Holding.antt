@@ -74,5 +74,5 @@ length-spelled (w ∷ ws) (n ∷ ns) q =
 
 pub held-read : (h : FractalHeapHeader) (s : List ℕ) (p os ls : ℕ) → legal os ≡ true → legal ls ≡ true
     → Held s p (field_widths os ls) (header_numbers h) → fields_at s p os ls ≡ Ok (h, p + span (field_widths os ls))
-unfolding plain_at offset_at length_at number_at len_ensured Held span
+unfolding Held span
 held-read h s p os ls go gl H = grind (arith, common_steps)

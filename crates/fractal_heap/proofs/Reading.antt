@@ -18,6 +18,7 @@ use Rattle.fields.specs.Fields.{len_ensured, plain_at, number_at, offset_at, len
 use Rattle.fields.proofs.LittleEndian.{length-le, value-lt}
 use Rattle.fractal_heap.specs.Header.{fields_at, sum_place, header_at, header_numbers}
 use Rattle.fractal_heap.specs.SpellingLaws.{ReadIsSpelled}
+use Rattle.fractal_heap.specs.HeaderReader.{offset_field, length_field}
 use Rattle.fractal_heap.specs.Groups.{front_fields, object_fields, table_fields, root_fields}
 use Rattle.fractal_heap.specs.Spelling.{spelled, AllFit, field_widths, unsummed, header_spelled}
 use Rattle.fractal_heap.specs.declared.header.FractalHeapHeader.{FractalHeapHeader}
@@ -108,6 +109,21 @@ gave-append s p q r ws ns vs ms a b =
       end = omega (arith, a.end, b.end, span-append ws vs);
     }
 
+pub bind_ok : {T U : Type 0} (r : Result T FormatError) (f : T → Result U FormatError) (y : U) → (r >>= f) ≡ Ok y
+    → (x : T) × (r ≡ Ok x) × (f x ≡ Ok y)
+bind_ok (Ok x) f y e = (x, refl, e)
+bind_ok (Err d) f y e = absurd cc
+
+abbrev done : {T : Type 0} → T → Result T FormatError
+done x = Ok x
+
+pub ok_is : {T : Type 0} (x y : T) → done x ≡ done y → x ≡ y
+ok_is x y e = cc
+
+pub required_ok : (b : Bool) (e : FormatError) (x : Unit {0}) → required b e ≡ Ok x → b ≡ true
+required_ok true e x r = refl
+required_ok false e x r = absurd cc
+
 abbrev front_widths : List ℕ
 front_widths = 2 ∷ 2 ∷ 1 ∷ 4 ∷ []
 
@@ -115,7 +131,7 @@ abbrev front_numbers : FrontFields → List ℕ
 front_numbers f = f.heap_id_length ∷ f.io_filter_encoded_length ∷ f.flags ∷ f.max_managed_object_size ∷ []
 
 front-gave : (s : List ℕ) (p q : ℕ) (f : FrontFields) → front_fields s p ≡ Ok (f, q) → Gave s p q front_widths (front_numbers f)
-unfolding plain_at len_ensured Held span
+unfolding Held span
 front-gave s p q f e = grind (arith, common_steps)
 
 abbrev object_widths : ℕ → ℕ → List ℕ
@@ -133,10 +149,42 @@ object_numbers o =
     ∷ o.managed_objects_count
     ∷ []
 
+-- what a step tells that gave a number: it is there, and the next field begins behind it
+record Found (s : List ℕ) (p w x q : ℕ) : Type 0 where
+  there : p + w ≤ length s
+  number : le_at s p w ≡ x
+  next : q ≡ p + w
+
+offset-found : (s : List ℕ) (p os x q : ℕ) → offset_field s p os ≡ Ok (x, q) → Found s p os x q
+offset-found s p os x q e = grind (arith, common_steps)
+
+length-found : (s : List ℕ) (p ls x q : ℕ) → length_field s p ls ≡ Ok (x, q) → Found s p ls x q
+length-found s p ls x q e = grind (arith, common_steps)
+
+ensured : (s : List ℕ) (p n : ℕ) → len_ensured s p n ≡ Ok tt → p + n ≤ length s
+ensured s p n e = grind (arith, nat_tests, required_ok (nat_le (p + n) (length s)) _ tt e)
+
+-- the fields of the group stand where its tests have them
+objects-held : (s : List ℕ) (p a q os ls x n : ℕ) → p + ls ≤ length s → Found s (p + ls) os x a → a + (4 * ls + os) ≤ length s
+    → Found s (a + ls + os + ls + ls + ls) ls n q
+    → Gave s p q (object_widths os ls)
+    (le_at s p ls ∷ x ∷ le_at s a ls ∷ le_at s (a + ls) os ∷ le_at s (a + ls + os) ls ∷ le_at s (a + ls + os + ls) ls
+    ∷ le_at s (a + ls + os + ls + ls) ls ∷ n ∷ [])
+unfolding Held span
+objects-held s p a q os ls x n first tree five count = grind arith
+
 objects-gave : (s : List ℕ) (p q os ls : ℕ) (o : ObjectFields) → object_fields s p os ls ≡ Ok (o, q)
     → Gave s p q (object_widths os ls) (object_numbers o)
-unfolding plain_at offset_at length_at number_at len_ensured Held span
-objects-gave s p q os ls o e = grind (arith, common_steps)
+objects-gave s p q os ls o e =
+    let a = bind_ok (len_ensured s p ls) _ (o, q) e in
+    let b = bind_ok (offset_field s (p + ls) os) _ (o, q) a.2 in
+    let c = bind_ok (len_ensured s b.0.1 (4 * ls + os)) _ (o, q) b.2 in
+    let d = bind_ok (length_field s (b.0.1 + ls + os + ls + ls + ls) ls) _ (o, q) c.2 in
+    let tree = offset-found s (p + ls) os b.0.0 b.0.1 b.1 in
+    let count = length-found s (b.0.1 + ls + os + ls + ls + ls) ls d.0.0 d.0.1 d.1 in
+    let five = ensured s b.0.1 (4 * ls + os) c.1 in
+    subst (λ (y : ObjectFields × ℕ). Gave s p y.1 (object_widths os ls) (object_numbers y.0)) (ok_is _ (o, q) d.2)
+    (objects-held s p b.0.1 d.0.1 os ls b.0.0 d.0.0 (ensured s p ls a.1) tree five count)
 
 abbrev table_widths : ℕ → List ℕ
 table_widths ls = ls ∷ ls ∷ ls ∷ ls ∷ 2 ∷ ls ∷ ls ∷ 2 ∷ []
@@ -155,7 +203,7 @@ table_numbers t =
 
 table-gave : (s : List ℕ) (p q ls : ℕ) (t : TableFields) → table_fields s p ls ≡ Ok (t, q)
     → Gave s p q (table_widths ls) (table_numbers t)
-unfolding plain_at length_at number_at len_ensured Held span
+unfolding Held span
 table-gave s p q ls t e = grind (arith, common_steps)
 
 abbrev root_widths : ℕ → List ℕ
@@ -166,19 +214,8 @@ root_numbers r = r.start_root_rows ∷ r.root_block_address ∷ r.current_rows_i
 
 root-gave : (s : List ℕ) (p q os : ℕ) (r : RootFields) → root_fields s p os ≡ Ok (r, q)
     → Gave s p q (root_widths os) (root_numbers r)
-unfolding plain_at offset_at number_at len_ensured Held span
+unfolding Held span
 root-gave s p q os r e = grind (arith, common_steps)
-
-pub bind_ok : {T U : Type 0} (r : Result T FormatError) (f : T → Result U FormatError) (y : U) → (r >>= f) ≡ Ok y
-    → (x : T) × (r ≡ Ok x) × (f x ≡ Ok y)
-bind_ok (Ok x) f y e = (x, refl, e)
-bind_ok (Err d) f y e = absurd cc
-
-abbrev done : {T : Type 0} → T → Result T FormatError
-done x = Ok x
-
-pub ok_is : {T : Type 0} (x y : T) → done x ≡ done y → x ≡ y
-ok_is x y e = cc
 
 fields-gave : (s : List ℕ) (p q os ls : ℕ) (h : FractalHeapHeader) → fields_at s p os ls ≡ Ok (h, q)
     → Gave s p q (field_widths os ls) (header_numbers h)
@@ -199,17 +236,12 @@ fields-gave s p q os ls h e =
 
 -- ---- the whole header
 
-required_ok : (b : Bool) (e : FormatError) (x : Unit {0}) → required b e ≡ Ok x → b ≡ true
-required_ok true e x r = refl
-required_ok false e x r = absurd cc
-
 pub record Started (s : List ℕ) (p next : ℕ) : Type 0 where
   pub first : next ≡ p + 5
   pub room : p + 5 ≤ length s
   pub front : drop p s ≡ header_signature ++ 0 ∷ drop (p + 5) s
 
 start-gave : (s : List ℕ) (p next : ℕ) → start_checked s p ≡ Ok next → Started s p next
-unfolding len_ensured
 start-gave s p next e =
     let a = bind_ok (len_ensured s p 5) _ next e in
     let b = bind_ok (required (bytes_eq (take 4 (drop p s)) header_signature) InvalidFractalHeapSignature) _ next a.2 in
@@ -231,7 +263,6 @@ start-gave s p next e =
 
 sum-gave : (s : List ℕ) (p q : ℕ) → sum_checked s p q ≡ Ok tt
     → (q + 4 ≤ length s) × (le_at s q 4 ≡ hashlittle (take (q - p) (drop p s)))
-unfolding len_ensured
 sum-gave s p q e =
     let a = bind_ok (len_ensured s q 4) _ tt e in
     (grind (arith, nat_tests, required_ok (nat_le (q + 4) (length s)) _ a.0 a.1), grind (arith, nat_tests, required_ok _ _ tt a.2))

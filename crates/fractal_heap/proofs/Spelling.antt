@@ -19,7 +19,7 @@ use Rattle.fractal_heap.proofs.Holding.{span, Paired, There, number_there, spell
 
 -- a checksum has four bytes
 pub sum_fits : (bytes : List ℕ) → 0 < length bytes → hashlittle bytes < 2 ^ 32
-unfolding hashlittle ended tail_of groups_of final_mixed final_c
+unfolding hashlittle final_mixed
 sum_fits bytes some =
     let last : length (tail_of bytes) ≡ length bytes - 12 * groups_of (length bytes) = length-drop (12 * groups_of (length bytes)) bytes in
     rw (ne_eqb (length (tail_of bytes)) 0 (λ z. absurd (omega (arith, last, z, some)))) (omega arith)
@@ -31,7 +31,6 @@ paired h os ls = refl
 -- signature and version stand before the fields
 started : (s : List ℕ) (p : ℕ) (rest : List ℕ) → p ≤ length s → drop p s ≡ header_signature ++ 0 ∷ rest
     → (start_checked s p ≡ Ok (p + 5)) × (drop (p + 5) s ≡ rest)
-unfolding len_ensured
 started s p rest l e =
     let room : p + 5 ≤ length s = omega (arith, ap (length {A = ℕ}) e, length-drop p s) in
     let version : slice_index s (p + 4) ≡ 0 = sym (get_or-drop p s 4 0) ∙ ap (λ (t : List ℕ). slice_index t 4) e in
@@ -40,7 +39,6 @@ started s p rest l e =
 -- a checksum that stands where it is sought
 summed : (s : List ℕ) (p q : ℕ) (bytes : List ℕ) → q + 4 ≤ length s → take (q - p) (drop p s) ≡ bytes
     → le_at s q 4 ≡ hashlittle bytes → sum_checked s p q ≡ Ok tt
-unfolding len_ensured
 summed s p q bytes room covered stored = rw (covered, stored) (grind (arith, nat_tests, room))
 
 module _ (h : FractalHeapHeader) (s : List ℕ) (p os ls : ℕ) (rest : List ℕ)

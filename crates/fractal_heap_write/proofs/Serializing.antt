@@ -27,7 +27,7 @@ use Rattle.fractal_heap_write.proofs.Answering.{below-undefined}
 
 -- as many rows as the heap space has
 rows_few : (n : ℕ) → row_offset fixed (suc n) ≤ 2 ^ fixed.heap_bits → suc n ≤ max_rows fixed
-unfolding row_offset max_rows
+unfolding row_offset
 rows_few n l =
     elim (cases_lt 28 n) [
       | inl many ↦ absurd (omega (arith, pow_mono {i = 41} {j = 12 + n} (omega arith)))
@@ -70,7 +70,6 @@ module _ {xs : List ℕ} {lent : Lent} {site : Site} {p : ManagedPlan} (A : Acce
       omega arith
 
   few : p.root_rows ≤ max_rows fixed
-  unfolding max_rows
   few = ⊎_elim
       (λ (B : Bare site.offset_size xs p went.state). omega (arith, B.rows))
       (λ (R : Rowed site.offset_size xs p went.state). omega (arith, R.rows, rows_few R.n R.heap))
