@@ -1,6 +1,6 @@
-/* Calls the library from C: builds a small heap in memory and reads an object back from it, plans heaps
- * one object at a time, writes headers and reads them, and meets the refusals. One line per check; a check that fails ends the program
- * with status 1.
+/* Calls the library from C: builds a small heap in memory and reads an object back from it, writes headers
+ * and reads them, plans heaps one object at a time, and meets the refusals. One line per check; a check that
+ * fails ends the program with status 1.
  * Expected values are the format's, lookup3.c's and docs/RULES.md's. */
 #include "fractal_heap.h"
 

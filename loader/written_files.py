@@ -3,9 +3,10 @@
 h5py writes files with densely stored attributes into the folder. In a copy of each file our writer writes
 the objects of every attribute heap anew, in another order and at another place; our writer of headers writes
 the heap's header, the indexes get the IDs that our writer of IDs writes, all else that leads there is set as
-the format has it, and the old blocks and the old header are overwritten. Then h5py must read what was put in, by our IDs, h5dump must print what it prints of the file
-as it was, h5debug must tell our numbers, HDF5 must go on with the file where our blocks leave off, a block
-with one bit changed must be refused, and with two IDs exchanged neither attribute must be found.
+the format has it, and the old blocks and headers are overwritten. Then h5py must read what was put in, by
+our IDs, h5dump must print what it prints of the file as it was, h5debug must tell our numbers, HDF5 must go
+on with the file where our blocks leave off, a block with one bit changed must be refused, and with two IDs
+exchanged neither attribute must be found.
 WRITE_REGION is the program of write_region.c; that of write_header.c is beside it."""
 
 import collections

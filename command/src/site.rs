@@ -3,7 +3,7 @@ use crate::arguments::Addressing;
 use crate::failure::Failure;
 use crate::image;
 use crate::talk::tell;
-use fractal_heap::{Heap, Refusal, Superblock, checksum, count, grouped};
+use fractal_heap::{Header, Heap, Refusal, Superblock, checksum, count, grouped};
 
 /// What is said on standard error while all is well.
 pub struct Remarks {

@@ -233,7 +233,9 @@ impl Refusal {
             5 => "the header's version is not 0",
             6 => "the ID is not a managed object's",
             7 => "the header's checksum differs",
-            8 => "the heap is filtered: its objects are not read, and its header is not written",
+            8 => {
+                "the heap is filtered, and objects of a filtered heap are not read, nor is its header written"
+            }
             9 => "a block's address plus a distance is past 2^64 - 1",
             10 => "the depth is used up, and still no object",
             11 => "an object has more bytes than a managed object can have",
@@ -268,7 +270,7 @@ impl Refusal {
                 "the header's checksum differs: {first:08X} is stored, {second:08X} computed"
             ),
             Refusal::UnsupportedFilteredHeapObject => {
-                "the heap is filtered: its objects are not read, and its header is not written"
+                "the heap is filtered, and objects of a filtered heap are not read, nor is its header written"
                     .into()
             }
             Refusal::OffsetOverflow { .. } => {
@@ -309,7 +311,7 @@ impl Refusal {
             Refusal::HeaderFieldTooLarge { place, .. } => {
                 let name = name_of(*place).map_or(String::new(), |name| format!(" {name},"));
                 format!(
-                    "field {a} of the header, counted from 0,{name} is {b}, too large for its width"
+                    "the header's field at place {a}, counted from 0,{name} is {b}, too large for its width"
                 )
             }
             _ => format!("a number that no table has, with the values {a} and {b}"),
