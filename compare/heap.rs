@@ -89,6 +89,19 @@ impl Comparison {
             "parse: {}",
             what(heap, &[])
         );
+        // the loader's function leaves the list where it refuses
+        if number > 0 {
+            wanted = [MARK; format::COUNT + 2];
+        }
+        fields = [MARK; format::COUNT + 2];
+        let answer = due.as_ref().err().copied().unwrap_or((0, 0, 0));
+        let got = ours::header_fields(heap, &mut fields);
+        assert_eq!(
+            (got, fields),
+            (answer, wanted),
+            "fields: {}",
+            what(heap, &[])
+        );
         self.count(PARSE, number);
         due
     }

@@ -1,24 +1,15 @@
 -- Numbers that stand one behind the other in a file: their bytes, and the fields that are read of them.
-use Rattle.std.proofs.Common.{◌≡◌, refl, sym, ap, ap₂, subst, ◌∙◌, ℕ, zero, suc, ◌+◌, ◌*◌, ◌^◌, ◌%◌, ◌/◌, ◌<◌, ◌≤◌, List, [], ◌∷◌, ◌++◌}
-use Rattle.std.proofs.Common.{length, take, drop, true, append_assoc, take_at, drop_at, length-append, length-drop, drop-drop, length-take-le, length-take, get_or-drop, inl, inr, arith, mod-eq_of_lt}
-use Rattle.std.proofs.lemmas.Bool.{cases_lt}
-use Rattle.std.proofs.lemmas.List.{get_or-take, get_or_past, take-append-drop}
+use Rattle.std.proofs.Common.{◌≡◌, refl, sym, ap, ap₂, ◌∙◌, ℕ, ◌+◌, ◌*◌, ◌^◌, ◌<◌, ◌≤◌, List, [], ◌∷◌, ◌++◌}
+use Rattle.std.proofs.Common.{length, drop, true, append_assoc, take_at, drop_at, length-append, length-drop, drop-drop, arith, mod-eq_of_lt}
 use Rattle.std.proofs.lemmas.Grind.{common_steps}
-use Rattle.std.specs.Prelude.{slice_index, Result, Ok, Err}
-use Rattle.refusals.specs.Steps.{◌>>=◌}
-use Rattle.refusals.specs.declared.FormatError.{FormatError}
-use Rattle.fields.specs.LittleEndian.{le, value, le_at}
+use Rattle.std.specs.Prelude.{Ok}
+use Rattle.fields.specs.LittleEndian.{le, le_at}
 use Rattle.fields.specs.Widths.{legal}
 use Rattle.fields.specs.Fields.{len_ensured, plain_at, number_at, offset_at, length_at}
-use Rattle.fields.proofs.LittleEndian.{length-le, value-le, value-lt}
+use Rattle.fields.proofs.LittleEndian.{length-le, value-le}
 use Rattle.fractal_heap.specs.Header.{fields_at, header_numbers}
-use Rattle.fractal_heap.specs.Groups.{front_fields, object_fields, table_fields, root_fields}
 use Rattle.fractal_heap.specs.Spelling.{spelled, AllFit, field_widths}
 use Rattle.fractal_heap.specs.declared.header.FractalHeapHeader.{FractalHeapHeader}
-use Rattle.fractal_heap.specs.declared.header_fields.FrontFields.{FrontFields}
-use Rattle.fractal_heap.specs.declared.header_fields.ObjectFields.{ObjectFields}
-use Rattle.fractal_heap.specs.declared.header_fields.TableFields.{TableFields}
-use Rattle.fractal_heap.specs.declared.header_fields.RootFields.{RootFields}
 
 -- how many bytes they have
 unfoldable pub span : List ℕ → ℕ

@@ -1,6 +1,6 @@
 -- What is read is spelled, each byte of it.
 use Rattle.std.proofs.Common.{◌≡◌, refl, sym, ap, ap₂, subst, ◌∙◌, ℕ, zero, suc, ◌+◌, ◌-◌, ◌*◌, ◌^◌, ◌%◌, ◌/◌, ◌<◌, ◌≤◌, List, [], ◌∷◌, ◌++◌}
-use Rattle.std.proofs.Common.{length, take, drop, true, append_assoc, take_at, length-append, length-drop, drop-drop, drop-cons, length-take-le, length-take, get_or-drop, get_or, inl, inr, arith}
+use Rattle.std.proofs.Common.{length, take, drop, true, append_assoc, take_at, length-append, length-drop, drop-drop, drop-cons, length-take-le, length-take, get_or-drop, inl, inr, arith}
 use Rattle.std.proofs.lemmas.Bool.{cases_lt}
 use Rattle.std.proofs.lemmas.List.{get_or-take, get_or_past, take-append-drop}
 use Rattle.std.proofs.lemmas.Grind.{common_steps}
@@ -14,9 +14,10 @@ use Rattle.fields.specs.Signatures.{header_signature}
 use Rattle.fractal_heap.specs.Frame.{start_checked, sum_checked}
 use Rattle.refusals.specs.declared.FormatError.{FormatError}
 use Rattle.fields.specs.LittleEndian.{le, value, le_at}
+use Rattle.fields.specs.Widths.{legal}
 use Rattle.fields.specs.Fields.{len_ensured, plain_at, number_at, offset_at, length_at}
 use Rattle.fields.proofs.LittleEndian.{length-le, value-lt}
-use Rattle.fractal_heap.specs.Header.{fields_at, sum_place, header_at, header_numbers}
+use Rattle.fractal_heap.specs.Header.{fields_at, sum_place, header_numbers}
 use Rattle.fractal_heap.specs.SpellingLaws.{ReadIsSpelled}
 use Rattle.fractal_heap.specs.HeaderReader.{offset_field, length_field}
 use Rattle.fractal_heap.specs.Groups.{front_fields, object_fields, table_fields, root_fields}
@@ -149,8 +150,9 @@ object_numbers o =
     ∷ o.managed_objects_count
     ∷ []
 
--- what a step tells that gave a number: it is there, and the next field begins behind it
+-- what a step tells that gave a number: its width is one, it is there, and the next field begins behind it
 record Found (s : List ℕ) (p w x q : ℕ) : Type 0 where
+  width : legal w ≡ true
   there : p + w ≤ length s
   number : le_at s p w ≡ x
   next : q ≡ p + w
@@ -185,6 +187,18 @@ objects-gave s p q os ls o e =
     let five = ensured s b.0.1 (4 * ls + os) c.1 in
     subst (λ (y : ObjectFields × ℕ). Gave s p y.1 (object_widths os ls) (object_numbers y.0)) (ok_is _ (o, q) d.2)
     (objects-held s p b.0.1 d.0.1 os ls b.0.0 d.0.0 (ensured s p ls a.1) tree five count)
+
+-- a group that was read has widths that are such
+object-widths : (s : List ℕ) (p q os ls : ℕ) (o : ObjectFields) → object_fields s p os ls ≡ Ok (o, q)
+    → (legal os ≡ true) × (legal ls ≡ true)
+object-widths s p q os ls o e =
+    let a = bind_ok (len_ensured s p ls) _ (o, q) e in
+    let b = bind_ok (offset_field s (p + ls) os) _ (o, q) a.2 in
+    let c = bind_ok (len_ensured s b.0.1 (4 * ls + os)) _ (o, q) b.2 in
+    let d = bind_ok (length_field s (b.0.1 + ls + os + ls + ls + ls) ls) _ (o, q) c.2 in (
+      (offset-found s (p + ls) os b.0.0 b.0.1 b.1).width,
+      (length-found s (b.0.1 + ls + os + ls + ls + ls) ls d.0.0 d.0.1 d.1).width,
+    )
 
 abbrev table_widths : ℕ → List ℕ
 table_widths ls = ls ∷ ls ∷ ls ∷ ls ∷ 2 ∷ ls ∷ ls ∷ 2 ∷ []
@@ -327,3 +341,12 @@ read-spelled h s p os ls bytes plain e =
     sym (ap (λ (f : ℕ). sum_checked s p (sum_place f ls b.0.1)) no_filter) ∙ c.1 in
     let begun : Started s p (p + 5) = record { first = refl; room = start.room; front = start.front } in
     spelled-here h s p os ls bytes plain b.0.1 begun gave right
+
+pub read-widths : (h : FractalHeapHeader) (s : List ℕ) (p os ls : ℕ) → header_at s p os ls ≡ Ok h
+    → (legal os ≡ true) × (legal ls ≡ true)
+read-widths h s p os ls e =
+    let a = bind_ok (start_checked s p) _ h e in
+    let b = bind_ok (fields_at s a.0 os ls) _ h a.2 in
+    let c = bind_ok (front_fields s a.0) _ b.0 b.1 in
+    let d = bind_ok (object_fields s c.0.1 os ls) _ b.0 c.2 in
+    object-widths s c.0.1 d.0.1 os ls d.0.0 d.1

@@ -1,13 +1,12 @@
 -- What is spelled is read.
-use Rattle.std.proofs.Common.{◌≡◌, refl, sym, ap, ◌∙◌, ℕ, ◌+◌, ◌*◌, ◌^◌, ◌-◌, ◌%◌, ◌<◌, ◌≤◌, List, [], ◌∷◌, ◌++◌}
+use Rattle.std.proofs.Common.{◌≡◌, refl, sym, ap, ◌∙◌, ℕ, ◌+◌, ◌*◌, ◌^◌, ◌-◌, ◌<◌, ◌≤◌, List, ◌∷◌, ◌++◌}
 use Rattle.std.proofs.Common.{length, take, drop, true, append_assoc, take_at, drop_at, length-append, length-drop, drop-drop, ne_eqb, get_or-drop, arith}
 use Rattle.std.proofs.lemmas.Bool.Decides.{nat_tests}
-use Rattle.std.specs.Prelude.{slice_index, Result, Ok}
+use Rattle.std.specs.Prelude.{slice_index, Ok}
 use Rattle.fields.specs.LittleEndian.{le, le_at}
 use Rattle.fields.specs.Fields.{len_ensured}
 use Rattle.fields.specs.Widths.{legal}
 use Rattle.fields.specs.Signatures.{header_signature}
-use Rattle.fields.proofs.LittleEndian.{length-le}
 use Rattle.checksum.specs.Lookup3.{groups_of, tail_of, ended, hashlittle}
 use Rattle.checksum.specs.Mix.{final_mixed, final_c}
 use Rattle.fractal_heap.specs.Frame.{start_checked, sum_checked}

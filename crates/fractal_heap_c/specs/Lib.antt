@@ -2,3 +2,4 @@ pub mod InSlot
 pub mod WrittenIds
 pub mod Opened
 pub mod Parsed
+pub mod WrittenHeaders

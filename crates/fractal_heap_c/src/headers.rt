@@ -1,12 +1,17 @@
-//! A header's fields, for a loader that tells of a heap.
-ghost use Rattle.std.specs.Prelude.{◌≡◌};
-ghost use Rattle.fractal_heap.specs.Header.{header_at};
+//! A header's fields: parsed, for a loader that tells of a heap, and written, for one that makes a file.
+ghost use Rattle.std.specs.Prelude.{◌≡◌, ◌<◌, ◌≤◌, length};
+ghost use Rattle.fields.specs.LittleEndian.{put};
+ghost use Rattle.fractal_heap.specs.Header.{header_at, header_of, field_count};
+ghost use Rattle.fractal_heap.specs.Spelling.{header_spelled};
+ghost use Rattle.fractal_heap.specs.Writing.{header_written, ReadsBack, WrittenBack};
 ghost use Rattle.fractal_heap_c.specs.Parsed.{parsed_number, parsed_slot, parsed_list};
+ghost use Rattle.fractal_heap_c.specs.WrittenHeaders.{written_header_number, written_header_slot};
 
 use fields::convert::to_usize;
 use fields::slot::put_answer;
+use fractal_heap::write::write_numbers;
 use fractal_heap::{FIELD_COUNT, FractalHeapHeader};
-use refusals::{Answer, Reported, SLICE_TOO_SHORT};
+use refusals::{Answer, FormatError, Reported, SLICE_TOO_SHORT};
 
 /// The header at `at`: its 23 fields, in header order, in the first places of `fields`, and two zeros in the slot. A
 /// refusal leaves the list as it was. A slot of fewer than 16 bytes gives 13 before all else, then a list of fewer than
@@ -36,5 +41,41 @@ pub extern "C" fn fractal_heap_parse_header(
             put_answer(slot, Answer::accepted(0, 0))
         }
         Err(refusal) => put_answer(slot, refusal.answer()),
+    }
+}
+
+/// Writes a header without filters, of 23 fields in header order, into the first bytes of `bytes`, and its length and its
+/// checksum into the slot. Refused are a size that is none (2, 3), a filter length that is not 0 (8), the first field, by
+/// its place, that is too large for its width (17), and fewer bytes than the header has (13), in this order; then `bytes`
+/// stay as they are. Every number is tested as it is given. A slot of fewer than 16 bytes gives 13 before all else, then a
+/// list of fewer than 23 numbers. Of 13 the slot says nothing, and numbers behind the 23 are not read.
+///
+/// Wherever a file holds the bytes, its header is these numbers; and the fields of a header that was parsed give its bytes.
+#[unsafe(no_mangle)]
+pub extern "C" fn fractal_heap_write_header(
+    fields: &[u64],
+    offset_size: u8,
+    length_size: u8,
+    bytes: &mut [u8],
+    slot: &mut [u8],
+) -> u32
+    ensures number { result ≡ written_header_number slot.old fields.now offset_size length_size
+        (length bytes.old) }
+    ensures slot_after { slot.new ≡ written_header_slot slot.old fields.now offset_size length_size
+        (length bytes.old) }
+    ensures written { result ≡ 0
+        → bytes.new ≡ put bytes.old 0 (header_spelled (header_of fields.now) offset_size length_size) }
+    ensures reads_back { result ≡ 0 → ReadsBack (header_of fields.now) offset_size length_size }
+    ensures written_back { 16 ≤ length slot.old → field_count ≤ length fields.now
+        → WrittenBack (header_of fields.now) offset_size length_size
+        (header_written (header_of fields.now) offset_size length_size (length bytes.old)) bytes.new }
+    ensures untouched { 0 < result → bytes.new ≡ bytes.old }
+{
+    if slot.len() < 16 || fields.len() < FIELD_COUNT {
+        return SLICE_TOO_SHORT;
+    }
+    match write_numbers(fields, offset_size, length_size, bytes) {
+        Err(FormatError::SliceTooShort { .. }) => SLICE_TOO_SHORT,
+        written => put_answer(slot, written.answer()),
     }
 }

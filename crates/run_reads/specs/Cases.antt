@@ -23,7 +23,7 @@ abbrev pub id_in : (list : List ℕ) → List ℕ
 id_in list = take (id_bytes list) (drop (file_bytes list) (drop (head_bytes list) list))
 
 -- a whole case is in front: one of the five kinds, with the words of an answer or of a header
-unfoldable pub begins_case : (list : List ℕ) → Bool
+abbrev pub begins_case : (list : List ℕ) → Bool
 begins_case list =
     nat_le words_place (length list)
     && (nat_le (kind_in list) last_kind

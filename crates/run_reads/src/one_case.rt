@@ -92,7 +92,6 @@ impl<'a> Case<'a> {
     ghost use Rattle.run_reads.specs.Answered.{header_of, id_of, object_of, answered_as_recorded};
 
     /// The case that a list begins with, and the list behind it; none where no whole case does.
-    #[tactic(auto, unfolding(crate::specs::Cases::begins_case))]
     pub fn first(list: &'a [u8]) -> Option<(Case<'a>, &'a [u8])>
         ensures found { is_some result ≡ begins_case list.now }
         ensures parts { IfSome result (λ found. IsCase found.0 list.now) }

@@ -72,7 +72,7 @@ third-missed starts is =
 
 pub worked : All cases
 unfolding mixed_groups hashlittle saturated le value le_at count_leading_zeros log2
-    size_to_rows heap_size slot_size len_ensured row_bits row_offset row_in row_of covering_in covering slot_start
+    heap_size row_bits row_offset row_in row_of covering_in covering slot_start
     slot_bits_in slot_bits slot_at entered_bytes_in entered_bytes offset_bytes direct_header max_managed
     indirect_size sum capacities open_in open_at step_of run_from offsets_from starts_from run plan_offsets
     plan_starts end_state totals sizes_checked input_checked planned_for

@@ -346,7 +346,7 @@ impl std::error::Error for Refusal {}
 mod tests {
     use super::*;
 
-    /// Numbers and values as the table in README.md has them: 15 stands there twice.
+    /// Numbers and values as the table in docs/RULES.md has them: 15 stands there twice.
     const TABLE: [(u32, u64, u64); 18] = [
         (1, 5120, 4096),
         (2, 3, 0),

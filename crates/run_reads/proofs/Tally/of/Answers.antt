@@ -1,7 +1,6 @@
 -- A case more: what was asked and answered stands in front of what was left.
-use Rattle.std.proofs.Common.{ℕ, ◌≤◌, Bool, true, false, sym, arith}
+use Rattle.std.proofs.Common.{◌≤◌, Bool, true, false, sym, arith}
 use Rattle.std.specs.Prelude.{◌&&◌, not, if◌then◌else◌}
-use Rattle.std.proofs.lemmas.Bool.Decides.{nat_tests}
 use Rattle.run_reads.specs.Cases.{head_in, file_in, id_in}
 use Rattle.run_reads.specs.Answered.{is_of, differs, answered_as_recorded}
 use Rattle.run_reads.proofs.Counting.{count_more, length_behind}
