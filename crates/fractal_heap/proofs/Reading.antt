@@ -17,7 +17,7 @@ use Rattle.fields.specs.LittleEndian.{le, value, le_at}
 use Rattle.fields.specs.Widths.{legal}
 use Rattle.fields.specs.Fields.{len_ensured, plain_at, number_at, offset_at, length_at}
 use Rattle.fields.proofs.LittleEndian.{length-le, value-lt}
-use Rattle.fractal_heap.specs.Header.{fields_at, sum_place, header_numbers}
+use Rattle.fractal_heap.specs.Header.{fields_at, sum_place, header_at, header_numbers}
 use Rattle.fractal_heap.specs.SpellingLaws.{ReadIsSpelled}
 use Rattle.fractal_heap.specs.HeaderReader.{offset_field, length_field}
 use Rattle.fractal_heap.specs.Groups.{front_fields, object_fields, table_fields, root_fields}

@@ -1,5 +1,6 @@
 //! A header's fields: parsed, for a loader that tells of a heap, and written, for one that makes a file.
-ghost use Rattle.std.specs.Prelude.{◌≡◌, ◌<◌, ◌≤◌, length};
+ghost use Rattle.std.specs.Prelude.{◌≡◌, ◌<◌, ◌≤◌, ◌||◌, length, nat_lt};
+ghost use Rattle.fractal_heap.specs.Listed.{is_short};
 ghost use Rattle.fields.specs.LittleEndian.{put};
 ghost use Rattle.fractal_heap.specs.Header.{header_at, header_of, field_count};
 ghost use Rattle.fractal_heap.specs.Spelling.{header_spelled};
@@ -12,6 +13,13 @@ use fields::slot::put_answer;
 use fractal_heap::write::write_numbers;
 use fractal_heap::{FIELD_COUNT, FractalHeapHeader};
 use refusals::{Answer, FormatError, Reported, SLICE_TOO_SHORT};
+
+// Whether the slot is too short for an answer, or the list for the fields of a header.
+fn lacks_room(slot: &[u8], fields: &[u64]) -> bool
+    ensures { result ≡ (nat_lt (length slot.now) 16 || is_short fields.now) }
+{
+    slot.len() < 16 || fields.len() < FIELD_COUNT
+}
 
 /// The header at `at`: its 23 fields, in header order, in the first places of `fields`, and two zeros in the slot. A
 /// refusal leaves the list as it was. A slot of fewer than 16 bytes gives 13 before all else, then a list of fewer than
@@ -32,7 +40,7 @@ pub extern "C" fn fractal_heap_parse_header(
     ensures fields_after { fields.new ≡ parsed_list slot.old fields.old
         (header_at file.now at offset_size length_size) }
 {
-    if slot.len() < 16 || fields.len() < FIELD_COUNT {
+    if lacks_room(slot, fields) {
         return SLICE_TOO_SHORT;
     }
     match FractalHeapHeader::parse(file, to_usize(at), offset_size, length_size) {
@@ -71,7 +79,7 @@ pub extern "C" fn fractal_heap_write_header(
         (header_written (header_of fields.now) offset_size length_size (length bytes.old)) bytes.new }
     ensures untouched { 0 < result → bytes.new ≡ bytes.old }
 {
-    if slot.len() < 16 || fields.len() < FIELD_COUNT {
+    if lacks_room(slot, fields) {
         return SLICE_TOO_SHORT;
     }
     match write_numbers(fields, offset_size, length_size, bytes) {
