@@ -46,18 +46,22 @@ const FIELDS: [(&str, Size); 23] = [
 /// How many fields there are.
 pub const COUNT: usize = FIELDS.len();
 
+/// How many bytes each has.
+pub fn sizes(offset_size: u8, length_size: u8) -> [usize; COUNT] {
+    FIELDS.map(|(_, size)| match size {
+        Bytes(n) => n,
+        Offsets => offset_size.into(),
+        Lengths => length_size.into(),
+    })
+}
+
 /// Which of them the original keeps, in the order of its struct.
 const KEPT: [usize; 12] = [0, 1, 3, 5, 16, 17, 18, 19, 20, 21, 22, 11];
 
 /// The fields of a heap's header that the original accepts.
 pub fn header_fields(heap: &Heap, header: &Header) -> [u64; COUNT] {
     let mut behind = &heap.file[heap.at as usize + b"FRHP\0".len()..];
-    let fields = FIELDS.map(|(_, size)| {
-        let size = match size {
-            Bytes(n) => n,
-            Offsets => heap.offset_size.into(),
-            Lengths => heap.length_size.into(),
-        };
+    let fields = sizes(heap.offset_size, heap.length_size).map(|size| {
         let (field, rest) = behind.split_at(size);
         behind = rest;
         let highest_first = field.iter().rev();

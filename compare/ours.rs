@@ -211,6 +211,17 @@ pub fn parse(heap: &Heap, fields: &mut [u64]) -> u32 {
     }
 }
 
+/// The refusal's number, or 0; the two numbers of the answer are put into the slot.
+pub fn write_header(fields: &[u64], [w, l]: [u8; 2], bytes: &mut [u8], slot: &mut [u8]) -> u32 {
+    let (f, k, b, m) = (
+        fields.as_ptr(),
+        fields.len(),
+        bytes.as_mut_ptr(),
+        bytes.len(),
+    );
+    unsafe { fractal_heap_write_header(f, k, w, l, b, m, slot.as_mut_ptr(), slot.len()) }
+}
+
 /// A file that is lent, a header's place in it, and the two widths.
 #[derive(Clone, Copy)]
 pub struct View<'a> {

@@ -1,6 +1,6 @@
-/* Calls the library from C: builds a small heap in memory and reads an object back from it, plans heaps
- * one object at a time, and meets the refusals. One line per check; a check that fails ends the program
- * with status 1.
+/* Calls the library from C: builds a small heap in memory and reads an object back from it, writes headers
+ * and reads them, plans heaps one object at a time, and meets the refusals. One line per check; a check that
+ * fails ends the program with status 1.
  * Expected values are the format's, lookup3.c's and docs/RULES.md's. */
 #include "fractal_heap.h"
 
@@ -67,34 +67,46 @@ static uint64_t get(const uint8_t *from, int width)
     return number;
 }
 
-/* The header: 8-byte IDs, no filters, width 4, blocks of 1,024 to 65,536, 40 bits, a direct root. */
+/* Writes a header with a slot of 16 bytes, whose numbers go to `first` and `second`. */
+static uint32_t write_header(const uint64_t *fields, size_t fields_len, uint8_t offset_size, uint8_t length_size,
+                             uint8_t *bytes, size_t bytes_len)
+{
+    uint8_t slot[16];
+    uint32_t number;
+    memset(slot, 0xA5, sizeof slot);
+    number = fractal_heap_write_header(fields, fields_len, offset_size, length_size, bytes, bytes_len, slot,
+                                       sizeof slot);
+    first = get(slot, 8);
+    second = get(slot + 8, 8);
+    return number;
+}
+
+/* The header: 8-byte IDs, no filters, width 4, blocks of 1,024 to 65,536, 40 bits, a direct root. What is not set is
+ * 0. */
 static void put_header(void)
 {
-    uint8_t *to = file + AT;
-    memcpy(to, "FRHP", 4);
-    to = put(to + 4, 0, 1);                     /* version */
-    to = put(to, 8, 2);                         /* heap ID length */
-    to = put(to, 0, 2);                         /* filter length */
-    to = put(to, 2, 1);                         /* flags: direct blocks have checksums */
-    to = put(to, 65536 - BLOCK_HEADER, 4);      /* largest managed object */
-    to = put(to, 0, WIDTH);                     /* next huge ID */
-    to = put(to, UNDEFINED, WIDTH);             /* huge objects' index */
-    to = put(to, START - BLOCK_HEADER - sizeof OBJECT, WIDTH); /* free space */
-    to = put(to, UNDEFINED, WIDTH);             /* free space manager */
-    to = put(to, START, WIDTH);                 /* managed space */
-    to = put(to, START, WIDTH);                 /* allocated space */
-    to = put(to, 0, WIDTH);                     /* iterator */
-    to = put(to, 1, WIDTH);                     /* managed objects */
-    for (int i = 0; i < 4; i++)
-        to = put(to, 0, WIDTH);                 /* huge and tiny objects: size, number */
-    to = put(to, 4, 2);                         /* table width */
-    to = put(to, START, WIDTH);
-    to = put(to, 65536, WIDTH);                 /* largest direct block */
-    to = put(to, 40, 2);                        /* bits of the heap space */
-    to = put(to, 1, 2);                         /* starting rows of the root */
-    to = put(to, ROOT, WIDTH);
-    to = put(to, 0, 2);                         /* current rows: the root is direct */
-    put(to, fractal_heap_checksum(file + AT, HEADER - 4), 4);
+    uint64_t fields[FRACTAL_HEAP_HEADER_FIELDS] = {0};
+    fields[FRACTAL_HEAP_HEAP_ID_LENGTH] = 8;
+    fields[FRACTAL_HEAP_FLAGS] = 2; /* direct blocks have checksums */
+    fields[FRACTAL_HEAP_MAX_MANAGED_OBJECT_SIZE] = 65536 - BLOCK_HEADER;
+    fields[FRACTAL_HEAP_BTREE_HUGE_OBJECTS_ADDRESS] = UNDEFINED;
+    fields[FRACTAL_HEAP_FREE_SPACE_MANAGED_BLOCKS] = START - BLOCK_HEADER - sizeof OBJECT;
+    fields[FRACTAL_HEAP_MANAGED_BLOCK_FREE_SPACE_MANAGER_ADDRESS] = UNDEFINED;
+    fields[FRACTAL_HEAP_MANAGED_SPACE_IN_HEAP] = START;
+    fields[FRACTAL_HEAP_ALLOCATED_MANAGED_SPACE_IN_HEAP] = START;
+    fields[FRACTAL_HEAP_MANAGED_OBJECTS_COUNT] = 1;
+    fields[FRACTAL_HEAP_TABLE_WIDTH] = 4;
+    fields[FRACTAL_HEAP_STARTING_BLOCK_SIZE] = START;
+    fields[FRACTAL_HEAP_MAX_DIRECT_BLOCK_SIZE] = 65536;
+    fields[FRACTAL_HEAP_MAX_HEAP_SIZE] = 40;
+    fields[FRACTAL_HEAP_START_ROOT_ROWS] = 1;
+    fields[FRACTAL_HEAP_ROOT_BLOCK_ADDRESS] = ROOT;
+    check(fractal_heap_header_length(WIDTH, WIDTH) == HEADER &&
+              write_header(fields, FRACTAL_HEAP_HEADER_FIELDS, WIDTH, WIDTH, file + AT, FILE_LEN - AT) ==
+                  FRACTAL_HEAP_OK &&
+              first == HEADER && second == get(file + AT + HEADER - 4, 4) &&
+              second == fractal_heap_checksum(file + AT, HEADER - 4),
+          "a header is written: its length and its checksum, which is that of all before it");
 }
 
 /* The root: a direct block at heap offset 0, with one object after its header. */
@@ -294,21 +306,102 @@ static void id_lengths(const uint8_t *id)
 static const uint8_t FIELD_WIDTHS[FRACTAL_HEAP_HEADER_FIELDS] = {2, 2, 1, 4, 8, 8, 8, 8, 8, 8, 8, 8,
                                                                  8, 8, 8, 8, 2, 8, 8, 2, 2, 8, 2};
 
-/* What a header says: every field has a number of its own, with every byte of its width. */
+/* A number of its own for every field, with every byte of its width, and two behind them. */
+static uint64_t due[FRACTAL_HEAP_HEADER_FIELDS + 2];
+
+static void put_due(void)
+{
+    for (int i = 0; i < FRACTAL_HEAP_HEADER_FIELDS; i++)
+        due[i] = (UINT64_C(0xF1E2D3C4B5A69788) >> 8 * (8 - FIELD_WIDTHS[i])) - (uint64_t)i;
+    due[FRACTAL_HEAP_IO_FILTER_ENCODED_LENGTH] = 0;
+    due[23] = due[24] = UNDEFINED;
+}
+
+/* A header that is written has each field at its place by the format. */
+static void header_written(void)
+{
+    uint8_t header[HEADER + 3], slot[24], before[24];
+    const uint8_t *at = header + 5;
+    int i, holds = 1;
+    put_due();
+    memset(header, 0xA5, sizeof header);
+    memset(slot, 0xA5, sizeof slot);
+    memcpy(before, slot, sizeof before);
+    check(fractal_heap_write_header(due, 25, WIDTH, WIDTH, header, sizeof header, slot, 24) == FRACTAL_HEAP_OK &&
+              get(slot, 8) == HEADER && get(slot + 8, 8) == get(header + HEADER - 4, 4) &&
+              memcmp(slot + 16, before + 16, 8) == 0 && memcmp(header + HEADER, before, 3) == 0,
+          "a header is written: bytes behind it, and the slot's behind its two numbers, are as they were");
+    for (i = 0; i < FRACTAL_HEAP_HEADER_FIELDS; at += FIELD_WIDTHS[i++])
+        holds = holds && get(at, FIELD_WIDTHS[i]) == due[i];
+    check(holds && at == header + HEADER - 4 && memcmp(header, "FRHP", 5) == 0 &&
+              get(at, 4) == fractal_heap_checksum(header, HEADER - 4),
+          "signature and version, every field at its place, the checksum");
+}
+
+/* Whether a header of these numbers is refused so, into so many bytes, and they are as they were. */
+static int not_written(const uint64_t *fields, uint8_t offset_size, uint8_t length_size, size_t len, uint32_t number,
+                       uint64_t due_first, uint64_t due_second)
+{
+    uint8_t header[HEADER], before[HEADER];
+    memset(header, 0x5A, sizeof header);
+    memcpy(before, header, sizeof before);
+    return answers(write_header(fields, 23, offset_size, length_size, header, len), number, due_first, due_second) &&
+           memcmp(header, before, sizeof header) == 0;
+}
+
+/* Headers that are not written: the order is 2, 3, 8, 17, 13. */
+static void header_refused(void)
+{
+    static const uint64_t kept = 0xA5A5A5A5A5A5A5A5;
+    static const uint8_t others[] = {0, 1, 3, 5, 7, 9, 255};
+    uint64_t fields[FRACTAL_HEAP_HEADER_FIELDS];
+    uint8_t header[HEADER], slot[16];
+    int i, holds = 1;
+    put_due();
+    memcpy(fields, due, sizeof fields);
+    fields[FRACTAL_HEAP_IO_FILTER_ENCODED_LENGTH] = 65536;
+    fields[FRACTAL_HEAP_HEAP_ID_LENGTH] = 65536;
+    for (i = 0; i < (int)sizeof others; i++)
+        holds = holds && not_written(fields, others[i], 3, 0, FRACTAL_HEAP_INVALID_OFFSET_SIZE, others[i], 0) &&
+                not_written(fields, 2, others[i], 0, FRACTAL_HEAP_INVALID_LENGTH_SIZE, others[i], 0);
+    check(holds, "sizes that there are not: 2, 3 with them");
+    check(not_written(fields, 2, 2, 0, FRACTAL_HEAP_UNSUPPORTED_FILTERED_HEAP_OBJECT, 0, 0),
+          "a length of filters of 65,536 behind a field that is too large: 8, nothing is cut");
+    fields[FRACTAL_HEAP_IO_FILTER_ENCODED_LENGTH] = 0;
+    check(not_written(fields, 2, 2, 0, FRACTAL_HEAP_HEADER_FIELD_TOO_LARGE, 0, 65536),
+          "an ID's length of 65,536 before a short slice: 17 with its place and its number");
+    fields[FRACTAL_HEAP_HEAP_ID_LENGTH] = 8;
+    check(not_written(fields, 4, 8, 0, FRACTAL_HEAP_HEADER_FIELD_TOO_LARGE, 5, due[5]),
+          "an address of eight bytes at offset size 4: 17");
+    for (i = 0, holds = 1; i < FRACTAL_HEAP_HEADER_FIELDS; i++)
+        if (FIELD_WIDTHS[i] < 8 && i != FRACTAL_HEAP_IO_FILTER_ENCODED_LENGTH) {
+            fields[i] = UINT64_C(1) << 8 * FIELD_WIDTHS[i];
+            holds = holds && not_written(fields, 8, 8, HEADER, FRACTAL_HEAP_HEADER_FIELD_TOO_LARGE, (uint64_t)i,
+                                         fields[i]);
+            fields[i] = due[i];
+        }
+    check(holds, "each field one above its width's largest number: 17 with its place and its number");
+    fields[FRACTAL_HEAP_HEAP_ID_LENGTH] = 8;
+    check(not_written(fields, 8, 8, HEADER - 1, FRACTAL_HEAP_SLICE_TOO_SHORT, kept, kept) &&
+              answers(write_header(fields, 23, 8, 8, NULL, 0), FRACTAL_HEAP_SLICE_TOO_SHORT, kept, kept),
+          "a slice that is a byte too short, or none: 13, and neither it nor the slot is written");
+    memset(header, 0x5A, sizeof header);
+    check(answers(write_header(fields, 22, 3, 3, header, HEADER), FRACTAL_HEAP_SLICE_TOO_SHORT, kept, kept) &&
+              answers(write_header(NULL, 0, 3, 3, NULL, 0), FRACTAL_HEAP_SLICE_TOO_SHORT, kept, kept) &&
+              fractal_heap_write_header(fields, 23, 8, 8, header, HEADER, slot, 15) == FRACTAL_HEAP_SLICE_TOO_SHORT &&
+              fractal_heap_write_header(NULL, 0, 3, 3, NULL, 0, NULL, 0) == FRACTAL_HEAP_SLICE_TOO_SHORT &&
+              header[0] == 0x5A && header[HEADER - 1] == 0x5A,
+          "a list of 22 numbers or none, a slot of 15 bytes or none: 13 before 2, and nothing is written");
+}
+
+/* What a header says, as it was written. */
 static void header_fields(void)
 {
-    uint8_t header[HEADER], slot[24], before[24], *to = header;
-    uint64_t due[FRACTAL_HEAP_HEADER_FIELDS], fields[FRACTAL_HEAP_HEADER_FIELDS + 2];
+    uint8_t header[HEADER], slot[24], before[24];
+    uint64_t fields[FRACTAL_HEAP_HEADER_FIELDS + 2];
     int i, holds = 1;
-    memcpy(to, "FRHP", 4);
-    to = put(to + 4, 0, 1);
-    for (i = 0; i < FRACTAL_HEAP_HEADER_FIELDS; i++) {
-        due[i] = (UINT64_C(0xF1E2D3C4B5A69788) >> 8 * (8 - FIELD_WIDTHS[i])) - (uint64_t)i;
-        if (i == FRACTAL_HEAP_IO_FILTER_ENCODED_LENGTH)
-            due[i] = 0;
-        to = put(to, due[i], FIELD_WIDTHS[i]);
-    }
-    put(to, fractal_heap_checksum(header, HEADER - 4), 4);
+    put_due();
+    check(write_header(due, 23, WIDTH, WIDTH, header, HEADER) == FRACTAL_HEAP_OK, "a header to be read");
     memset(slot, 0xA5, sizeof slot);
     memcpy(before, slot, sizeof before);
     for (i = 0; i < FRACTAL_HEAP_HEADER_FIELDS + 2; i++)
@@ -647,6 +740,8 @@ int main(void)
     refused(id);
     slots(id);
     id_lengths(id);
+    header_written();
+    header_refused();
     header_fields();
     superblocks();
     user_block(id);

@@ -1,4 +1,4 @@
-/* The loader's interface to the fractal heap: the eight functions of the library fractal_heap_c
+/* The loader's interface to the fractal heap: the nine functions of the library fractal_heap_c
  * (loader/static_libraries fractal_heap_c, target/staticlib/libfractal_heap_c.a), and two short ones that stand
  * here whole: where a file's superblock is, and how long a heap's IDs are.
  *
@@ -31,7 +31,8 @@ extern "C" {
 
 /* What the functions answer, but for the checksum and the length of IDs: 0, or why they refuse. Behind each number are
  * its two values, which go into the slot where a function takes one. Those that read give 0 to 10 and 13; an open plan
- * gives 0, 2 and 11 to 13, the writer of IDs 0, 13 and 16; 14, 15 and 17 are those of writing, in the same table. */
+ * gives 0, 2 and 11 to 13, the writer of IDs 0, 13 and 16, that of headers 0, 2, 3, 8, 13 and 17; 14 and 15 are those
+ * of writing a region, in the same table. */
 enum fractal_heap_number {
     FRACTAL_HEAP_OK = 0,                                /* the answer's own */
     FRACTAL_HEAP_UNEXPECTED_EOF = 1,                    /* expected end (at most 2^64 - 1), available */
@@ -130,7 +131,7 @@ uint32_t fractal_heap_read_managed_object(const uint8_t *file, size_t file_len, 
                                           uint8_t *slot, size_t slot_len);
 
 enum {
-    FRACTAL_HEAP_HEADER_FIELDS = 23     /* 64-bit numbers that fractal_heap_parse_header puts */
+    FRACTAL_HEAP_HEADER_FIELDS = 23     /* 64-bit numbers that a header's fields are */
 };
 
 /* What the heap header at `at` in the file says, as the two functions above find it. Its fields between version and
@@ -170,6 +171,28 @@ enum fractal_heap_field {
     FRACTAL_HEAP_ROOT_BLOCK_ADDRESS,                        /* address */
     FRACTAL_HEAP_CURRENT_ROWS_IN_ROOT_INDIRECT_BLOCK        /* rows; 0: the root is a direct block */
 };
+
+/* How many bytes a header without filters has in a file with these two sizes. */
+static inline size_t fractal_heap_header_length(uint8_t offset_size, uint8_t length_size)
+{
+    return 26 + 12 * (size_t)length_size + 3 * (size_t)offset_size;
+}
+
+/* Writes the header of a heap without filters: its fields are the first 23 numbers of the list, in the order of enum
+ * fractal_heap_field, and numbers behind them are not read. The header, from its signature to its checksum, goes into
+ * the first bytes of `bytes`; bytes behind it keep their content. Returns 0, with the header's length and its checksum
+ * in the slot. What it writes is what fractal_heap_parse_header reads: every accepted list comes back number by number,
+ * and every header without filters that parses is written byte for byte as it was.
+ *
+ * A slot of fewer than 16 bytes, and then a list of fewer than 23 numbers, gives 13 before all else. Then come 2 and 3,
+ * the two sizes; 8 where the length of the filters is not 0; 17, the first field that its width cannot hold, with its
+ * place in the list and its number; and 13 where bytes_len is below the header's length. The numbers are tested as they
+ * are: an undefined address is all ones in offset_size bytes, so that 2^64 - 1 gives 17 at 2 and 4. Refused, the bytes
+ * keep their content, and after 13 the slot, too. fields_len counts numbers. Bytes, slot and list overlap nothing. */
+uint32_t fractal_heap_write_header(const uint64_t *fields, size_t fields_len,
+                                   uint8_t offset_size, uint8_t length_size,
+                                   uint8_t *bytes, size_t bytes_len,
+                                   uint8_t *slot, size_t slot_len);
 
 /* An open plan: objects are added to it one by one, in the order in which they will be written, and each has its
  * heap offset, and so its ID, at once. It is at any time the plan of the sizes that were accepted so far, and these

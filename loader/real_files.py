@@ -2,7 +2,7 @@
     real_files.py READ_OBJECTS FOLDER
 h5py writes files with densely stored attributes and links into the folder. hdf5_format.py finds the heap
 IDs and where the objects must lie, hdf5_messages.py rebuilds the bytes that must lie there.
-READ_OBJECTS is the program of read_objects.c; that of read_file.c is beside it."""
+READ_OBJECTS is the program of read_objects.c; those of read_file.c and write_header.c are beside it."""
 
 import collections
 import ctypes
@@ -24,6 +24,7 @@ import hdf5_heaps
 from hdf5_format import expect
 from hdf5_messages import due_messages
 from made_files import WIDTHS, created, is_known, some_size, some_value
+from written_headers import written_header
 
 TYPES = ["managed", "huge", "tiny"]  # of heap IDs
 COMMAND = "target/poilures"  # where it is built, some objects are read by it, too
@@ -185,6 +186,9 @@ def check_fields(program, name, heap, counts):
     told = ask(program, name, heap.image, heap.address, [b"\0"], "header")
     expect(told == [(0, *fields)], f"{told}, not {fields}")
     counts["headers from C"] += 1
+    stored = heap.image.data[heap.address : heap.address + form.header_length(heap.image)]
+    expect(written_header(program, heap.image, told[0][1:]) == stored, "a header is written as it was read")
+    counts["headers written back"] += 1
     if os.path.exists(COMMAND):
         told = told_headers(name, str(heap.address))
         expect(told == [told_of(heap)], f"{told}, not {told_of(heap)}")
@@ -519,6 +523,7 @@ def report(counts, numbers, filtered, own):
         f"real files: headers, each field: from C {counts['headers from C']}, {counts['headers with huge']} with huge "
         f"and {counts['headers with tiny']} with tiny objects; {commanded}"
     )
+    print(f"real files: headers written back as they were read: {counts['headers written back']}, byte for byte")
     commanded = f"{counts['command']} objects, {counts['behind']} behind user blocks"
     print(f"real files: read by the command: {commanded if counts['command'] else 'skipped, it is not built'}")
     rust = f"{counts['behind in Rust']}" if counts["behind in Rust"] else "skipped, there is no cargo"

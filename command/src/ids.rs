@@ -3,7 +3,7 @@ use crate::arguments::{Ids, number};
 use crate::failure::Failure;
 use crate::id::HeapId;
 use crate::inputs;
-use crate::library::{self, Id};
+use crate::library::Id;
 use crate::memory;
 use crate::streams;
 use crate::talk::{Talk, Volume, tell};
@@ -129,8 +129,8 @@ fn size(line: &[u8]) -> Result<u64, String> {
 
 /// An object by its offset and its ID.
 fn placed(added: Added) -> Answer {
-    let Added { offset, size } = added;
-    match library::managed_id(offset, size) {
+    let offset = added.offset;
+    match added.id() {
         Ok(id) => Answer::Placed { offset, id },
         Err(why) => Answer::WithoutId { offset, why },
     }

@@ -1,8 +1,6 @@
 //! The proved functions that this program calls beside the loader's, each behind a safe one.
 use fractal_heap::{Refusal, Totals};
-use fractal_heap_sys::{
-    tools_heap_id_type, tools_plan, tools_read_tiny_object, tools_serialize, tools_write_managed_id,
-};
+use fractal_heap_sys::{tools_heap_id_type, tools_plan, tools_read_tiny_object, tools_serialize};
 
 /// A managed object's ID.
 pub type Id = [u8; 8];
@@ -101,15 +99,6 @@ fn pair(call: impl FnOnce(*mut u8, usize) -> u32) -> Result<(u64, u64), Refusal>
     let mut slot = [0; 16];
     let number = call(slot.as_mut_ptr(), slot.len());
     Refusal::answered(number, slot)
-}
-
-/// The ID of an object.
-pub fn managed_id(offset: u64, size: u64) -> Result<Id, Refusal> {
-    let mut id = [0; 8];
-    let (at, len) = (id.as_mut_ptr(), id.len());
-    // SAFETY: ID and slot are arrays of their own.
-    pair(|slot, n| unsafe { tools_write_managed_id(offset, size, at, len, slot, n) })?;
-    Ok(id)
 }
 
 /// The kinds of heap IDs.

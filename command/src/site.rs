@@ -3,7 +3,7 @@ use crate::arguments::Addressing;
 use crate::failure::Failure;
 use crate::image;
 use crate::talk::tell;
-use fractal_heap::{Heap, Refusal, Superblock, checksum, count, grouped};
+use fractal_heap::{Header, Heap, Refusal, Superblock, checksum, count, grouped};
 
 /// What is said on standard error while all is well.
 pub struct Remarks {
@@ -207,10 +207,10 @@ pub fn is_filtered(heap: &Heap) -> bool {
 /// The checksum that a filtered heap's header has, and the one that it should have. Before it are, beside the fields of
 /// every heap, the size of a filtered root block, its filter mask of four bytes, and the filters.
 fn filtered_sums(heap: &Heap, filters: u16) -> Option<(u32, u32)> {
-    let every = image::header_size(heap.offset_size, heap.length_size) - 4;
-    let length = every + u64::from(heap.length_size) + 4 + u64::from(filters);
+    let every = Header::length(heap.offset_size, heap.length_size) - 4;
+    let length = every + usize::from(heap.length_size) + 4 + usize::from(filters);
     let header = heap.file.get(usize::try_from(heap.header_at).ok()?..)?;
-    let (fields, rest) = header.split_at_checked(usize::try_from(length).ok()?)?;
+    let (fields, rest) = header.split_at_checked(length)?;
     let (stored, _) = rest.split_first_chunk()?;
     Some((u32::from_le_bytes(*stored), checksum(fields)))
 }

@@ -15,7 +15,7 @@ use crate::signals;
 use crate::table::Fullness;
 use crate::talk::{Talk, Volume, tell};
 use crate::{index, map, print};
-use fractal_heap::{Added, OpenPlan, Refusal, Superblock, Totals, count, grouped};
+use fractal_heap::{Added, Header, OpenPlan, Refusal, Superblock, Totals, count, grouped};
 use memmap2::Mmap;
 use serde_json::json;
 use std::env;
@@ -113,7 +113,7 @@ const DISK_FAILED: &str = "its disk is full, or failed";
 fn place(arguments: &Write) -> Result<Place, Failure> {
     let (offset_size, length_size) = (arguments.offset_size, arguments.length_size);
     let header_at = arguments.header_at;
-    let behind = header_at.saturating_add(image::header_size(offset_size, length_size));
+    let behind = header_at.saturating_add(Header::length(offset_size, length_size) as u64);
     let place = Place {
         header_at,
         region_at: arguments.at.unwrap_or(behind),
@@ -121,8 +121,6 @@ fn place(arguments: &Write) -> Result<Place, Failure> {
         length_size,
     };
     let none = library::plan(&[], &mut Lists::default(), offset_size)?;
-    let header = image::header(&place, &none, 0)?;
-    place.heap(&header, 0).header()?;
     let writing = Writing {
         sizes: &[],
         objects: &[],
@@ -132,6 +130,7 @@ fn place(arguments: &Write) -> Result<Place, Failure> {
     };
     let mut region = vec![0; none.region_size as usize];
     library::serialize(&writing, &mut Lists::default(), &mut region)?;
+    image::header_bytes(&none.header(0, place.region_at, offset_size), &place)?;
     Layout::new(&place, none.region_size)?;
     Ok(place)
 }
@@ -168,8 +167,7 @@ fn lists(objects: usize) -> Result<Lists, Failure> {
 
 /// The ID of an object that was placed; the file of one that has none is named.
 fn given_id(added: Added, name: &OsStr) -> Result<Id, Failure> {
-    let Added { offset, size } = added;
-    library::managed_id(offset, size).map_err(|refusal| {
+    added.id().map_err(|refusal| {
         let file = shown(name);
         Failure::Not(format!(
             "{refusal}\nthe file is {file}; it is empty, and the heap space is full"
@@ -280,10 +278,11 @@ fn take_in(
     })
 }
 
-/// A heap that is written: its plan, and where it is.
+/// A heap that is written: its plan, its header, and where it is.
 pub struct Written {
     pub lists: Lists,
     pub totals: Totals,
+    pub header: Header,
     pub place: Place,
 }
 
@@ -296,7 +295,8 @@ fn written(
     let w = place.offset_size;
     let mut lists = lists(objects.sizes.len())?;
     let totals = library::plan(&objects.sizes, &mut lists, w)?;
-    let header = image::header(&place, &totals, objects.number())?;
+    let header = totals.header(objects.number(), place.region_at, w);
+    let header_bytes = image::header_bytes(&header, &place)?;
     let layout = Layout::new(&place, totals.region_size)?;
     let mut image = destination.image(&layout, objects.bytes.len() as u64)?;
     let writing = Writing {
@@ -314,11 +314,12 @@ fn written(
             "writing and planning have different totals".into(),
         ));
     }
-    let image = image.finish(&header);
+    let image = image.finish(&header_bytes);
     let image = image.map_err(|error| destination.no_image(error))?;
     let heap = Written {
         lists,
         totals,
+        header,
         place,
     };
     Ok((heap, image))

@@ -1,6 +1,41 @@
 //! What a heap's header says.
-use crate::{Heap, Refusal};
+use crate::{Heap, Refusal, Totals};
 use fractal_heap_sys as sys;
+
+/// How many fields a header has between its version and its checksum.
+const FIELDS: usize = sys::FRACTAL_HEAP_HEADER_FIELDS as usize;
+
+/// The fields' names in the HDF5 File Format Specification, in header order.
+const NAMES: [&str; FIELDS] = [
+    "Heap ID Length",
+    "I/O Filters' Encoded Length",
+    "Flags",
+    "Maximum Size of Managed Objects",
+    "Next Huge Object ID",
+    "v2 B-tree Address of Huge Objects",
+    "Amount of Free Space in Managed Blocks",
+    "Address of Managed Block Free Space Manager",
+    "Amount of Managed Space in Heap",
+    "Amount of Allocated Managed Space in Heap",
+    "Offset of Direct Block Allocation Iterator in Managed Space",
+    "Number of Managed Objects in Heap",
+    "Size of Huge Objects in Heap",
+    "Number of Huge Objects in Heap",
+    "Size of Tiny Objects in Heap",
+    "Number of Tiny Objects in Heap",
+    "Table Width",
+    "Starting Block Size",
+    "Maximum Direct Block Size",
+    "Maximum Heap Size",
+    "Starting # of Rows in Root Indirect Block",
+    "Address of Root Block",
+    "Current # of Rows in Root Indirect Block",
+];
+
+/// The name of the field at a place in header order, counted from 0.
+pub(crate) fn name_of(place: u64) -> Option<&'static str> {
+    NAMES.get(usize::try_from(place).ok()?).copied()
+}
 
 /// The fields of a heap's header between its version and its checksum, in the order in which the header has them. After
 /// each is its name in the HDF5 File Format Specification.
@@ -63,11 +98,169 @@ pub struct Header {
     pub current_rows_in_root_indirect_block: u16,
 }
 
+/// What was written of a header.
+#[derive(Debug, Clone, Copy, PartialEq, Eq)]
+pub struct WrittenHeader {
+    /// How many bytes it has, from its signature to its checksum.
+    pub length: usize,
+    /// Its checksum, which stands in its last four bytes.
+    pub checksum: u32,
+}
+
 impl Header {
     /// The flag that is set where the IDs of huge objects have wrapped round, so that a free one has to be searched for.
     pub const IDS_HAVE_WRAPPED: u8 = 1;
     /// The flag that is set where direct blocks have checksums.
     pub const BLOCKS_HAVE_CHECKSUMS: u8 = 2;
+
+    /// How many bytes a header without filters has in a file with these two sizes, which are 2, 4 or 8.
+    pub const fn length(offset_size: u8, length_size: u8) -> usize {
+        26 + 12 * length_size as usize + 3 * offset_size as usize
+    }
+
+    /// Writes the header of a heap without filters into the first [`length`](Header::length) bytes of `bytes`; those behind
+    /// them keep their content. What is written is what [`Heap::header`] reads, and a header that was read is written byte
+    /// for byte as it was; both are proved.
+    ///
+    /// It is refused, and nothing is written, by 2 and 3 where a size is not 2, 4 or 8; by 8 where the length of the
+    /// filters is not 0; by 17 where a field of an address or a length is above the largest number of its width, with the
+    /// first such; by 13 where `bytes` are too few. An undefined address is all ones in `offset_size` bytes, so that 2^64 -
+    /// 1 is refused at 2 and 4.
+    ///
+    /// ```
+    /// use fractal_heap::{Header, Heap, OpenPlan, Refusal};
+    ///
+    /// let mut plan = OpenPlan::open(8)?;
+    /// plan.add(28)?;
+    /// let mut file = [0; 200];
+    /// let header = plan.header(Header::length(8, 8) as u64); // of a region behind it
+    /// let written = header.write(8, 8, &mut file)?;
+    /// assert_eq!(written.length, 146);
+    /// assert_eq!(written.checksum, fractal_heap::checksum(&file[..142]));
+    ///
+    /// let heap = Heap { file: &file, header_at: 0, offset_size: 8, length_size: 8 };
+    /// assert_eq!(heap.header()?, header);
+    ///
+    /// // Lengths of two bytes hold no largest direct block of the fixed geometry.
+    /// let refusal = header.write(8, 2, &mut file).unwrap_err();
+    /// assert_eq!(refusal, Refusal::HeaderFieldTooLarge { place: 18, value: 65_536 });
+    /// # Ok::<(), Refusal>(())
+    /// ```
+    pub fn write(
+        &self,
+        offset_size: u8,
+        length_size: u8,
+        bytes: &mut [u8],
+    ) -> Result<WrittenHeader, Refusal> {
+        let (fields, mut slot) = (self.numbers(), [0; 16]);
+        // SAFETY: pointers and lengths are those of a list that is only read, of a slice that is lent for writing, and of a
+        // slot of our own.
+        let number = unsafe {
+            sys::fractal_heap_write_header(
+                fields.as_ptr(),
+                fields.len(),
+                offset_size,
+                length_size,
+                bytes.as_mut_ptr(),
+                bytes.len(),
+                slot.as_mut_ptr(),
+                slot.len(),
+            )
+        };
+        if number == sys::FRACTAL_HEAP_SLICE_TOO_SHORT {
+            // List and slot have all places; the two values of this refusal are not put into the slot.
+            return Err(Refusal::SliceTooShort {
+                needed: Header::length(offset_size, length_size) as u64,
+                lent: bytes.len() as u64,
+            });
+        }
+        let (length, checksum) = Refusal::answered(number, slot)?;
+        Ok(WrittenHeader {
+            length: length as usize, // at most what was lent
+            checksum: narrow(checksum),
+        })
+    }
+
+    /// The fields in header order.
+    fn numbers(&self) -> [u64; FIELDS] {
+        [
+            self.heap_id_length.into(),
+            self.io_filter_encoded_length.into(),
+            self.flags.into(),
+            self.max_managed_object_size.into(),
+            self.next_huge_object_id,
+            self.btree_huge_objects_address,
+            self.free_space_managed_blocks,
+            self.managed_block_free_space_manager_address,
+            self.managed_space_in_heap,
+            self.allocated_managed_space_in_heap,
+            self.direct_block_allocation_iterator_offset,
+            self.managed_objects_count,
+            self.huge_objects_size,
+            self.huge_objects_count,
+            self.tiny_objects_size,
+            self.tiny_objects_count,
+            self.table_width.into(),
+            self.starting_block_size,
+            self.max_direct_block_size,
+            self.max_heap_size.into(),
+            self.start_root_rows.into(),
+            self.root_block_address,
+            self.current_rows_in_root_indirect_block.into(),
+        ]
+    }
+}
+
+/// The fixed geometry, in which planning places objects.
+const TABLE_WIDTH: u16 = 4;
+const STARTING_BLOCK: u64 = 1024;
+const LARGEST_DIRECT_BLOCK: u32 = 65_536;
+const HEAP_BITS: u16 = 40;
+
+impl Totals {
+    /// The header of a heap that is planned so, with so many objects, whose region is written to `region_at`: without
+    /// filters, of the fixed geometry, with IDs of eight bytes, direct blocks with checksums, no huge and no tiny objects,
+    /// and no manager of free space.
+    ///
+    /// # Panics
+    ///
+    /// Where the root has more than 65,535 rows, which no plan has.
+    pub fn header(&self, objects: u64, region_at: u64, offset_size: u8) -> Header {
+        let undefined = undefined(offset_size).unwrap_or_default(); // 0 is the width of no file
+        let block_header = 14 + u32::from(offset_size);
+        Header {
+            heap_id_length: 8,
+            io_filter_encoded_length: 0,
+            flags: Header::BLOCKS_HAVE_CHECKSUMS,
+            max_managed_object_size: LARGEST_DIRECT_BLOCK - block_header,
+            next_huge_object_id: 0,
+            btree_huge_objects_address: undefined,
+            free_space_managed_blocks: self.free_space,
+            managed_block_free_space_manager_address: undefined,
+            managed_space_in_heap: self.managed_space,
+            allocated_managed_space_in_heap: self.allocated_space,
+            direct_block_allocation_iterator_offset: self.allocation_iterator,
+            managed_objects_count: objects,
+            huge_objects_size: 0,
+            huge_objects_count: 0,
+            tiny_objects_size: 0,
+            tiny_objects_count: 0,
+            table_width: TABLE_WIDTH,
+            starting_block_size: STARTING_BLOCK,
+            max_direct_block_size: LARGEST_DIRECT_BLOCK.into(),
+            max_heap_size: HEAP_BITS,
+            start_root_rows: 1,
+            // Where that is past every address, so is the region, and its writer refuses it.
+            root_block_address: region_at.wrapping_add(self.root_place),
+            current_rows_in_root_indirect_block: narrow(self.root_rows),
+        }
+    }
+}
+
+/// The undefined address of a file, all ones in its width, if its addresses have one.
+fn undefined(offset_size: u8) -> Option<u64> {
+    let unused = 64u32.saturating_sub(8 * u32::from(offset_size));
+    u64::MAX.checked_shr(unused)
 }
 
 /// A field of one, two or four bytes. It is proved that its number fits.
@@ -80,19 +273,12 @@ impl Heap<'_> {
     /// What the heap's header says, if it is sound.
     ///
     /// ```
-    /// # use fractal_heap::{Heap, Refusal};
-    /// # // A header by the format, of a heap without objects.
-    /// # fn put(bytes: &mut Vec<u8>, fields: &[(usize, u64)]) {
-    /// #     for (width, number) in fields {
-    /// #         bytes.extend(&number.to_le_bytes()[..*width]);
-    /// #     }
-    /// # }
-    /// # let mut file = b"FRHP".to_vec();
-    /// # put(&mut file, &[(1, 0), (2, 8), (2, 0), (1, 2), (4, 65_514), (8, 0), (8, u64::MAX), (8, 0), (8, u64::MAX)]);
-    /// # put(&mut file, &[(8, 0), (8, 0), (8, 0), (8, 0), (8, 0), (8, 0), (8, 0), (8, 0)]);
-    /// # put(&mut file, &[(2, 4), (8, 1024), (8, 65_536), (2, 40), (2, 1), (8, u64::MAX), (2, 0)]);
-    /// # let sum = fractal_heap::checksum(&file);
-    /// # put(&mut file, &[(4, sum.into())]);
+    /// # use fractal_heap::{Header, Heap, OpenPlan, Refusal};
+    /// # // The header of a heap without objects, and so without a block.
+    /// # let mut file = vec![0; Header::length(8, 8)];
+    /// # let mut none = OpenPlan::open(8)?.header(0);
+    /// # none.root_block_address = u64::MAX;
+    /// # none.write(8, 8, &mut file)?;
     /// let heap = Heap { file: &file, header_at: 0, offset_size: 8, length_size: 8 };
     /// let header = heap.header()?;
     /// assert_eq!((header.heap_id_length, header.managed_objects_count), (8, 0));
@@ -100,7 +286,7 @@ impl Heap<'_> {
     /// # Ok::<(), Refusal>(())
     /// ```
     pub fn header(&self) -> Result<Header, Refusal> {
-        let (mut fields, mut slot) = ([0; sys::FRACTAL_HEAP_HEADER_FIELDS as usize], [0; 16]);
+        let (mut fields, mut slot) = ([0; FIELDS], [0; 16]);
         // SAFETY: pointers and lengths are those of a slice that is only read, and of a list and a slot of our own.
         let number = unsafe {
             sys::fractal_heap_parse_header(
@@ -148,8 +334,7 @@ impl Heap<'_> {
 
     /// An address as a field of the header has it; None where it is undefined, all its bytes being 0xFF.
     pub fn defined(&self, address: u64) -> Option<u64> {
-        let unused = 64u32.saturating_sub(8 * u32::from(self.offset_size));
-        (address != u64::MAX.checked_shr(unused)?).then_some(address)
+        (address != undefined(self.offset_size)?).then_some(address)
     }
 }
 

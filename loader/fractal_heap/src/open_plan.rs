@@ -1,5 +1,5 @@
 //! A heap's plan that is advanced by one object at a time.
-use crate::Refusal;
+use crate::{Header, Refusal};
 use fractal_heap_sys as sys;
 
 /// The plan of a heap whose objects come one by one, in the order in which they will be written: each has its heap
@@ -115,6 +115,13 @@ impl OpenPlan {
         // Only a shorter list is refused.
         assert_eq!(number, sys::FRACTAL_HEAP_OK, "a list of eight numbers");
         numbers.into()
+    }
+
+    /// The heap's header, once the objects that were accepted so far are written as a region at this address:
+    /// [`Totals::header`] says what it has.
+    pub fn header(&self, region_at: u64) -> Header {
+        let offset_size = self.plan.planner.offset_size;
+        self.totals().header(self.objects(), region_at, offset_size)
     }
 }
 

@@ -1,4 +1,5 @@
 //! Why a call is refused: the one table of causes, each with its number, its values and its words.
+use crate::header::name_of;
 use crate::numbers::{count, grouped};
 use fractal_heap_sys as sys;
 use std::fmt;
@@ -34,7 +35,7 @@ pub enum Refusal {
     InvalidHeapIdType { id_type: u64 },
     /// 7: the header's checksum.
     ChecksumMismatch { stored: u64, computed: u64 },
-    /// 8: an object of a filtered heap.
+    /// 8: an object of a filtered heap, or the header of one that is to be written.
     UnsupportedFilteredHeapObject,
     /// 9: a block's address plus a distance is past 2^64 - 1.
     OffsetOverflow { address: u64, distance: u64 },
@@ -232,7 +233,9 @@ impl Refusal {
             5 => "the header's version is not 0",
             6 => "the ID is not a managed object's",
             7 => "the header's checksum differs",
-            8 => "the heap is filtered, and objects of a filtered heap are not read",
+            8 => {
+                "the heap is filtered, and objects of a filtered heap are not read, nor is its header written"
+            }
             9 => "a block's address plus a distance is past 2^64 - 1",
             10 => "the depth is used up, and still no object",
             11 => "an object has more bytes than a managed object can have",
@@ -267,7 +270,8 @@ impl Refusal {
                 "the header's checksum differs: {first:08X} is stored, {second:08X} computed"
             ),
             Refusal::UnsupportedFilteredHeapObject => {
-                "the heap is filtered, and objects of a filtered heap are not read".into()
+                "the heap is filtered, and objects of a filtered heap are not read, nor is its header written"
+                    .into()
             }
             Refusal::OffsetOverflow { .. } => {
                 format!("a block's address {a} plus a distance of {b} is past 2^64 - 1")
@@ -304,9 +308,12 @@ impl Refusal {
             Refusal::HeapIdTooLarge { .. } => format!(
                 "no ID holds offset {a} and length {b}: they must be below 2^40 and below 2^16"
             ),
-            Refusal::HeaderFieldTooLarge { .. } => format!(
-                "the field at place {a} of the header to be written, counted from 0, is {b}, too large for its width"
-            ),
+            Refusal::HeaderFieldTooLarge { place, .. } => {
+                let name = name_of(*place).map_or(String::new(), |name| format!(" {name},"));
+                format!(
+                    "the header's field at place {a}, counted from 0,{name} is {b}, too large for its width"
+                )
+            }
             _ => format!("a number that no table has, with the values {a} and {b}"),
         }
     }

@@ -1,6 +1,6 @@
 //! What a heap's header says, from Rust: headers that are made field by field, at every pair of widths, and refusals.
 //! Expected values are the numbers that were put, and those of docs/RULES.md.
-use fractal_heap::{Header, Heap, Refusal, checksum};
+use fractal_heap::{Header, Heap, OpenPlan, Refusal, WrittenHeader, checksum};
 
 /// Where the header lies.
 const AT: usize = 7;
@@ -139,5 +139,86 @@ fn a_header_that_is_not_sound_is_refused() {
         let mut damaged = sound.clone();
         damaged[AT + place] ^= 1;
         assert_eq!(refused(&damaged, 8, 8).number(), number, "byte {place}");
+    }
+}
+
+#[test]
+fn what_is_read_is_written_as_it_stands() {
+    for offset_size in [2, 4, 8] {
+        for length_size in [2, 4, 8] {
+            let widths = widths(offset_size, length_size);
+            let file = file(&widths, &numbers(&widths));
+            let header = heap(&file, offset_size, length_size).header().unwrap();
+            let length = Header::length(offset_size, length_size);
+            let due = [&file[AT..], &[0xA5; 3]].concat();
+            assert_eq!(due.len(), length + 3);
+            let mut bytes = vec![0xA5; length + 3];
+            let written = header.write(offset_size, length_size, &mut bytes);
+            let checksum = checksum(&due[..length - 4]);
+            assert_eq!(written, Ok(WrittenHeader { length, checksum }));
+            assert_eq!(bytes, due, "{offset_size}, {length_size}");
+        }
+    }
+}
+
+/// The header of the heap of one object of this size, whose region is at 146.
+fn planned(offset_size: u8, size: u64) -> Header {
+    let mut plan = OpenPlan::open(offset_size).unwrap();
+    plan.add(size).unwrap();
+    plan.header(146)
+}
+
+// Worked heap 6 of docs/RULES.md, and the fields that the format has.
+#[test]
+fn a_plans_header_says_what_is_planned() {
+    for (offset_size, undefined) in [(2, 0xFFFF), (4, 0xFFFF_FFFF), (8, u64::MAX)] {
+        let largest = 65_522 - u64::from(offset_size);
+        let due = [
+            8, 0, 2, largest, 0, undefined, 0, undefined, 524_288, 65_536, 327_680, 1, 0, 0, 0, 0,
+            4, 1024, 65_536, 40, 1, 146, 8,
+        ];
+        let header = planned(offset_size, largest);
+        let free = header.free_space_managed_blocks;
+        let mut got = listed(&header);
+        got[6] = 0;
+        assert_eq!(got, due);
+        if offset_size == 8 {
+            assert_eq!(free, 458_070);
+        }
+    }
+}
+
+#[test]
+fn a_header_that_cannot_be_written_is_refused_and_nothing_is_written() {
+    let header = planned(8, 65_514);
+    let refused = |header: &Header, offset_size, length_size, lent: usize| {
+        let mut bytes = vec![0xA5; lent];
+        let refusal = header.write(offset_size, length_size, &mut bytes);
+        assert_eq!(bytes, vec![0xA5; lent]);
+        refusal.unwrap_err()
+    };
+    let mut filtered = header;
+    filtered.io_filter_encoded_length = 1;
+    let field = |place, value| Refusal::HeaderFieldTooLarge { place, value };
+    let size = 3;
+    assert_eq!(
+        refused(&filtered, 3, 3, 0),
+        Refusal::InvalidOffsetSize { size }
+    );
+    assert_eq!(
+        refused(&filtered, 2, 3, 0),
+        Refusal::InvalidLengthSize { size }
+    );
+    let due = Refusal::UnsupportedFilteredHeapObject;
+    assert_eq!(refused(&filtered, 2, 2, 0), due);
+    assert_eq!(refused(&header, 4, 8, 0), field(5, u64::MAX));
+    assert_eq!(refused(&header, 8, 2, 0), field(6, 458_070));
+    assert_eq!(refused(&planned(8, 1), 8, 2, 0), field(18, 65_536));
+    for lent in [0, 1, 145] {
+        let due = Refusal::SliceTooShort {
+            needed: 146,
+            lent: lent as u64,
+        };
+        assert_eq!(refused(&header, 8, 8, lent), due);
     }
 }

@@ -122,6 +122,16 @@ unsafe extern "C" {
         slot: *mut u8,
         slot_len: usize,
     ) -> u32;
+    pub fn fractal_heap_write_header(
+        fields: *const u64,
+        fields_len: usize,
+        offset_size: u8,
+        length_size: u8,
+        bytes: *mut u8,
+        bytes_len: usize,
+        slot: *mut u8,
+        slot_len: usize,
+    ) -> u32;
     pub fn fractal_heap_open_plan(offset_size: u8, slot: *mut u8, slot_len: usize) -> OpenedPlan;
     pub fn fractal_heap_plan_add(
         plan: *mut OpenPlan,

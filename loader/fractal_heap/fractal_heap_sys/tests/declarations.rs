@@ -282,9 +282,9 @@ fn the_header_declares_what_rust_is_declared() {
     let Some(root) = repository() else { return };
     let (header, rust) = (text(&root, "loader/fractal_heap.h"), rust(&root, "lib"));
     assert_eq!(c_functions(&header), rust_functions(&rust));
-    assert_eq!(rust_functions(&rust).len(), 7);
+    assert_eq!(rust_functions(&rust).len(), 9);
     assert_eq!(numbers(&header), numbers(&rust));
-    assert_eq!(numbers(&rust).len(), 17 + 4);
+    assert_eq!(numbers(&rust).len(), 18 + 4);
     assert_eq!(c_structs(&header), rust_structs(&rust));
     let fields: usize = rust_structs(&rust).values().map(Vec::len).sum();
     assert_eq!((rust_structs(&rust).len(), fields), (4, 7 + 2 + 2 + 2));
@@ -419,7 +419,15 @@ fn a_change_of_one_side_is_seen() {
             "uint64_t size, uint8_t *id",
             "uint64_t size, const uint8_t *id",
         ),
-        ("uint64_t *fields, size_t", "const uint64_t *fields, size_t"),
+        (
+            "length_size,\n                                   uint64_t *fields",
+            "length_size,\n                                   const uint64_t *fields",
+        ),
+        ("const uint64_t *fields, size_t", "uint64_t *fields, size_t"),
+        (
+            "uint8_t *bytes, size_t bytes_len,\n",
+            "const uint8_t *bytes, size_t bytes_len,\n",
+        ),
         ("HEADER_FIELDS = 23", "HEADER_FIELDS = 22"),
         ("uint64_t fill;", "uint32_t fill;"),
         ("uint64_t indirect;", ""),
