@@ -5,6 +5,7 @@
 #![tactic(auto)]
 
 pub mod by_id;
+pub mod from_bytes;
 pub mod objects;
 pub mod passing;
 pub mod region;
