@@ -5,7 +5,6 @@ use Rattle.std.proofs.lemmas.Grind.{common_steps}
 use Rattle.std.specs.Prelude.{Ok}
 use Rattle.fields.specs.LittleEndian.{le, le_at}
 use Rattle.fields.specs.Widths.{legal}
-use Rattle.fields.specs.Fields.{len_ensured, plain_at, number_at, offset_at, length_at}
 use Rattle.fields.proofs.LittleEndian.{length-le, value-le}
 use Rattle.fractal_heap.specs.Header.{fields_at, header_numbers}
 use Rattle.fractal_heap.specs.Spelling.{spelled, AllFit, field_widths}

@@ -15,7 +15,7 @@ use Rattle.fractal_heap.specs.Frame.{start_checked, sum_checked}
 use Rattle.refusals.specs.declared.FormatError.{FormatError}
 use Rattle.fields.specs.LittleEndian.{le, value, le_at}
 use Rattle.fields.specs.Widths.{legal}
-use Rattle.fields.specs.Fields.{len_ensured, plain_at, number_at, offset_at, length_at}
+use Rattle.fields.specs.Fields.{len_ensured}
 use Rattle.fields.proofs.LittleEndian.{length-le, value-lt}
 use Rattle.fractal_heap.specs.Header.{fields_at, sum_place, header_at, header_numbers}
 use Rattle.fractal_heap.specs.SpellingLaws.{ReadIsSpelled}

@@ -4,11 +4,10 @@ use Rattle.std.proofs.Common.{length, take, drop, true, append_assoc, take_at, d
 use Rattle.std.proofs.lemmas.Bool.Decides.{nat_tests}
 use Rattle.std.specs.Prelude.{slice_index, Ok}
 use Rattle.fields.specs.LittleEndian.{le, le_at}
-use Rattle.fields.specs.Fields.{len_ensured}
 use Rattle.fields.specs.Widths.{legal}
 use Rattle.fields.specs.Signatures.{header_signature}
-use Rattle.checksum.specs.Lookup3.{groups_of, tail_of, ended, hashlittle}
-use Rattle.checksum.specs.Mix.{final_mixed, final_c}
+use Rattle.checksum.specs.Lookup3.{groups_of, tail_of, hashlittle}
+use Rattle.checksum.specs.Mix.{final_mixed}
 use Rattle.fractal_heap.specs.Frame.{start_checked, sum_checked}
 use Rattle.fractal_heap.specs.Header.{fields_at, header_at, header_numbers}
 use Rattle.fractal_heap.specs.Spelling.{spelled, AllFit, field_widths, unsummed, header_spelled}

@@ -1,9 +1,9 @@
 -- What an accepted header fulfils, and what is accepted.
-use Rattle.std.proofs.Common.{◌≡◌, refl, sym, ap, ◌∙◌, take_at, append_assoc, length, length-append, take, drop, drop-drop, ◌++◌, ℕ, ◌+◌, ◌*◌, ◌^◌, ◌<◌, ◌≤◌, List, [], ◌∷◌, true, false, arith}
+use Rattle.std.proofs.Common.{◌≡◌, refl, sym, ap, ◌∙◌, take_at, append_assoc, length, length-append, take, drop, drop-drop, ◌++◌, ℕ, ◌+◌, ◌*◌, ◌^◌, ◌≤◌, List, [], ◌∷◌, true, arith}
 use Rattle.std.proofs.lemmas.Bool.Decides.{nat_tests}
 use Rattle.std.proofs.lemmas.Grind.{common_steps}
 use Rattle.std.proofs.lemmas.List.{append-nil}
-use Rattle.std.specs.Prelude.{slice_index, nat_lt, nat_le, ◌==◌, Bool, Result, Ok, Err, OnOk, IsOk}
+use Rattle.std.specs.Prelude.{slice_index, nat_lt, nat_le, ◌==◌, Result, Ok, Err, OnOk}
 use Rattle.refusals.specs.Steps.{◌>>=◌, required}
 use Rattle.refusals.specs.declared.FormatError.{FormatError}
 use Rattle.refusals.specs.declared.FormatError.TheVariants.{InvalidOffsetSize, InvalidLengthSize, UnsupportedFilteredHeapObject, HeaderFieldTooLarge}

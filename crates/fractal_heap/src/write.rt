@@ -32,9 +32,9 @@ impl Reported for WrittenHeader {
     }
 }
 
-/// How many bytes a header without filters has, with its checksum.
+// How many bytes a header without filters has, with its checksum.
 #[inline(always)]
-pub fn header_length(offset_size: u8, length_size: u8) -> usize
+fn header_length(offset_size: u8, length_size: u8) -> usize
     ensures { result ≡ header_length offset_size length_size }
 {
     26 + 12 * usize::from(length_size) + 3 * usize::from(offset_size)

@@ -20,6 +20,7 @@ use Rattle.plan.specs.Checks.{sizes_checked, input_checked}
 use Rattle.fields.specs.LittleEndian.{le, value, le_at}
 use Rattle.reading.specs.Rows.{block_size, direct_rows, size_to_rows, heap_size, slot_size}
 use Rattle.fields.specs.Fields.{len_ensured}
+use Rattle.fractal_heap.specs.Writing.{widths_checked}
 use Rattle.region_write.proofs.Indirect.{bare-planned}
 use Rattle.region_write.proofs.Region.{region-length, root-place}
 use Rattle.heap_kept.specs.HeapKept.{offset_of}
@@ -75,7 +76,7 @@ unfolding mixed_groups hashlittle saturated le value le_at count_leading_zeros l
     heap_size row_bits row_offset row_in row_of covering_in covering slot_start
     slot_bits_in slot_bits slot_at entered_bytes_in entered_bytes offset_bytes direct_header max_managed
     indirect_size sum capacities open_in open_at step_of run_from offsets_from starts_from run plan_offsets
-    plan_starts end_state totals sizes_checked input_checked planned_for
+    plan_starts end_state totals sizes_checked input_checked planned_for widths_checked
 worked =
     both (refl, refl, refl, planned _ _ _ refl)
     (both (refl, refl, refl, planned _ _ _ refl)
@@ -99,4 +100,11 @@ worked =
     (both refl
     (both refl
     (both refl
-    refl)))))))))))))))))))))
+    (both refl
+    (both refl
+    (both refl
+    (both refl
+    (both refl
+    (both refl
+    (both refl
+    refl))))))))))))))))))))))))))))

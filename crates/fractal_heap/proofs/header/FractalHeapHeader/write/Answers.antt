@@ -1,5 +1,5 @@
 -- What is left of `write`: the header of its own numbers is itself.
-use Rattle.std.proofs.Common.{subst, ◌≡◌, List, ℕ, length}
+use Rattle.std.proofs.Common.{subst, ◌≡◌, length}
 use Rattle.std.specs.Prelude.{OnOk}
 use Rattle.fields.specs.LittleEndian.{put}
 use Rattle.fractal_heap.specs.Spelling.{header_spelled}
