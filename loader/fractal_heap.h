@@ -47,7 +47,7 @@ enum fractal_heap_number {
     FRACTAL_HEAP_DEPTH_EXCEEDED = 10,                   /* 64, 0 */
     FRACTAL_HEAP_OBJECT_TOO_LARGE = 11,                 /* index, size */
     FRACTAL_HEAP_HEAP_SPACE_EXHAUSTED = 12,             /* index, 0 */
-    FRACTAL_HEAP_SLICE_TOO_SHORT = 13,                  /* of a slot, a list or an ID: nothing is put */
+    FRACTAL_HEAP_SLICE_TOO_SHORT = 13,                  /* of a slot, a list, an ID or a header: nothing is put */
     FRACTAL_HEAP_OBJECT_BYTES_MISMATCH = 14,            /* sum of the sizes, bytes given */
     FRACTAL_HEAP_ADDRESS_TOO_LARGE = 15,                /* header address, 0; or region address, region size */
     FRACTAL_HEAP_HEAP_ID_TOO_LARGE = 16,                /* offset, length */

@@ -222,3 +222,16 @@ fn a_header_that_cannot_be_written_is_refused_and_nothing_is_written() {
         assert_eq!(refused(&header, 8, 8, lent), due);
     }
 }
+
+// By docs/RULES.md row 20 of the root begins at 2^31, and the space of 21 rows is 2^32.
+#[test]
+fn a_heap_of_four_gigabytes_has_no_header_of_lengths_of_four_bytes() {
+    let mut plan = OpenPlan::open(8).unwrap();
+    while plan.add(65_514).unwrap().offset < 1 << 31 {}
+    let (header, mut bytes) = (plan.header(200), [0; 146]);
+    let (place, value) = (8, 1 << 32);
+    let refusal = header.write(8, 4, &mut bytes).unwrap_err();
+    assert_eq!(refusal, Refusal::HeaderFieldTooLarge { place, value });
+    assert_eq!(bytes, [0; 146]);
+    assert_eq!(header.write(8, 8, &mut bytes).unwrap().length, 146);
+}
