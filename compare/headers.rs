@@ -118,7 +118,8 @@ impl Lent {
         number
     }
 
-    /// The original accepts what was written, and by it and by the format every field is as it was given: the checksum.
+    /// The original accepts what was written, and by it and by the format every field is as it was given. What comes back
+    /// is the checksum by the original.
     fn read(&mut self, fields: &[u64], widths: [u8; 2]) -> u32 {
         let [offset_size, length_size] = widths;
         let heap = Heap {
