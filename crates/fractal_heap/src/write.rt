@@ -313,9 +313,9 @@ pub fn write_numbers(
 
 impl FractalHeapHeader {
     /// Writes the header to the front of `bytes`; addresses have `offset_size` bytes, lengths `length_size`. Refused
-    /// are a size that is none (2, 3), filters (8), the first field, by its place in header order, that is too large for
-    /// its width (17), and fewer bytes than the header has (13), in this order; then `bytes` stay as they are. No
-    /// exception is made for the undefined address, which is all ones in its width.
+    /// are sizes that are not 2, 4 or 8 (2, 3), filters (8), the first field, by its place in header order, that is too
+    /// large for its width (17), and fewer bytes than the header has (13), in this order; then `bytes` stay as they are.
+    /// No exception is made for the undefined address, which is all ones in its width.
     pub fn write(
         self,
         offset_size: u8,

@@ -52,13 +52,15 @@ pub extern "C" fn fractal_heap_parse_header(
     }
 }
 
-/// Writes a header without filters, of 23 fields in header order, into the first bytes of `bytes`, and its length and its
-/// checksum into the slot. Refused are a size that is none (2, 3), a filter length that is not 0 (8), the first field, by
-/// its place, that is too large for its width (17), and fewer bytes than the header has (13), in this order; then `bytes`
-/// stay as they are. Every number is tested as it is given. A slot of fewer than 16 bytes gives 13 before all else, then a
-/// list of fewer than 23 numbers. Of 13 the slot says nothing, and numbers behind the 23 are not read.
+/// Writes a header without filters, of 23 fields in header order, into the first bytes of `bytes`, and its length and
+/// its checksum into the slot. Refused are sizes that are not 2, 4 or 8 (2, 3), a filter length that is not 0 (8), the
+/// first field, by its place, that is too large for its width (17), and fewer bytes than the header has (13), in this
+/// order; then `bytes` stay as they are. Every number is tested as it is given. A slot of fewer than 16 bytes gives 13
+/// before all else, then a list of fewer than 23 numbers. Of 13 the slot says nothing, and numbers behind the 23 are not
+/// read.
 ///
-/// Wherever a file holds the bytes, its header is these numbers; and the fields of a header that was parsed give its bytes.
+/// Wherever a file holds the bytes, its header is these numbers; and the fields of a header that was parsed give its
+/// bytes.
 #[unsafe(no_mangle)]
 pub extern "C" fn fractal_heap_write_header(
     fields: &[u64],

@@ -1,8 +1,8 @@
-//! What the loader calls: the checksum, the decoding of a managed ID, and reading; in `headers` the fields of a header, in
-//! `open_plans` a plan that stays open, in `written_ids` the ID of what was planned. Decoding and reading parse the header
-//! at `at` first. Each returns the refusal's number, 0 where there is none, and puts the answer's two values into the
-//! first 16 bytes of the slot; a shorter slot gives 13 before all else. `put_answer` tests the slot, after parsing and
-//! answering, so what is handed back for a short slot is 13 whatever the file is.
+//! What the loader calls: the checksum, the decoding of a managed ID, and reading; in `headers` a header's fields, told and
+//! written, in `open_plans` a plan that stays open, in `written_ids` the ID of what was planned. Decoding and reading parse
+//! the header at `at` first. Each returns the refusal's number, 0 where there is none, and puts the answer's two values into
+//! the first 16 bytes of the slot; a shorter slot gives 13 before all else. In decoding and reading `put_answer` tests it,
+//! after parsing and answering, so what is handed back for a short slot is 13 whatever the file is.
 #![tactic(auto)]
 
 pub mod headers;

@@ -49,7 +49,7 @@ pub data Case : Type 0 where
   decodes : (bits : ℕ) (id : List ℕ) (offset len : ℕ) → Case
   tiny : (id_length : ℕ) (id : List ℕ) (found : Result Place FormatError) → Case
   hashes : (bytes : List ℕ) (sum : ℕ) → Case
-  heads : (numbers : List ℕ) (offset_size length_size lent : ℕ) (answered : Result (Unit {0}) FormatError) → Case
+  tests_header : (numbers : List ℕ) (offset_size length_size lent : ℕ) (answered : Result (Unit {0}) FormatError) → Case
 
 -- the region of a plan, whatever the addresses and the bytes of the objects: its size, and the root at its place
 pub record RegionIsPlanned (offset_size : ℕ) (sizes : List ℕ) (plan : ManagedPlan) : Type 0 where
@@ -119,7 +119,7 @@ Holds (decodes bits id offset len) =
     decoded_id bits id ≡ Ok (record { offset = offset; length = len })
 Holds (tiny id_length id found) = tiny_at id_length id ≡ found
 Holds (hashes bytes sum) = hashlittle bytes ≡ sum
-Holds (heads numbers offset_size length_size lent answered) =
+Holds (tests_header numbers offset_size length_size lent answered) =
     header_checked numbers offset_size length_size lent ≡ answered
 
 -- the first case holds, and the rest
@@ -195,11 +195,11 @@ cases =
     ∷ 0xAB ∷ 0xFA ∷ 0 ∷ 0 ∷ 0 ∷ 0 ∷ 0 ∷ 0 ∷ 0 ∷ [])
     (Err (UnexpectedEof 2394 18))
     ∷ tiny 8 (0x22 ∷ 7 ∷ 8 ∷ 9 ∷ []) (Ok (record { position = 1; length = 3 }))
-    ∷ heads (heap_numbers (2 ^ 64 - 1) sixth_heap) 8 2 146 (Err (HeaderFieldTooLarge 6 458070))
-    ∷ heads (heap_numbers (2 ^ 64 - 1) third_heap) 8 2 146 (Err (HeaderFieldTooLarge 18 65536))
-    ∷ heads (heap_numbers (2 ^ 64 - 1) third_heap) 4 8 146 (Err (HeaderFieldTooLarge 5 (2 ^ 64 - 1)))
-    ∷ heads (heap_numbers (2 ^ 32 - 1) third_heap) 4 8 134 (Ok tt)
-    ∷ heads (heap_numbers (2 ^ 64 - 1) third_heap) 8 8 145 (Err (SliceTooShort 146 145))
-    ∷ heads (beginning_with 65536 0 (heap_numbers (2 ^ 64 - 1) third_heap)) 8 8 0 (Err (HeaderFieldTooLarge 0 65536))
-    ∷ heads (beginning_with 65536 65536 (heap_numbers (2 ^ 64 - 1) third_heap)) 8 8 0 (Err UnsupportedFilteredHeapObject)
+    ∷ tests_header (heap_numbers (2 ^ 64 - 1) sixth_heap) 8 2 146 (Err (HeaderFieldTooLarge 6 458070))
+    ∷ tests_header (heap_numbers (2 ^ 64 - 1) third_heap) 8 2 146 (Err (HeaderFieldTooLarge 18 65536))
+    ∷ tests_header (heap_numbers (2 ^ 64 - 1) third_heap) 4 8 146 (Err (HeaderFieldTooLarge 5 (2 ^ 64 - 1)))
+    ∷ tests_header (heap_numbers (2 ^ 32 - 1) third_heap) 4 8 134 (Ok tt)
+    ∷ tests_header (heap_numbers (2 ^ 64 - 1) third_heap) 8 8 145 (Err (SliceTooShort 146 145))
+    ∷ tests_header (beginning_with 65536 0 (heap_numbers (2 ^ 64 - 1) third_heap)) 8 8 0 (Err (HeaderFieldTooLarge 0 65536))
+    ∷ tests_header (beginning_with 65536 65536 (heap_numbers (2 ^ 64 - 1) third_heap)) 8 8 0 (Err UnsupportedFilteredHeapObject)
     ∷ []
