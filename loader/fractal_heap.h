@@ -1,6 +1,6 @@
 /* The loader's interface to the fractal heap: the nine functions of the library fractal_heap_c
- * (loader/static_libraries fractal_heap_c, target/staticlib/libfractal_heap_c.a), and two short ones that stand
- * here whole: where a file's superblock is, and how long a heap's IDs are.
+ * (loader/static_libraries fractal_heap_c, target/staticlib/libfractal_heap_c.a), and three short ones that stand
+ * here whole: where a file's superblock is, how long a heap's IDs are, and how long a header is.
  *
  * A file that is lent begins at its superblock. HDF5's addresses count from there: in a file with a user block
  * that is 512, 1,024, 2,048 .. bytes after the file's start. Lent from its start, such a file gives other bytes

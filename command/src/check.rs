@@ -18,7 +18,7 @@ pub fn check(
 ) -> Result<(), Failure> {
     same_ids(heap, objects, talk)?;
     let readable = heap.place.heap(file, heap.place.header_at);
-    check_header(&readable, heap)?;
+    check_header(&readable, heap, objects)?;
     let (found, lost) = read_back(&readable, heap, objects)?;
     print_read_back(objects, found, lost, talk);
     Ok(())
@@ -45,9 +45,28 @@ fn same_ids(heap: &Written, objects: &Objects, talk: &mut Talk) -> Result<(), Fa
     Ok(())
 }
 
-/// The header says what was written.
-fn check_header(readable: &Heap, heap: &Written) -> Result<(), Failure> {
-    match readable.header()? == heap.header {
+/// The header that is read says what was written, and that is what the plan's totals are.
+fn check_header(readable: &Heap, heap: &Written, objects: &Objects) -> Result<(), Failure> {
+    let (header, totals) = (readable.header()?, &heap.totals);
+    let due = [
+        heap.place.region_at + totals.root_place,
+        totals.root_rows,
+        objects.number(),
+        totals.free_space,
+        totals.managed_space,
+        totals.allocated_space,
+        totals.allocation_iterator,
+    ];
+    let got = [
+        header.root_block_address,
+        header.current_rows_in_root_indirect_block.into(),
+        header.managed_objects_count,
+        header.free_space_managed_blocks,
+        header.managed_space_in_heap,
+        header.allocated_managed_space_in_heap,
+        header.direct_block_allocation_iterator_offset,
+    ];
+    match header == heap.header && got == due {
         true => Ok(()),
         false => Err(wrong("the header does not say what was written")),
     }

@@ -119,8 +119,8 @@ impl Header {
     }
 
     /// Writes the header of a heap without filters into the first [`length`](Header::length) bytes of `bytes`; those behind
-    /// them keep their content. What is written is what [`Heap::header`] reads, and a header that was read is written byte
-    /// for byte as it was; both are proved.
+    /// them keep their content. What is written is what [`Heap::header`] reads, and a header without filters that was read
+    /// is written byte for byte as it was; both are proved of the function that is called for it.
     ///
     /// It is refused, and nothing is written, by 2 and 3 where a size is not 2, 4 or 8; by 8 where the length of the
     /// filters is not 0; by 17 where a field of an address or a length is above the largest number of its width, with the
@@ -250,8 +250,9 @@ impl Totals {
             max_direct_block_size: LARGEST_DIRECT_BLOCK.into(),
             max_heap_size: HEAP_BITS,
             start_root_rows: 1,
-            // Where that is past every address, so is the region, and its writer refuses it.
-            root_block_address: region_at.wrapping_add(self.root_place),
+            // Where that is past every address, it is none: the undefined one at an offset size of 8, and too large for
+            // the header's writer at a smaller one.
+            root_block_address: region_at.saturating_add(self.root_place),
             current_rows_in_root_indirect_block: narrow(self.root_rows),
         }
     }

@@ -188,6 +188,42 @@ fn a_plans_header_says_what_is_planned() {
     }
 }
 
+// Worked heap 7: a root behind the blocks of the rows below it, and five objects. The managed space is what 11 rows span,
+// 4,096 × 2^10 bytes, the allocated one five blocks.
+#[test]
+fn a_plans_header_has_the_roots_place_and_all_objects() {
+    let mut plan = OpenPlan::open(8).unwrap();
+    for _ in 0..5 {
+        plan.add(65_514).unwrap();
+    }
+    let due = [
+        8,
+        0,
+        2,
+        65_514,
+        0,
+        u64::MAX,
+        3_858_638,
+        u64::MAX,
+        4_194_304,
+        327_680,
+        2_424_832,
+        5,
+        0,
+        0,
+        0,
+        0,
+        4,
+        1024,
+        65_536,
+        40,
+        1,
+        146 + 278,
+        11,
+    ];
+    assert_eq!(listed(&plan.header(146)), due);
+}
+
 #[test]
 fn a_header_that_cannot_be_written_is_refused_and_nothing_is_written() {
     let header = planned(8, 65_514);
