@@ -91,7 +91,7 @@ fn put_field(writer: &mut Writer<'_>, number: u64, width: u8)
     }
 }
 
-// Tests the four fields from `place` on.
+// Tests the four fields from `place` on: a loop is not unrolled, and a chain of all 23 is more than the prover searches.
 #[inline(always)]
 #[tactic(auto, unfolding(crate::specs::Writing::widths_checked))]
 fn check_four(place: usize, numbers: &[u64], widths: &[u8]) -> Result<(), FormatError>

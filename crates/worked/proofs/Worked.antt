@@ -3,7 +3,6 @@ use Rattle.std.proofs.Common.{◌≡◌, ℕ, ◌^◌, ◌<◌, max, List, [], �
 use Rattle.std.proofs.Common.{subst₂, arith}
 use Rattle.std.proofs.Math.Decide.{ℕ_discrete}
 use Rattle.std.specs.Int.Count.{count_leading_zeros}
-use Rattle.fields.specs.Widths.{legal}
 use Rattle.numbers.specs.Numbers.{saturated, log2}
 use Rattle.checksum.specs.Lookup3.{run as mixed_groups, hashlittle}
 use Rattle.table.specs.Table.{fixed, row_bits, row_offset, row_in, row_of, covering_in, covering}
@@ -18,8 +17,7 @@ use Rattle.plan.specs.End.{end_state}
 use Rattle.plan.specs.Answer.{totals, planned_for}
 use Rattle.plan.specs.Checks.{sizes_checked, input_checked}
 use Rattle.fields.specs.LittleEndian.{le, value, le_at}
-use Rattle.reading.specs.Rows.{block_size, direct_rows, size_to_rows, heap_size, slot_size}
-use Rattle.fields.specs.Fields.{len_ensured}
+use Rattle.reading.specs.Rows.{heap_size}
 use Rattle.fractal_heap.specs.Writing.{widths_checked}
 use Rattle.region_write.proofs.Indirect.{bare-planned}
 use Rattle.region_write.proofs.Region.{region-length, root-place}
