@@ -24,29 +24,34 @@ pub fn by_table(offset: u64, length: u64, lent: usize) -> Option<Answer> {
     (lent < 8).then_some((13, 8, lent as u64))
 }
 
-/// Calls ours with so many lent bytes and a slot of so many, both amid others, and holds all of them to what is
-/// due: the number.
+/// Calls both of ours with so many lent bytes and a slot of so many, both amid others, and holds all of them to what is
+/// due: the number. Of an ID that is too short the loader's puts nothing into the slot.
 fn same_id(random: &mut Random, offset: u64, length: u64, lent: usize, slot: usize) -> u32 {
-    let mut around = [0; 72];
-    random.fill(&mut around);
-    let mut wanted = around;
+    let mut before = [0; 72];
+    random.fill(&mut before);
     let (number, x, y) = by_table(offset, length, lent).unwrap_or((0, 0, 0));
     let number = if slot < 16 { 13 } else { number };
-    if slot >= 16 {
-        wanted[40..48].copy_from_slice(&x.to_le_bytes());
-        wanted[48..56].copy_from_slice(&y.to_le_bytes());
+    for loaders in [false, true] {
+        let (mut around, mut wanted) = (before, before);
+        if slot >= 16 && !(loaders && number == 13) {
+            wanted[40..48].copy_from_slice(&x.to_le_bytes());
+            wanted[48..56].copy_from_slice(&y.to_le_bytes());
+        }
+        if number == 0 {
+            wanted[8..16].copy_from_slice(&by_rule(offset, length));
+        }
+        let (ids, slots) = around.split_at_mut(32);
+        let (id, answer) = (&mut ids[8..8 + lent], &mut slots[8..8 + slot]);
+        let got = match loaders {
+            true => ours::loader_write_managed_id(offset, length, id, answer),
+            false => ours::write_managed_id(offset, length, id, answer),
+        };
+        assert_eq!(
+            (got, around),
+            (number, wanted),
+            "ID of offset {offset}, length {length} in {lent} bytes, slot of {slot}, the loader's: {loaders}"
+        );
     }
-    if number == 0 {
-        wanted[8..16].copy_from_slice(&by_rule(offset, length));
-    }
-    let (ids, slots) = around.split_at_mut(32);
-    let (id, answer) = (&mut ids[8..8 + lent], &mut slots[8..8 + slot]);
-    let got = ours::write_managed_id(offset, length, id, answer);
-    assert_eq!(
-        (got, around),
-        (number, wanted),
-        "ID of offset {offset}, length {length} in {lent} bytes, slot of {slot}"
-    );
     number
 }
 

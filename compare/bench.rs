@@ -230,12 +230,12 @@ fn parsed(view: View) -> original::Header {
     original::parse(file, at, 8, 8).expect("a right header")
 }
 
-/// Parsing of one header, again and again: twelve fields from either.
+/// Parsing of one header, again and again: all its fields from ours, from the original the twelve that it keeps.
 fn header(times: &mut Times) {
     let (heap, calls) = (header_alone(), 1 << 14);
     let ours = || {
         for _ in 0..calls {
-            let mut fields = [0; 12];
+            let mut fields = [0; 23];
             let number = ours::parse(black_box(&heap), &mut fields);
             black_box((number, fields));
         }
@@ -246,6 +246,100 @@ fn header(times: &mut Times) {
         }
     };
     times.line("header parsed", calls, ours, original);
+    header_written(times);
+}
+
+/// A number of 1, 2, 4 or 8 bytes; the place behind it.
+#[inline(always)]
+fn put(bytes: &mut [u8], at: usize, value: u64, size: u8) -> usize {
+    let value = value.to_le_bytes();
+    match size {
+        1 => bytes[at] = value[0],
+        2 => bytes[at..at + 2].copy_from_slice(&value[..2]),
+        4 => bytes[at..at + 4].copy_from_slice(&value[..4]),
+        _ => bytes[at..at + 8].copy_from_slice(&value),
+    }
+    at + usize::from(size)
+}
+
+/// The original has no writer of headers: the rules' words in plain Rust, with the same memory lent and the original's
+/// checksum, stand for it.
+#[inline(never)]
+fn plain_header(fields: &[u64], [w, l]: [u8; 2], bytes: &mut [u8], slot: &mut [u8]) -> u32 {
+    if slot.len() < 16 || fields.len() < 23 {
+        return 13;
+    }
+    let mut answer = |number, x: u64, y: u64| {
+        slot[..8].copy_from_slice(&x.to_le_bytes());
+        slot[8..16].copy_from_slice(&y.to_le_bytes());
+        number
+    };
+    if !matches!(w, 2 | 4 | 8) {
+        return answer(2, w.into(), 0);
+    }
+    if !matches!(l, 2 | 4 | 8) {
+        return answer(3, l.into(), 0);
+    }
+    if fields[1] != 0 {
+        return answer(8, 0, 0);
+    }
+    let sizes = [
+        2, 2, 1, 4, l, w, l, w, l, l, l, l, l, l, l, l, 2, l, l, 2, 2, w, 2,
+    ];
+    for (place, (&value, size)) in fields.iter().zip(sizes).enumerate() {
+        if size < 8 && value >> (8 * size) != 0 {
+            return answer(17, place as u64, value);
+        }
+    }
+    let length = 26 + 12 * usize::from(l) + 3 * usize::from(w);
+    if bytes.len() < length {
+        return 13;
+    }
+    bytes[..5].copy_from_slice(b"FRHP\0");
+    let mut at = 5;
+    for (i, size) in [2, 2, 1, 4].into_iter().enumerate() {
+        at = put(bytes, at, fields[i], size);
+    }
+    at = put(bytes, at, fields[4], l);
+    at = put(bytes, at, fields[5], w);
+    at = put(bytes, at, fields[6], l);
+    at = put(bytes, at, fields[7], w);
+    for &value in &fields[8..16] {
+        at = put(bytes, at, value, l);
+    }
+    at = put(bytes, at, fields[16], 2);
+    at = put(bytes, at, fields[17], l);
+    at = put(bytes, at, fields[18], l);
+    at = put(bytes, at, fields[19], 2);
+    at = put(bytes, at, fields[20], 2);
+    at = put(bytes, at, fields[21], w);
+    at = put(bytes, at, fields[22], 2);
+    let sum = original::jenkins_lookup3(&bytes[..at]).into();
+    put(bytes, at, sum, 4);
+    answer(0, length as u64, sum)
+}
+
+/// The header of the fixed geometry, again and again.
+fn header_written(times: &mut Times) {
+    type Writer = fn(&[u64], [u8; 2], &mut [u8], &mut [u8]) -> u32;
+    let heap = header_alone();
+    let (mut fields, calls) = ([0; 23], 1 << 14);
+    assert_eq!(ours::parse(&heap, &mut fields), 0);
+    let all = |writer: Writer| {
+        let (mut bytes, mut slot) = ([0; 146], [0; 16]);
+        for _ in 0..calls {
+            let (fields, widths) = black_box((&fields, [8, 8]));
+            black_box(writer(fields, widths, &mut bytes, &mut slot));
+            black_box((&bytes, &slot));
+        }
+        assert_eq!(bytes[..], heap.file[..]);
+    };
+    times.line(
+        "header written (original: plain Rust)",
+        calls,
+        || all(ours::write_header),
+        || all(plain_header),
+    );
 }
 
 /// Both parse the header in every call, as the loader's function does.

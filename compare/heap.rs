@@ -1,6 +1,7 @@
 //! Headers, IDs and reading, ours against the original: every number of every answer, and all lent memory.
 //! The original answers a read by bytes: ours must answer a place that holds them, and the original must see
 //! a change of the byte at that place.
+use crate::format;
 use crate::made::{self, Heap, Object, Written};
 use crate::ours::{self, View, view_of};
 use crate::panics::{self, Panics, caught};
@@ -24,6 +25,8 @@ struct Comparison {
     heaps: u64,
     numbers: [[u64; 11]; 5],
     pinned: u64,
+    /// Headers that were accepted, by offset size and length size of 2, 4 and 8.
+    accepted: [[u64; 3]; 3],
     all_heaps: u64,
     all: [u64; 11],
     panics: Panics,
@@ -62,14 +65,16 @@ impl Comparison {
         self.numbers[call][number as usize] += 1;
     }
 
-    /// The twelve fields, or the refusal; places past them as they were.
+    /// The refusal or the fields: those that the original keeps are its own, and all of them by the format; places past
+    /// them as they were.
     fn parse(&mut self, heap: &Heap) -> Result<Header, Answer> {
         let (w, l) = (heap.offset_size, heap.length_size);
         let due = original::parse(&heap.file, heap.at, w, l);
-        let (mut fields, mut wanted) = ([MARK; 14], [MARK; 14]);
+        let (mut fields, mut wanted) = ([MARK; format::COUNT + 2], [MARK; format::COUNT + 2]);
         let number = match &due {
             Ok(header) => {
-                wanted[..12].copy_from_slice(&header.fields());
+                wanted[..format::COUNT].copy_from_slice(&format::header_fields(heap, header));
+                self.accepted[w.ilog2() as usize - 1][l.ilog2() as usize - 1] += 1;
                 0
             }
             &Err((number, x, y)) => {
@@ -82,6 +87,19 @@ impl Comparison {
             (got, fields),
             (number, wanted),
             "parse: {}",
+            what(heap, &[])
+        );
+        // the loader's function leaves the list where it refuses
+        if number > 0 {
+            wanted = [MARK; format::COUNT + 2];
+        }
+        fields = [MARK; format::COUNT + 2];
+        let answer = due.as_ref().err().copied().unwrap_or((0, 0, 0));
+        let got = ours::header_fields(heap, &mut fields);
+        assert_eq!(
+            (got, fields),
+            (answer, wanted),
+            "fields: {}",
             what(heap, &[])
         );
         self.count(PARSE, number);
@@ -236,10 +254,10 @@ fn short(heap: &Heap, id: &[u8]) {
     for len in [0, 1, 8, 15] {
         ours::short_heap_slot(len, heap, id);
     }
-    for len in [0, 1, 2, 11] {
-        let mut fields = [MARK; 12];
+    for len in [0, 1, 2, 12, format::COUNT - 1] {
+        let mut fields = [MARK; format::COUNT];
         assert_eq!(ours::parse(heap, &mut fields[..len]), 13, "{len} fields");
-        assert_eq!(fields, [MARK; 12], "{len} fields");
+        assert_eq!(fields, [MARK; format::COUNT], "{len} fields");
     }
     assert_eq!(heap.file, before, "lent beside short slots");
 }
@@ -250,7 +268,7 @@ fn each(heap: &Heap, ids: &[Vec<u8>]) {
     let ids: Vec<&[u8]> = ids.iter().filter_map(|id| id.get(..8)).collect();
     let (joined, n) = (ids.concat(), 3 * ids.len());
     let mut wanted = vec![MARK; n + 2];
-    let parsed = ours::parse(heap, &mut [0; 12]);
+    let parsed = ours::parse(heap, &mut [0; format::COUNT]);
     for (i, id) in ids.iter().enumerate().filter(|_| parsed == 0) {
         let answer @ (number, x, y) = ours::read(heap, id);
         assert_eq!(ours::read_sized(heap, heap.offset_size, id), answer);
@@ -619,6 +637,9 @@ impl Comparison {
         assert!(rest.iter().all(|&times| times >= 100), "{rest:?}");
         assert_eq!(ten, 0, "a path of more than 64 blocks");
         assert!(self.all_heaps >= n, "{} heaps", self.all_heaps);
+        let accepted = self.accepted.as_flattened();
+        assert!(accepted.iter().all(|&times| times >= 100), "{accepted:?}");
+        println!("compare: headers accepted at the nine pairs of widths {accepted:?}: equal");
         println!(
             "compare: heaps {} in all, answers by number from 0 to 10 {:?}: equal",
             self.all_heaps, self.all
@@ -626,6 +647,7 @@ impl Comparison {
         let answers = self.all.iter().sum::<u64>() + self.panics.total();
         vec![
             row("heaps, sound and damaged", self.all_heaps),
+            row("headers, 23 fields by the format", accepted.iter().sum()),
             row("headers, IDs and reads of them", answers).with_panics(self.panics.total()),
         ]
     }

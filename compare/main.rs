@@ -6,7 +6,9 @@ mod checksum;
 mod damage;
 mod differences;
 mod fields;
+mod format;
 mod guarded;
+mod headers;
 mod heap;
 mod image;
 mod made;
@@ -31,15 +33,19 @@ use summary::Row;
 type Part = (&'static str, fn() -> Vec<Row>);
 
 /// All parts, the longest first.
-const PARTS: [Part; 12] = [
+const PARTS: [Part; 16] = [
     ("back", || back::compare(200_000)),
     ("write", || write::compare(40_000)),
     ("heap space 8", || plan::heap_space(8)),
     ("heap", || heap::compare(1_000_000)),
     ("heap space 4", || plan::heap_space(4)),
     ("heap space 2", || plan::heap_space(2)),
+    ("open to the end 8", || open_plans::heap_space(8)),
+    ("open to the end 4", || open_plans::heap_space(4)),
+    ("open to the end 2", || open_plans::heap_space(2)),
     ("damage", || damage::compare(10_000_000)),
     ("plan", || plan::compare(100_000)),
+    ("headers", || headers::compare(120_000)),
     ("open plans", || open_plans::compare(10_000)),
     ("fields", || fields::compare(1_000_000)),
     ("checksum", || checksum::compare(1_000_000)),

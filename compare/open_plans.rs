@@ -3,6 +3,7 @@ use crate::ours::Open;
 use crate::plan::{FULL, any_list, limit};
 use crate::random::Random;
 use crate::summary::{Row, row};
+use original::Plan;
 
 /// How many additions were compared, and how many sizes were refused between them.
 #[derive(Default)]
@@ -76,28 +77,73 @@ fn widths() -> Row {
     row("widths at which a plan is opened, or refused by 2", 256)
 }
 
-/// To the end of the heap space, an object at a time: then 12 for any byte, and an empty object at 2^40.
-fn heap_space(w: u8) -> Row {
-    let mut sizes = vec![limit(w); FULL];
-    let full = original::plan(&sizes, w).expect("within the heap space");
+/// Up to the last block of the heap space, an object at a time: every heap offset, and all totals at each power of two
+/// and in front of the last block. There a size that finds no slot is followed by smaller ones that still fit: what is
+/// accepted has offset and totals of the original, what is refused changes nothing. In the end an empty object is at 2^40.
+pub fn heap_space(w: u8) -> Vec<Row> {
+    let original = |sizes: &[u64]| original::plan(sizes, w).expect("within the heap space");
+    let mut sizes = vec![limit(w); FULL - 1];
+    let Plan {
+        offsets,
+        mut totals,
+        ..
+    } = original(&sizes);
     let mut plan = Open::of(w);
-    for (i, (&size, &offset)) in sizes.iter().zip(&full.offsets).enumerate() {
-        assert_eq!(plan.add(size), (0, offset, 0), "object {i}");
+    for (i, (&size, &offset)) in sizes.iter().zip(&offsets).enumerate() {
+        assert_eq!(plan.add(size), (0, offset, 0), "width {w}, object {i}");
+        let added = i + 1;
+        if added.is_power_of_two() {
+            let due = original(&sizes[..added]).totals;
+            assert_eq!(plan.totals(), due, "width {w}, {added} objects");
+        }
     }
-    assert_eq!(plan.totals(), full.totals);
-    for size in [1, 2, limit(w)] {
-        assert_eq!(plan.add(size), (12, FULL as u64, 0), "{size} at the end");
+    assert_eq!(plan.totals(), totals, "width {w}, to the last block");
+    let (mut added, mut refused) = (0, 0);
+    for (size, number) in [
+        (limit(w) - 1_000, 0),
+        (limit(w), 12),
+        (1_001, 12), // the original's, too
+        (limit(w) + 1, 11),
+        (999, 0),
+        (u64::MAX, 11),
+        (limit(w), 12),
+        (2, 12), // the original's, too
+        (1, 0),
+        (limit(w), 12),
+        (1, 12),
+        (0, 0),
+        (1, 12),
+        (limit(w) + 1, 11),
+    ] {
+        let index = sizes.len() as u64;
+        let at = format!("width {w}, {size} behind {index} objects");
+        let answer = plan.add(size);
+        if number == 0 {
+            sizes.push(size);
+            let due = original(&sizes);
+            assert_eq!(answer, (0, *due.offsets.last().unwrap(), 0), "{at}");
+            totals = due.totals;
+            added += 1;
+        } else {
+            let second = if number == 11 { size } else { 0 };
+            assert_eq!(answer, (number, index, second), "{at}");
+            if matches!(size, 2 | 1_001) {
+                let longer = [&sizes[..], &[size]].concat();
+                assert_eq!(original::plans(&longer, w), None, "{at}");
+            }
+            refused += 1;
+        }
+        assert_eq!(plan.totals(), totals, "{at}");
     }
-    assert_eq!(plan.add(limit(w) + 1), (11, FULL as u64, limit(w) + 1));
-    sizes.push(0);
-    let due = original::plan(&sizes, w).expect("an empty object at the end");
-    assert_eq!(plan.add(0), (0, *due.offsets.last().unwrap(), 0));
-    assert_eq!(plan.totals(), due.totals);
-    assert_eq!(plan.add(1), (12, FULL as u64 + 1, 0));
-    row(
-        format!("objects added up to the heap's end, width {w}"),
-        FULL as u64,
-    )
+    assert_eq!(totals[0], FULL as u64, "width {w}");
+    vec![
+        row(
+            format!("objects added up to the heap's last block, width {w}"),
+            FULL as u64 - 1,
+        ),
+        row(format!("objects added in it, width {w}"), added),
+        row(format!("sizes refused between them, width {w}"), refused),
+    ]
 }
 
 /// A plan that counts as many objects as a 64-bit number holds. Its count is set here, no plan comes to it otherwise.
@@ -134,7 +180,6 @@ pub fn compare(n: u64) -> Vec<Row> {
         row("objects in them, with all totals after each", added),
         row("sizes refused by 11 between them, by the rules", refused),
         widths(),
-        heap_space(8),
         full_count(),
     ]
 }

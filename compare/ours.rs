@@ -16,6 +16,13 @@ fn with_slot(call: impl FnOnce(*mut u8, usize) -> u32) -> Answer {
     (number, at(0), at(8))
 }
 
+/// Calls with a slot that is long enough where something else is too short.
+fn with_untouched_slot(call: impl FnOnce(*mut u8, usize) -> u32) {
+    let mut slot = [MARK; 16];
+    assert_eq!(call(slot.as_mut_ptr(), slot.len()), 13, "a short list");
+    assert_eq!(slot, [MARK; 16], "beside a short list");
+}
+
 /// Calls with a slot of just 16 bytes, for times.
 pub fn answered(call: impl FnOnce(*mut u8, usize) -> u32) -> Answer {
     let mut slot = [0; 16];
@@ -162,6 +169,12 @@ pub fn write_managed_id(offset: u64, size: u64, id: &mut [u8], slot: &mut [u8]) 
     unsafe { tools_write_managed_id(offset, size, i, k, s, n) }
 }
 
+/// The loader's, likewise.
+pub fn loader_write_managed_id(offset: u64, size: u64, id: &mut [u8], slot: &mut [u8]) -> u32 {
+    let (i, k, s, n) = (id.as_mut_ptr(), id.len(), slot.as_mut_ptr(), slot.len());
+    unsafe { fractal_heap_write_managed_id(offset, size, i, k, s, n) }
+}
+
 /// Every function with a slot, lent one of fewer than 16 bytes: nothing is written anywhere.
 pub fn short_slot(len: usize, bytes: &mut [u8]) {
     let before = bytes.to_vec();
@@ -182,7 +195,7 @@ pub fn loader_checksum(bytes: &[u8]) -> u32 {
     unsafe { fractal_heap_checksum(bytes.as_ptr(), bytes.len()) }
 }
 
-/// The refusal's number, or 0; its pair, or the twelve fields, are put into `fields`.
+/// The refusal's number, or 0; its pair, or the 23 fields, are put into `fields`.
 pub fn parse(heap: &Heap, fields: &mut [u64]) -> u32 {
     let (file, w, l) = (&heap.file, heap.offset_size, heap.length_size);
     unsafe {
@@ -196,6 +209,17 @@ pub fn parse(heap: &Heap, fields: &mut [u64]) -> u32 {
             fields.len(),
         )
     }
+}
+
+/// The refusal's number, or 0; the two numbers of the answer are put into the slot.
+pub fn write_header(fields: &[u64], [w, l]: [u8; 2], bytes: &mut [u8], slot: &mut [u8]) -> u32 {
+    let (f, k, b, m) = (
+        fields.as_ptr(),
+        fields.len(),
+        bytes.as_mut_ptr(),
+        bytes.len(),
+    );
+    unsafe { fractal_heap_write_header(f, k, w, l, b, m, slot.as_mut_ptr(), slot.len()) }
 }
 
 /// A file that is lent, a header's place in it, and the two widths.
@@ -214,6 +238,28 @@ pub fn view_of(heap: &Heap) -> View<'_> {
         offset_size: heap.offset_size,
         length_size: heap.length_size,
     }
+}
+
+/// The loader's function for a header: its fields are put into `fields`, a refusal's pair or two zeros into the slot.
+pub fn fields_into(view: View, fields: &mut [u64], slot: *mut u8, len: usize) -> u32 {
+    let (file, w, l) = (view.file, view.offset_size, view.length_size);
+    let (f, n, p, k) = (file.as_ptr(), file.len(), fields.as_mut_ptr(), fields.len());
+    unsafe { fractal_heap_parse_header(f, n, view.at, w, l, p, k, slot, len) }
+}
+
+/// The refusal, or 0 and two zeros; a slot or a list that is too short gives 13 first, and leaves both.
+pub fn header_fields(heap: &Heap, fields: &mut [u64]) -> Answer {
+    let (view, before) = (view_of(heap), fields.to_vec());
+    with_short_slot(15, |s, n| fields_into(view, fields, s, n));
+    for places in [0, fields.len().min(22)] {
+        let few = &mut fields[..places];
+        with_untouched_slot(|s, n| fields_into(view, few, s, n));
+    }
+    assert_eq!(
+        fields, before,
+        "fields lent beside a short slot, or too few"
+    );
+    with_slot(|s, n| fields_into(view, fields, s, n))
 }
 
 pub fn decode_into(view: View, id: &[u8], slot: *mut u8, len: usize) -> u32 {

@@ -3,9 +3,11 @@
 //! A case, all numbers little-endian: kind (1 byte), offset size, length size, offset size of the read (1
 //! each), heap ID length (2), bytes of the file (4), bytes of the ID (4), the header's place (8), number of
 //! the answer (4), how many words it has (1); then these words (8 each), the file, the ID. An accepted parse
-//! has twelve words, any other answer two. Decoding and reading parse first, so that a refusal of the parse
-//! is their answer. The last cases are recorded otherwise than the original answers, each in one thing, so that a
-//! program that compares nothing, or leaves that out, prints something else.
+//! has 23 words, the fields as the format gives them (format.rs), any other answer two. Decoding and reading
+//! parse first, so that a refusal of the parse is their answer. The last cases are recorded otherwise than the
+//! original answers, each in one thing, so that a program that compares nothing, or leaves that out, prints
+//! something else.
+use crate::format;
 use crate::made::{self, Head, Heap, Tree, Written};
 use crate::random::Random;
 use original::{Answer, Header};
@@ -16,13 +18,13 @@ const KINDS: [&str; 5] = ["parse", "decode", "read", "tiny", "id type"];
 type Wrong = fn(&mut u32, &mut Vec<u64>);
 
 /// Each changes one thing: the number in its lowest bit or its highest, the first word in its lowest, the last in its
-/// highest, how many words there are (two for twelve, twelve for two).
+/// highest, how many words there are (two for 23, 23 for two).
 const WRONG: [Wrong; 5] = [
     |number, _| *number ^= 1,
     |number, _| *number ^= 1 << 31,
     |_, words| words[0] ^= 1,
     |_, words| *words.last_mut().expect("a word") ^= 1 << 63,
-    |_, words| words.resize(14 - words.len(), 0),
+    |_, words| words.resize(format::COUNT + 2 - words.len(), 0),
 ];
 
 #[derive(Default)]
@@ -94,7 +96,7 @@ impl List {
             id: &[],
         };
         match parsed(heap) {
-            Ok(header) => self.case(0, &asked, 0, &header.fields()),
+            Ok(header) => self.case(0, &asked, 0, &format::header_fields(heap, &header)),
             Err((number, x, y)) => self.case(0, &asked, number, &[x, y]),
         }
     }
@@ -205,6 +207,14 @@ fn headers(list: &mut List, random: &mut Random) {
     for (w, l) in pairs.into_iter().flatten() {
         let head = made::fixed(20, 1);
         list.parse(&headed(random, &head, w, l, 1));
+    }
+    // what is stepped over is tested as bytes that are there, several fields together, and no width with them
+    let whole = headed(random, &made::fixed(20, 1), 8, 8, 0);
+    for (len, w, l) in [(146, 3, 3), (40, 8, 3), (40, 8, 8), (80, 8, 8)] {
+        let mut heap = whole.clone();
+        heap.file.truncate(len);
+        (heap.offset_size, heap.length_size) = (w, l);
+        list.parse(&heap);
     }
     let mut heap = headed(random, &made::fixed(20, 1), 4, 4, 7);
     let len = heap.file.len() as u64;

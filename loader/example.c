@@ -1,6 +1,6 @@
-/* Calls the library from C: builds a small heap in memory and reads an object back from it, plans heaps
- * one object at a time, and meets the refusals. One line per check; a check that fails ends the program
- * with status 1.
+/* Calls the library from C: builds a small heap in memory and reads an object back from it, writes headers
+ * and reads them, plans heaps one object at a time, and meets the refusals. One line per check; a check that
+ * fails ends the program with status 1.
  * Expected values are the format's, lookup3.c's and docs/RULES.md's. */
 #include "fractal_heap.h"
 
@@ -67,34 +67,46 @@ static uint64_t get(const uint8_t *from, int width)
     return number;
 }
 
-/* The header: 8-byte IDs, no filters, width 4, blocks of 1,024 to 65,536, 40 bits, a direct root. */
+/* Writes a header with a slot of 16 bytes, whose numbers go to `first` and `second`. */
+static uint32_t write_header(const uint64_t *fields, size_t fields_len, uint8_t offset_size, uint8_t length_size,
+                             uint8_t *bytes, size_t bytes_len)
+{
+    uint8_t slot[16];
+    uint32_t number;
+    memset(slot, 0xA5, sizeof slot);
+    number = fractal_heap_write_header(fields, fields_len, offset_size, length_size, bytes, bytes_len, slot,
+                                       sizeof slot);
+    first = get(slot, 8);
+    second = get(slot + 8, 8);
+    return number;
+}
+
+/* The header: 8-byte IDs, no filters, width 4, blocks of 1,024 to 65,536, 40 bits, a direct root. What is not set is
+ * 0. */
 static void put_header(void)
 {
-    uint8_t *to = file + AT;
-    memcpy(to, "FRHP", 4);
-    to = put(to + 4, 0, 1);                     /* version */
-    to = put(to, 8, 2);                         /* heap ID length */
-    to = put(to, 0, 2);                         /* filter length */
-    to = put(to, 2, 1);                         /* flags: direct blocks have checksums */
-    to = put(to, 65536 - BLOCK_HEADER, 4);      /* largest managed object */
-    to = put(to, 0, WIDTH);                     /* next huge ID */
-    to = put(to, UNDEFINED, WIDTH);             /* huge objects' index */
-    to = put(to, START - BLOCK_HEADER - sizeof OBJECT, WIDTH); /* free space */
-    to = put(to, UNDEFINED, WIDTH);             /* free space manager */
-    to = put(to, START, WIDTH);                 /* managed space */
-    to = put(to, START, WIDTH);                 /* allocated space */
-    to = put(to, 0, WIDTH);                     /* iterator */
-    to = put(to, 1, WIDTH);                     /* managed objects */
-    for (int i = 0; i < 4; i++)
-        to = put(to, 0, WIDTH);                 /* huge and tiny objects: size, number */
-    to = put(to, 4, 2);                         /* table width */
-    to = put(to, START, WIDTH);
-    to = put(to, 65536, WIDTH);                 /* largest direct block */
-    to = put(to, 40, 2);                        /* bits of the heap space */
-    to = put(to, 1, 2);                         /* starting rows of the root */
-    to = put(to, ROOT, WIDTH);
-    to = put(to, 0, 2);                         /* current rows: the root is direct */
-    put(to, fractal_heap_checksum(file + AT, HEADER - 4), 4);
+    uint64_t fields[FRACTAL_HEAP_HEADER_FIELDS] = {0};
+    fields[FRACTAL_HEAP_HEAP_ID_LENGTH] = 8;
+    fields[FRACTAL_HEAP_FLAGS] = 2; /* direct blocks have checksums */
+    fields[FRACTAL_HEAP_MAX_MANAGED_OBJECT_SIZE] = 65536 - BLOCK_HEADER;
+    fields[FRACTAL_HEAP_BTREE_HUGE_OBJECTS_ADDRESS] = UNDEFINED;
+    fields[FRACTAL_HEAP_FREE_SPACE_MANAGED_BLOCKS] = START - BLOCK_HEADER - sizeof OBJECT;
+    fields[FRACTAL_HEAP_MANAGED_BLOCK_FREE_SPACE_MANAGER_ADDRESS] = UNDEFINED;
+    fields[FRACTAL_HEAP_MANAGED_SPACE_IN_HEAP] = START;
+    fields[FRACTAL_HEAP_ALLOCATED_MANAGED_SPACE_IN_HEAP] = START;
+    fields[FRACTAL_HEAP_MANAGED_OBJECTS_COUNT] = 1;
+    fields[FRACTAL_HEAP_TABLE_WIDTH] = 4;
+    fields[FRACTAL_HEAP_STARTING_BLOCK_SIZE] = START;
+    fields[FRACTAL_HEAP_MAX_DIRECT_BLOCK_SIZE] = 65536;
+    fields[FRACTAL_HEAP_MAX_HEAP_SIZE] = 40;
+    fields[FRACTAL_HEAP_START_ROOT_ROWS] = 1;
+    fields[FRACTAL_HEAP_ROOT_BLOCK_ADDRESS] = ROOT;
+    check(fractal_heap_header_length(WIDTH, WIDTH) == HEADER &&
+              write_header(fields, FRACTAL_HEAP_HEADER_FIELDS, WIDTH, WIDTH, file + AT, FILE_LEN - AT) ==
+                  FRACTAL_HEAP_OK &&
+              first == HEADER && second == get(file + AT + HEADER - 4, 4) &&
+              second == fractal_heap_checksum(file + AT, HEADER - 4),
+          "a header is written: its length and its checksum, which is that of all before it");
 }
 
 /* The root: a direct block at heap offset 0, with one object after its header. */
@@ -290,6 +302,147 @@ static void id_lengths(const uint8_t *id)
     file[AT + 6] = 0;
 }
 
+/* The width of each field of a header at WIDTH, in header order: the places of their numbers in the list. */
+static const uint8_t FIELD_WIDTHS[FRACTAL_HEAP_HEADER_FIELDS] = {2, 2, 1, 4, 8, 8, 8, 8, 8, 8, 8, 8,
+                                                                 8, 8, 8, 8, 2, 8, 8, 2, 2, 8, 2};
+
+/* A number of its own for every field, with every byte of its width, and two behind them. */
+static uint64_t due[FRACTAL_HEAP_HEADER_FIELDS + 2];
+
+static void put_due(void)
+{
+    for (int i = 0; i < FRACTAL_HEAP_HEADER_FIELDS; i++)
+        due[i] = (UINT64_C(0xF1E2D3C4B5A69788) >> 8 * (8 - FIELD_WIDTHS[i])) - (uint64_t)i;
+    due[FRACTAL_HEAP_IO_FILTER_ENCODED_LENGTH] = 0;
+    due[23] = due[24] = UNDEFINED;
+}
+
+/* A header that is written has each field at its place by the format. */
+static void header_written(void)
+{
+    uint8_t header[HEADER + 3], slot[24], before[24];
+    const uint8_t *at = header + 5;
+    int i, holds = 1;
+    put_due();
+    memset(header, 0xA5, sizeof header);
+    memset(slot, 0xA5, sizeof slot);
+    memcpy(before, slot, sizeof before);
+    check(fractal_heap_write_header(due, 25, WIDTH, WIDTH, header, sizeof header, slot, 24) == FRACTAL_HEAP_OK &&
+              get(slot, 8) == HEADER && get(slot + 8, 8) == get(header + HEADER - 4, 4) &&
+              memcmp(slot + 16, before + 16, 8) == 0 && memcmp(header + HEADER, before, 3) == 0,
+          "a header is written: bytes behind it, and the slot's behind its two numbers, are as they were");
+    for (i = 0; i < FRACTAL_HEAP_HEADER_FIELDS; at += FIELD_WIDTHS[i++])
+        holds = holds && get(at, FIELD_WIDTHS[i]) == due[i];
+    check(holds && at == header + HEADER - 4 && memcmp(header, "FRHP", 5) == 0 &&
+              get(at, 4) == fractal_heap_checksum(header, HEADER - 4),
+          "signature and version, every field at its place, the checksum");
+}
+
+/* Whether a header of these numbers is refused so, into so many bytes, and they are as they were. */
+static int not_written(const uint64_t *fields, uint8_t offset_size, uint8_t length_size, size_t len, uint32_t number,
+                       uint64_t due_first, uint64_t due_second)
+{
+    uint8_t header[HEADER], before[HEADER];
+    memset(header, 0x5A, sizeof header);
+    memcpy(before, header, sizeof before);
+    return answers(write_header(fields, 23, offset_size, length_size, header, len), number, due_first, due_second) &&
+           memcmp(header, before, sizeof header) == 0;
+}
+
+/* Headers that are not written: the order is 2, 3, 8, 17, 13. */
+static void header_refused(void)
+{
+    static const uint64_t kept = 0xA5A5A5A5A5A5A5A5;
+    static const uint8_t others[] = {0, 1, 3, 5, 7, 9, 255};
+    uint64_t fields[FRACTAL_HEAP_HEADER_FIELDS];
+    uint8_t header[HEADER], slot[16];
+    int i, holds = 1;
+    put_due();
+    memcpy(fields, due, sizeof fields);
+    fields[FRACTAL_HEAP_IO_FILTER_ENCODED_LENGTH] = 65536;
+    fields[FRACTAL_HEAP_HEAP_ID_LENGTH] = 65536;
+    for (i = 0; i < (int)sizeof others; i++)
+        holds = holds && not_written(fields, others[i], 3, 0, FRACTAL_HEAP_INVALID_OFFSET_SIZE, others[i], 0) &&
+                not_written(fields, 2, others[i], 0, FRACTAL_HEAP_INVALID_LENGTH_SIZE, others[i], 0);
+    check(holds, "sizes that there are not: 2, 3 with them");
+    check(not_written(fields, 2, 2, 0, FRACTAL_HEAP_UNSUPPORTED_FILTERED_HEAP_OBJECT, 0, 0),
+          "a length of filters of 65,536 behind a field that is too large: 8, nothing is cut");
+    fields[FRACTAL_HEAP_IO_FILTER_ENCODED_LENGTH] = 0;
+    check(not_written(fields, 2, 2, 0, FRACTAL_HEAP_HEADER_FIELD_TOO_LARGE, 0, 65536),
+          "an ID's length of 65,536 before a short slice: 17 with its place and its number");
+    fields[FRACTAL_HEAP_HEAP_ID_LENGTH] = 8;
+    check(not_written(fields, 4, 8, 0, FRACTAL_HEAP_HEADER_FIELD_TOO_LARGE, 5, due[5]),
+          "an address of eight bytes at offset size 4: 17");
+    for (i = 0, holds = 1; i < FRACTAL_HEAP_HEADER_FIELDS; i++)
+        if (FIELD_WIDTHS[i] < 8 && i != FRACTAL_HEAP_IO_FILTER_ENCODED_LENGTH) {
+            fields[i] = UINT64_C(1) << 8 * FIELD_WIDTHS[i];
+            holds = holds && not_written(fields, 8, 8, HEADER, FRACTAL_HEAP_HEADER_FIELD_TOO_LARGE, (uint64_t)i,
+                                         fields[i]);
+            fields[i] = due[i];
+        }
+    check(holds, "each field one above its width's largest number: 17 with its place and its number");
+    fields[FRACTAL_HEAP_HEAP_ID_LENGTH] = 8;
+    check(not_written(fields, 8, 8, HEADER - 1, FRACTAL_HEAP_SLICE_TOO_SHORT, kept, kept) &&
+              answers(write_header(fields, 23, 8, 8, NULL, 0), FRACTAL_HEAP_SLICE_TOO_SHORT, kept, kept),
+          "a slice that is a byte too short, or none: 13, and neither it nor the slot is written");
+    memset(header, 0x5A, sizeof header);
+    check(answers(write_header(fields, 22, 3, 3, header, HEADER), FRACTAL_HEAP_SLICE_TOO_SHORT, kept, kept) &&
+              answers(write_header(NULL, 0, 3, 3, NULL, 0), FRACTAL_HEAP_SLICE_TOO_SHORT, kept, kept) &&
+              fractal_heap_write_header(fields, 23, 8, 8, header, HEADER, slot, 15) == FRACTAL_HEAP_SLICE_TOO_SHORT &&
+              fractal_heap_write_header(NULL, 0, 3, 3, NULL, 0, NULL, 0) == FRACTAL_HEAP_SLICE_TOO_SHORT &&
+              header[0] == 0x5A && header[HEADER - 1] == 0x5A,
+          "a list of 22 numbers or none, a slot of 15 bytes or none: 13 before 2, and nothing is written");
+}
+
+/* What a header says, as it was written. */
+static void header_fields(void)
+{
+    uint8_t header[HEADER], slot[24], before[24];
+    uint64_t fields[FRACTAL_HEAP_HEADER_FIELDS + 2];
+    int i, holds = 1;
+    put_due();
+    check(write_header(due, 23, WIDTH, WIDTH, header, HEADER) == FRACTAL_HEAP_OK, "a header to be read");
+    memset(slot, 0xA5, sizeof slot);
+    memcpy(before, slot, sizeof before);
+    for (i = 0; i < FRACTAL_HEAP_HEADER_FIELDS + 2; i++)
+        fields[i] = UNDEFINED;
+    check(fractal_heap_parse_header(header, HEADER, 0, WIDTH, WIDTH, fields, 25, slot, 15) ==
+                  FRACTAL_HEAP_SLICE_TOO_SHORT &&
+              fractal_heap_parse_header(header, HEADER, 0, WIDTH, WIDTH, fields, 22, slot, 24) ==
+                  FRACTAL_HEAP_SLICE_TOO_SHORT &&
+              fractal_heap_parse_header(header, 7, 0, 3, 3, NULL, 0, slot, 24) == FRACTAL_HEAP_SLICE_TOO_SHORT &&
+              fractal_heap_parse_header(header, HEADER, 0, WIDTH, WIDTH, fields, 25, NULL, 0) ==
+                  FRACTAL_HEAP_SLICE_TOO_SHORT &&
+              memcmp(slot, before, sizeof slot) == 0 && fields[0] == UNDEFINED && fields[22] == UNDEFINED,
+          "a slot of 15 bytes or none, a list of 22 places or none: 13 before all else; both are as they were");
+    check(fractal_heap_parse_header(header, HEADER, 1, WIDTH, WIDTH, fields, 25, slot, 24) ==
+                  FRACTAL_HEAP_INVALID_SIGNATURE &&
+              get(slot, 8) == 0 && get(slot + 8, 8) == 0 && memcmp(slot + 16, before + 16, 8) == 0 &&
+              fractal_heap_parse_header(header, 40, 0, WIDTH, WIDTH, fields, 25, slot, 24) ==
+                  FRACTAL_HEAP_UNEXPECTED_EOF &&
+              get(slot, 8) == 70 && get(slot + 8, 8) == 40 && fields[0] == UNDEFINED && fields[1] == UNDEFINED,
+          "a header that is refused: its number, two numbers in the slot; the list is as it was");
+    check(fractal_heap_parse_header(header, HEADER, 0, WIDTH, WIDTH, fields, 25, slot, 24) == FRACTAL_HEAP_OK &&
+              get(slot, 8) == 0 && get(slot + 8, 8) == 0 && memcmp(slot + 16, before + 16, 8) == 0 &&
+              fields[23] == UNDEFINED && fields[24] == UNDEFINED,
+          "a header that is accepted: two zeros in the slot; places behind its fields as they were");
+    for (i = 0; i < FRACTAL_HEAP_HEADER_FIELDS; i++)
+        holds = holds && fields[i] == due[i];
+    check(holds, "every field of a header at its place");
+    check(fractal_heap_parse_header(file, FILE_LEN, AT, WIDTH, WIDTH, fields, 23, slot, 16) == FRACTAL_HEAP_OK &&
+              fields[FRACTAL_HEAP_HEAP_ID_LENGTH] == 8 && fields[FRACTAL_HEAP_FLAGS] == 2 &&
+              fields[FRACTAL_HEAP_BTREE_HUGE_OBJECTS_ADDRESS] == UNDEFINED &&
+              fields[FRACTAL_HEAP_FREE_SPACE_MANAGED_BLOCKS] == START - BLOCK_HEADER - sizeof OBJECT &&
+              fields[FRACTAL_HEAP_MANAGED_SPACE_IN_HEAP] == START &&
+              fields[FRACTAL_HEAP_MANAGED_OBJECTS_COUNT] == 1 && fields[FRACTAL_HEAP_TABLE_WIDTH] == 4 &&
+              fields[FRACTAL_HEAP_MAX_HEAP_SIZE] == 40 && fields[FRACTAL_HEAP_ROOT_BLOCK_ADDRESS] == ROOT &&
+              fields[FRACTAL_HEAP_CURRENT_ROWS_IN_ROOT_INDIRECT_BLOCK] == 0,
+          "the fields of the heap's header by their names");
+    check(fractal_heap_parse_header(NULL, 0, AT, WIDTH, WIDTH, fields, 23, slot, 16) == FRACTAL_HEAP_UNEXPECTED_EOF &&
+              get(slot, 8) == AT + 5 && get(slot + 8, 8) == 0,
+          "no file has no header: 1 with the end of signature and version");
+}
+
 /* In it the plan begins as many bytes behind the start as its alignment says. */
 struct behind_a_byte {
     uint8_t byte;
@@ -385,6 +538,77 @@ static void layout(void)
           "one byte more: in the fifth block, and blocks and objects are counted apart");
 }
 
+/* Opens a plan at this place, which holds whatever was there: the number of the refusal, or 0. Where C's ABI is System
+ * V's for x86-64, a struct of this size is handed back at an address that is passed before the parameters, and so the
+ * library itself writes to the place; else a copy is put there. */
+static uint32_t open_at(uint8_t *place, uint8_t offset_size, uint8_t *slot, size_t slot_len)
+{
+#if defined __x86_64__ && !defined _WIN32
+    typedef void *handed_back(void *, uint8_t, uint8_t *, size_t);
+    handed_back *open = (handed_back *)(void (*)(void))fractal_heap_open_plan;
+    check(open(place, offset_size, slot, slot_len) == place, "what opening hands back is at the place that was passed");
+#else
+    struct fractal_heap_opened_plan opened = fractal_heap_open_plan(offset_size, slot, slot_len);
+    memcpy(place, &opened, sizeof opened);
+#endif
+    return (uint32_t)get(place, 4);
+}
+
+/* Whether the bytes in front of a place and behind so many are all the mark. */
+static int marked(const uint8_t *all, size_t len, const uint8_t *place, size_t taken, uint8_t mark)
+{
+    int holds = 1;
+    for (size_t i = 0; i < len; i++)
+        holds = holds && ((all + i >= place && all + i < place + taken) || all[i] == mark);
+    return holds;
+}
+
+/* The struct in the compiled library is as large as the header says: amid marked bytes all calls write to it up to its
+ * last byte, and to none around it; and no larger alignment is needed, since of the two addresses one is no multiple of
+ * 16. */
+static void marked_bytes(void)
+{
+    static const uint8_t marks[] = {0xA5, 0x5A};
+    static const size_t opened_size = sizeof(struct fractal_heap_opened_plan);
+    static uint64_t words[51]; /* 20 before the place, or 21, and as many behind it */
+    static const size_t objects_at =
+            offsetof(struct fractal_heap_opened_plan, plan) + offsetof(struct fractal_heap_plan, objects);
+    uint8_t *all = (uint8_t *)words, slot[16];
+    check(opened_size == 8 + FRACTAL_HEAP_PLAN_SIZE && objects_at + 8 == opened_size &&
+              offsetof(struct fractal_heap_opened_plan, plan) == 8,
+          "what opening hands back has 80 bytes, and the last eight count the objects");
+    for (size_t i = 0; i < 4; i++) {
+        uint8_t mark = marks[i / 2], *place = all + 8 * (20 + i % 2);
+        struct fractal_heap_plan *plan = (struct fractal_heap_plan *)(place + 8);
+        uint64_t totals[FRACTAL_HEAP_PLAN_TOTALS];
+        int holds;
+
+        memset(words, mark, sizeof words);
+        check(open_at(place, 3, slot, 16) == FRACTAL_HEAP_INVALID_OFFSET_SIZE && get(slot, 8) == 3 &&
+                  marked(all, sizeof words, place, opened_size, mark),
+              "a plan that is refused, amid marked bytes");
+        memset(words, mark, sizeof words);
+        check(open_at(place, 8, slot, 15) == FRACTAL_HEAP_SLICE_TOO_SHORT &&
+                  marked(all, sizeof words, place, opened_size, mark),
+              "one for which the slot is too short");
+        memset(words, mark, sizeof words);
+        check(open_at(place, 8, slot, 16) == FRACTAL_HEAP_OK && place[8] == 8 &&
+                  get(place + objects_at, 8) == 0 && marked(all, sizeof words, place, opened_size, mark),
+              "a plan that is opened: written to its last byte, and nothing around it");
+
+        memset(all, mark, (size_t)(place + 8 - all)); /* the number, too */
+        holds = add(plan, 1002) == FRACTAL_HEAP_OK && first == 22 &&
+                add(plan, 65515) == FRACTAL_HEAP_OBJECT_TOO_LARGE && add(plan, 1) == FRACTAL_HEAP_OK && first == 1046 &&
+                get(place + objects_at, 8) == 2;
+        check(holds && marked(all, sizeof words, place + 8, FRACTAL_HEAP_PLAN_SIZE, mark),
+              "additions write to the plan's last byte, and nothing around it");
+        check(fractal_heap_plan_totals(plan, totals, FRACTAL_HEAP_PLAN_TOTALS) == FRACTAL_HEAP_OK &&
+                  totals[0] == 2 && totals[6] == 3005 &&
+                  marked(all, sizeof words, place + 8, FRACTAL_HEAP_PLAN_SIZE, mark),
+              "nor do its totals");
+    }
+}
+
 static void plans(void)
 {
     for (int with_refusals = 0; with_refusals < 2; with_refusals++) {
@@ -440,21 +664,52 @@ static void plans_refused(void)
           "totals into ten places: eight are put, the rest is as it was");
 }
 
+/* Writes an ID with a slot of 16 bytes, whose numbers go to `first` and `second`. */
+static uint32_t write_id(uint64_t offset, uint64_t size, uint8_t *id, size_t id_len)
+{
+    uint8_t slot[16];
+    uint32_t number;
+    memset(slot, 0xA5, sizeof slot);
+    number = fractal_heap_write_managed_id(offset, size, id, id_len, slot, sizeof slot);
+    first = get(slot, 8);
+    second = get(slot + 8, 8);
+    return number;
+}
+
 /* IDs of what was planned. */
 static void planned_ids(void)
 {
     static const uint8_t worked[8] = {0x00, 0x16, 0x20, 0x00, 0x00, 0x00, 0xEB, 0x03};
-    uint8_t id[8], before[8];
-    check(fractal_heap_put_managed_id(id, 8214, 1003) == FRACTAL_HEAP_OK && memcmp(id, worked, 8) == 0,
-          "offset 8214, length 1003 is ID 00 16 20 00 00 00 EB 03");
-    check(fractal_heap_put_managed_id(id, ((uint64_t)1 << 40) - 1, 65535) == FRACTAL_HEAP_OK &&
-              get(id, 8) == UINT64_MAX - 255,
+    static const uint64_t end = (uint64_t)1 << 40, kept = 0xA5A5A5A5A5A5A5A5;
+    uint8_t id[11], before[11], slot[24], slot_before[24];
+    for (int i = 0; i < 11; i++)
+        id[i] = before[i] = (uint8_t)(0xC0 + i);
+    check(answers(write_id(8214, 1003, id, 11), FRACTAL_HEAP_OK, 0, 0) && memcmp(id, worked, 8) == 0 &&
+              memcmp(id + 8, before + 8, 3) == 0,
+          "offset 8214, length 1003 is ID 00 16 20 00 00 00 EB 03, and bytes behind it are as they were");
+    check(answers(write_id(end - 1, 65535, id, 8), FRACTAL_HEAP_OK, 0, 0) && get(id, 8) == UINT64_MAX - 255,
           "the largest offset and length");
-    memcpy(before, id, 8);
-    check(fractal_heap_put_managed_id(id, (uint64_t)1 << 40, 0) == FRACTAL_HEAP_HEAP_ID_TOO_LARGE &&
-              fractal_heap_put_managed_id(id, 22, 65536) == FRACTAL_HEAP_HEAP_ID_TOO_LARGE &&
-              memcmp(id, before, 8) == 0,
-          "offset 2^40, length 2^16: 16, and nothing is put");
+    memcpy(before, id, 11);
+    check(answers(write_id(end, 0, id, 8), FRACTAL_HEAP_HEAP_ID_TOO_LARGE, end, 0) &&
+              answers(write_id(22, 65536, id, 8), FRACTAL_HEAP_HEAP_ID_TOO_LARGE, 22, 65536) &&
+              answers(write_id(UINT64_MAX, UINT64_MAX, NULL, 0), FRACTAL_HEAP_HEAP_ID_TOO_LARGE, UINT64_MAX,
+                      UINT64_MAX) &&
+              memcmp(id, before, 11) == 0,
+          "offset 2^40, length 2^16, and both before a short ID: 16 with them, and no ID");
+    check(answers(write_id(22, 1, id, 7), FRACTAL_HEAP_SLICE_TOO_SHORT, kept, kept) &&
+              answers(write_id(22, 1, NULL, 0), FRACTAL_HEAP_SLICE_TOO_SHORT, kept, kept) &&
+              memcmp(id, before, 11) == 0,
+          "an ID of seven bytes or none: 13, and neither ID nor slot is written");
+    for (int i = 0; i < 24; i++)
+        slot[i] = slot_before[i] = (uint8_t)(0xA0 + i);
+    check(fractal_heap_write_managed_id(22, 1, id, 8, slot, 15) == FRACTAL_HEAP_SLICE_TOO_SHORT &&
+              fractal_heap_write_managed_id(end, 0, id, 8, slot, 15) == FRACTAL_HEAP_SLICE_TOO_SHORT &&
+              fractal_heap_write_managed_id(22, 1, id, 8, NULL, 0) == FRACTAL_HEAP_SLICE_TOO_SHORT &&
+              memcmp(id, before, 11) == 0 && memcmp(slot, slot_before, 24) == 0,
+          "a slot of 15 bytes or none: 13, before 16, and nothing is written");
+    check(fractal_heap_write_managed_id(22, 1, id, 8, slot, 24) == FRACTAL_HEAP_OK && get(slot, 8) == 0 &&
+              get(slot + 8, 8) == 0 && memcmp(slot + 16, slot_before + 16, 8) == 0,
+          "a slot of 24 bytes: two zeros in 16, the rest as it was");
 }
 
 /* No bytes at no address: one by one, and all together. */
@@ -485,11 +740,15 @@ int main(void)
     refused(id);
     slots(id);
     id_lengths(id);
+    header_written();
+    header_refused();
+    header_fields();
     superblocks();
     user_block(id);
     nulls(fractal_heap_decode_managed_id, id);
     nulls(fractal_heap_read_managed_object, id);
     layout();
+    marked_bytes();
     plans();
     plans_refused();
     planned_ids();

@@ -23,7 +23,7 @@ static uint8_t *memory(size_t len)
     return bytes;
 }
 
-static uint8_t *whole_file(const char *name, size_t *len)
+static inline uint8_t *whole_file(const char *name, size_t *len)
 {
     FILE *from = fopen(name, "rb");
     if (!from || fseek(from, 0, SEEK_END))

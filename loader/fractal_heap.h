@@ -1,6 +1,6 @@
-/* The loader's interface to the fractal heap: the six functions of the library fractal_heap_c
+/* The loader's interface to the fractal heap: the nine functions of the library fractal_heap_c
  * (loader/static_libraries fractal_heap_c, target/staticlib/libfractal_heap_c.a), and three short ones that stand
- * here whole: where a file's superblock is, how long a heap's IDs are, and the ID of an object that was planned.
+ * here whole: where a file's superblock is, how long a heap's IDs are, and how long a header is.
  *
  * A file that is lent begins at its superblock. HDF5's addresses count from there: in a file with a user block
  * that is 512, 1,024, 2,048 .. bytes after the file's start. Lent from its start, such a file gives other bytes
@@ -30,8 +30,9 @@ extern "C" {
 #endif
 
 /* What the functions answer, but for the checksum and the length of IDs: 0, or why they refuse. Behind each number are
- * its two values, which go into the slot where a function takes one. Those that read give 0 to 10 and 13; an open plan gives 0, 2 and 11 to 13, an ID that
- * is written 0 and 16; 14 and 15 are those of writing, in the same table. */
+ * its two values, which go into the slot where a function takes one. Those that read give 0 to 10 and 13; an open plan
+ * gives 0, 2 and 11 to 13, the writer of IDs 0, 13 and 16, that of headers 0, 2, 3, 8, 13 and 17; 14 and 15 are those
+ * of writing a region, in the same table. */
 enum fractal_heap_number {
     FRACTAL_HEAP_OK = 0,                                /* the answer's own */
     FRACTAL_HEAP_UNEXPECTED_EOF = 1,                    /* expected end (at most 2^64 - 1), available */
@@ -46,10 +47,11 @@ enum fractal_heap_number {
     FRACTAL_HEAP_DEPTH_EXCEEDED = 10,                   /* 64, 0 */
     FRACTAL_HEAP_OBJECT_TOO_LARGE = 11,                 /* index, size */
     FRACTAL_HEAP_HEAP_SPACE_EXHAUSTED = 12,             /* index, 0 */
-    FRACTAL_HEAP_SLICE_TOO_SHORT = 13,                  /* needed, lent; for a slot: nothing is put */
+    FRACTAL_HEAP_SLICE_TOO_SHORT = 13,                  /* of a slot, a list, an ID or a header: nothing is put */
     FRACTAL_HEAP_OBJECT_BYTES_MISMATCH = 14,            /* sum of the sizes, bytes given */
     FRACTAL_HEAP_ADDRESS_TOO_LARGE = 15,                /* header address, 0; or region address, region size */
-    FRACTAL_HEAP_HEAP_ID_TOO_LARGE = 16                 /* offset, length */
+    FRACTAL_HEAP_HEAP_ID_TOO_LARGE = 16,                /* offset, length */
+    FRACTAL_HEAP_HEADER_FIELD_TOO_LARGE = 17            /* the field's place in header order, its value */
 };
 
 /* A pointer whose length is 0 is not touched and may be NULL. That was seen in the compiled library;
@@ -128,9 +130,73 @@ uint32_t fractal_heap_read_managed_object(const uint8_t *file, size_t file_len, 
                                           const uint8_t *id, size_t id_len,
                                           uint8_t *slot, size_t slot_len);
 
+enum {
+    FRACTAL_HEAP_HEADER_FIELDS = 23     /* 64-bit numbers that a header's fields are */
+};
+
+/* What the heap header at `at` in the file says, as the two functions above find it. Its fields between version and
+ * checksum go into the first 23 places of the list, in header order, which is that of enum fractal_heap_field below;
+ * places behind them keep their content, and two zeros go into the slot. An address is told as it is stored, undefined
+ * where all its offset_size bytes are 0xFF. Refused, the slot gets the refusal's two numbers, and the list keeps its
+ * content. fields_len counts numbers: a slot of fewer than 16 bytes, and then a list of fewer than 23 numbers, gives 13
+ * before all else; neither is written. The list overlaps nothing else that is lent. */
+uint32_t fractal_heap_parse_header(const uint8_t *file, size_t file_len, uint64_t at,
+                                   uint8_t offset_size, uint8_t length_size,
+                                   uint64_t *fields, size_t fields_len,
+                                   uint8_t *slot, size_t slot_len);
+
+/* The place of each field in the list. */
+enum fractal_heap_field {
+    FRACTAL_HEAP_HEAP_ID_LENGTH,                            /* bytes of an ID */
+    FRACTAL_HEAP_IO_FILTER_ENCODED_LENGTH,                  /* bytes of the filters; 0: there are none */
+    FRACTAL_HEAP_FLAGS,                                     /* 1: huge IDs have wrapped; 2: direct blocks have checksums */
+    FRACTAL_HEAP_MAX_MANAGED_OBJECT_SIZE,                   /* bytes */
+    FRACTAL_HEAP_NEXT_HUGE_OBJECT_ID,                       /* a number */
+    FRACTAL_HEAP_BTREE_HUGE_OBJECTS_ADDRESS,                /* address of the index of huge objects */
+    FRACTAL_HEAP_FREE_SPACE_MANAGED_BLOCKS,                 /* bytes */
+    FRACTAL_HEAP_MANAGED_BLOCK_FREE_SPACE_MANAGER_ADDRESS,  /* address */
+    FRACTAL_HEAP_MANAGED_SPACE_IN_HEAP,                     /* bytes */
+    FRACTAL_HEAP_ALLOCATED_MANAGED_SPACE_IN_HEAP,           /* bytes */
+    FRACTAL_HEAP_DIRECT_BLOCK_ALLOCATION_ITERATOR_OFFSET,   /* a heap offset, in bytes */
+    FRACTAL_HEAP_MANAGED_OBJECTS_COUNT,                     /* objects */
+    FRACTAL_HEAP_HUGE_OBJECTS_SIZE,                         /* bytes */
+    FRACTAL_HEAP_HUGE_OBJECTS_COUNT,                        /* objects */
+    FRACTAL_HEAP_TINY_OBJECTS_SIZE,                         /* bytes */
+    FRACTAL_HEAP_TINY_OBJECTS_COUNT,                        /* objects */
+    FRACTAL_HEAP_TABLE_WIDTH,                               /* blocks in a row */
+    FRACTAL_HEAP_STARTING_BLOCK_SIZE,                       /* bytes */
+    FRACTAL_HEAP_MAX_DIRECT_BLOCK_SIZE,                     /* bytes */
+    FRACTAL_HEAP_MAX_HEAP_SIZE,                             /* bits of a heap offset */
+    FRACTAL_HEAP_START_ROOT_ROWS,                           /* rows of a new root; 0: as many as there can be */
+    FRACTAL_HEAP_ROOT_BLOCK_ADDRESS,                        /* address */
+    FRACTAL_HEAP_CURRENT_ROWS_IN_ROOT_INDIRECT_BLOCK        /* rows; 0: the root is a direct block */
+};
+
+/* How many bytes a header without filters has in a file with these two sizes. */
+static inline size_t fractal_heap_header_length(uint8_t offset_size, uint8_t length_size)
+{
+    return 26 + 12 * (size_t)length_size + 3 * (size_t)offset_size;
+}
+
+/* Writes the header of a heap without filters: its fields are the first 23 numbers of the list, in the order of enum
+ * fractal_heap_field, and numbers behind them are not read. The header, from its signature to its checksum, goes into
+ * the first bytes of `bytes`; bytes behind it keep their content. Returns 0, with the header's length and its checksum
+ * in the slot. What it writes is what fractal_heap_parse_header reads: every accepted list comes back number by number,
+ * and every header without filters that parses is written byte for byte as it was.
+ *
+ * A slot of fewer than 16 bytes, and then a list of fewer than 23 numbers, gives 13 before all else. Then come 2 and 3,
+ * the two sizes; 8 where the length of the filters is not 0; 17, the first field that its width cannot hold, with its
+ * place in the list and its number; and 13 where bytes_len is below the header's length. The numbers are tested as they
+ * are: an undefined address is all ones in offset_size bytes, so that 2^64 - 1 gives 17 at 2 and 4. Refused, the bytes
+ * keep their content, and after 13 the slot, too. fields_len counts numbers. Bytes, slot and list overlap nothing. */
+uint32_t fractal_heap_write_header(const uint64_t *fields, size_t fields_len,
+                                   uint8_t offset_size, uint8_t length_size,
+                                   uint8_t *bytes, size_t bytes_len,
+                                   uint8_t *slot, size_t slot_len);
+
 /* An open plan: objects are added to it one by one, in the order in which they will be written, and each has its
  * heap offset, and so its ID, at once. It is at any time the plan of the sizes that were accepted so far, and these
- * need not be kept: an offset that was given stays the object's in every longer list.
+ * need not be kept: an offset that was given stays the object's in every longer list, and so does its ID.
  *
  *     struct fractal_heap_opened_plan opened = fractal_heap_open_plan(8, slot, 16);
  *     if (opened.number != FRACTAL_HEAP_OK)
@@ -206,21 +272,14 @@ uint32_t fractal_heap_plan_add(struct fractal_heap_plan *plan, uint64_t size, ui
  * them keep their content. totals_len counts numbers; a list of fewer than eight gives 13 and is not written. */
 uint32_t fractal_heap_plan_totals(const struct fractal_heap_plan *plan, uint64_t *totals, size_t totals_len);
 
-/* Puts the ID of an object of `size` bytes at a heap offset into eight bytes: 0, the offset in five bytes, the size
- * in two. Returns 0; or 16 where the offset is not below 2^40 or the size not below 2^16, and then nothing is put.
+/* Writes the ID of an object of `size` bytes at a heap offset into the first eight bytes of `id`: 0, the offset in
+ * five bytes, the size in two; bytes behind them keep their content. Returns 0, with 0 and 0 in the slot; 16 where the
+ * offset is not below 2^40 or the size not below 2^16, with both in the slot; or 13 where id_len is below 8, and then
+ * nothing is put into the slot. A slot of fewer than 16 bytes gives 13 before all else and is not written. Refused, the
+ * ID's bytes stay as they are. ID and slot must not overlap.
  * Adding accepts an object without bytes at heap offset 2^40, the end of the heap space: that one has no ID. */
-static inline uint32_t fractal_heap_put_managed_id(uint8_t *id, uint64_t offset, uint64_t size)
-{
-    int i;
-    if (offset >> 40 != 0 || size >> 16 != 0)
-        return FRACTAL_HEAP_HEAP_ID_TOO_LARGE;
-    id[0] = 0;
-    for (i = 0; i < 5; i++)
-        id[1 + i] = (uint8_t)(offset >> 8 * i);
-    for (i = 0; i < 2; i++)
-        id[6 + i] = (uint8_t)(size >> 8 * i);
-    return FRACTAL_HEAP_OK;
-}
+uint32_t fractal_heap_write_managed_id(uint64_t offset, uint64_t size, uint8_t *id, size_t id_len,
+                                       uint8_t *slot, size_t slot_len);
 
 #ifdef __cplusplus
 }

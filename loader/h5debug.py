@@ -46,16 +46,24 @@ def check_header(name, heap):
         "Number of managed objects in heap": heap.managed_count,
         "Address of free space manager for managed blocks": wide(heap.image, heap.space_manager),
         "Max. size of managed object": heap.largest_object,
+        "'Huge' object space used": heap.huge_size,
         "Number of 'huge' objects in heap": heap.huge_count,
+        "ID of next 'huge' object": heap.next_huge,
+        "Address of v2 B-tree for 'huge' objects": wide(heap.image, heap.huge_tree),
+        "'Tiny' object space used": heap.tiny_size,
         "Number of 'tiny' objects in heap": heap.tiny_count,
         "Doubling table width": heap.width,
         "Starting block size": heap.start,
         "Max. direct block size": heap.largest_direct,
         "Max. index size": heap.bits,
+        "Starting # of rows in root indirect block": heap.start_rows,
         "Table's root address": wide(heap.image, heap.root),
         "Current # of rows in root indirect block": heap.rows,
     }
-    hold(told(name, heap.address), fields)
+    text = told(name, heap.address)
+    hold(text, fields)
+    wrapped = re.search(r"^'Huge' object IDs have wrapped: +(TRUE|FALSE)$", text, re.MULTILINE)
+    expect(wrapped and (wrapped[1] == "TRUE") == bool(heap.flags & 1), f"huge IDs have wrapped: {wrapped}")
 
 
 def check_indirect(name, heap, address, offset, rows):

@@ -31,12 +31,46 @@ HEADER_FIELDS = [  # of a fractal heap, after signature and version: name, and w
     ("root", "address"),
     ("rows", 2),
 ]
+FIELD_NAMES = [  # what our library and the command call these fields, in the same order
+    "heap_id_length",
+    "io_filter_encoded_length",
+    "flags",
+    "max_managed_object_size",
+    "next_huge_object_id",
+    "btree_huge_objects_address",
+    "free_space_managed_blocks",
+    "managed_block_free_space_manager_address",
+    "managed_space_in_heap",
+    "allocated_managed_space_in_heap",
+    "direct_block_allocation_iterator_offset",
+    "managed_objects_count",
+    "huge_objects_size",
+    "huge_objects_count",
+    "tiny_objects_size",
+    "tiny_objects_count",
+    "table_width",
+    "starting_block_size",
+    "max_direct_block_size",
+    "max_heap_size",
+    "start_root_rows",
+    "root_block_address",
+    "current_rows_in_root_indirect_block",
+]
 
 
 def expect(holds, what):
     """Like assert, and also there under python -O."""
     if not holds:
         raise AssertionError(what)
+
+
+def told_fields(fields, position, offset_size, length_size):
+    """What the command has to tell of a header with these numbers, in header order, as an object of JSON."""
+    undefined = (1 << 8 * offset_size) - 1
+    told = {"position": position, "offset_size": offset_size, "length_size": length_size}
+    for name, (_, kind), number in zip(FIELD_NAMES, HEADER_FIELDS, fields):
+        told[name] = None if kind == "address" and number == undefined else number
+    return told
 
 
 class Cursor:

@@ -2,11 +2,12 @@
     real_files.py READ_OBJECTS FOLDER
 h5py writes files with densely stored attributes and links into the folder. hdf5_format.py finds the heap
 IDs and where the objects must lie, hdf5_messages.py rebuilds the bytes that must lie there.
-READ_OBJECTS is the program of read_objects.c; that of read_file.c is beside it."""
+READ_OBJECTS is the program of read_objects.c; those of read_file.c and write_header.c are beside it."""
 
 import collections
 import ctypes
 import itertools
+import json
 import os
 import random
 import shutil
@@ -23,6 +24,7 @@ import hdf5_heaps
 from hdf5_format import expect
 from hdf5_messages import due_messages
 from made_files import WIDTHS, created, is_known, some_size, some_value
+from written_headers import written_header
 
 TYPES = ["managed", "huge", "tiny"]  # of heap IDs
 COMMAND = "target/poilures"  # where it is built, some objects are read by it, too
@@ -165,6 +167,46 @@ def check_index(program, name, heap, tree, due, counts):
     return ids
 
 
+def told_headers(name, *words):
+    """What the command tells of the headers in a file."""
+    run = subprocess.run([COMMAND, "header", "--json", "--quiet", name, *words], capture_output=True, text=True)
+    expect(run.returncode == 0, f"headers of {name}: {run}")
+    return [json.loads(line) for line in run.stdout.splitlines()]
+
+
+def told_of(heap, before=0):
+    """What has to be told of a heap's header, before which there is a user block of so many bytes."""
+    fields = [getattr(heap, field) for field, _ in form.HEADER_FIELDS]
+    return form.told_fields(fields, heap.address + before, heap.image.offset_size, heap.image.length_size)
+
+
+def check_fields(program, name, heap, counts):
+    """All fields of a header, from C and by the command."""
+    fields = [getattr(heap, field) for field, _ in form.HEADER_FIELDS]
+    told = ask(program, name, heap.image, heap.address, [b"\0"], "header")
+    expect(told == [(0, *fields)], f"{told}, not {fields}")
+    counts["headers from C"] += 1
+    stored = heap.image.data[heap.address : heap.address + form.header_length(heap.image)]
+    expect(written_header(program, heap.image, told[0][1:]) == stored, "a header is written as it was read")
+    counts["headers written back"] += 1
+    if os.path.exists(COMMAND):
+        told = told_headers(name, str(heap.address))
+        expect(told == [told_of(heap)], f"{told}, not {told_of(heap)}")
+    for kind in ("huge", "tiny"):
+        size, count = getattr(heap, f"{kind}_size"), getattr(heap, f"{kind}_count")
+        expect((size > 0) == (count > 0), f"size and count of {kind} objects")
+        counts[f"headers with {kind}"] += count > 0
+
+
+def check_all_headers(name, heaps, counts):
+    """Every heap's header is among those that the command finds, and it tells the same of it."""
+    told = {header["position"]: header for header in told_headers(name)}
+    expect(list(told) == sorted(told), "headers in their order")
+    for heap in heaps:
+        expect(told.get(heap.address) == told_of(heap), f"the header at {heap.address}")
+    counts["headers found"] += len(told)
+
+
 def check_heap(program, name, image, owner, kind, counts):
     """The heap of an object's links or attributes, by each of its indexes; None if there is none."""
     dense = form.dense_storage(image, h5o.get_info(owner).addr, kind)
@@ -173,6 +215,7 @@ def check_heap(program, name, image, owner, kind, counts):
     address, trees = dense
     heap = form.Heap(image, address)
     expect(heap.largest_object == 4096 or not is_known(), "the largest managed object")
+    check_fields(program, name, heap, counts)
     for tree, due in zip(trees, due_messages(image, owner, kind)):
         ids = check_index(program, name, heap, form.BTree(image, tree), due, counts)
     heap.ids = [heap_id for heap_id in ids if heap_id[0] >> 4 & 3 == 0]
@@ -197,7 +240,10 @@ def check_file(program, name, counts):
             for kind in (form.ATTRIBUTE_INFO, form.LINK_INFO):
                 heaps.append(check_heap(program, name, image, owner, kind, counts))
     counts["files"] += 1
-    return [heap for heap in heaps if heap]
+    heaps = [heap for heap in heaps if heap]
+    if os.path.exists(COMMAND):
+        check_all_headers(name, heaps, counts)
+    return heaps
 
 
 # Files with a user block, which is before the superblock: addresses count from there
@@ -242,6 +288,14 @@ def check_command_behind(name, block, heap, heap_id, due):
         expect("field" not in said and "open" not in said, said)
 
 
+def check_header_behind(name, block, heap):
+    """The header is told by its position, by its address, and among all."""
+    due = told_of(heap, block)
+    for place in ([str(heap.address + block)], [str(heap.address), "--address"]):
+        expect(told_headers(name, *place) == [due], f"the header at {place} behind a user block")
+    expect(due in told_headers(name), "headers behind a user block")
+
+
 def check_example(program, name, heap, objects):
     """An example, in C or in Rust, which is told the heap's address alone, prints each object's bytes, and nothing by an
     ID that was cut short."""
@@ -265,6 +319,8 @@ def check_behind(programs, name, block, image, owner, kind, counts):
     for heap_id, due in objects if os.path.exists(COMMAND) else []:
         check_command_behind(name, block, heap, heap_id, due)
         counts["behind"] += 1
+    if os.path.exists(COMMAND):
+        check_header_behind(name, block, heap)
     if shutil.which("h5debug"):
         h5debug.check_header(name, heap)
 
@@ -462,6 +518,12 @@ def report(counts, numbers, filtered, own):
     )
     debugged = f"{counts['h5debug']} headers as it tells them"
     print(f"real files: h5debug: {debugged if counts['h5debug'] else 'skipped, it is not at hand'}")
+    commanded = f"by the command {counts['headers found']}" if counts["headers found"] else "the command is not built"
+    print(
+        f"real files: headers, each field: from C {counts['headers from C']}, {counts['headers with huge']} with huge "
+        f"and {counts['headers with tiny']} with tiny objects; {commanded}"
+    )
+    print(f"real files: headers written back as they were read: {counts['headers written back']}, byte for byte")
     commanded = f"{counts['command']} objects, {counts['behind']} behind user blocks"
     print(f"real files: read by the command: {commanded if counts['command'] else 'skipped, it is not built'}")
     rust = f"{counts['behind in Rust']}" if counts["behind in Rust"] else "skipped, there is no cargo"
@@ -487,6 +549,7 @@ def main():
         os.remove(name)
     for due in [(2, 0), (2, 1)] + [(width, depth) for width in (4, 8) for depth in range(4)]:
         expect(due in depths, f"no heap of offset size and depth {due}")
+    expect(counts["headers with huge"] and counts["headers with tiny"], "no huge or no tiny objects")
     programs = {"C": os.path.join(os.path.dirname(program), "read_file")}
     if os.path.exists(RUST_EXAMPLE):
         programs["Rust"] = RUST_EXAMPLE

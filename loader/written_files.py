@@ -1,12 +1,13 @@
-"""Lets HDF5's own library and tools judge the blocks and IDs that our writers write.
+"""Lets HDF5's own library and tools judge the headers, blocks and IDs that our writers write.
     written_files.py WRITE_REGION FOLDER
 h5py writes files with densely stored attributes into the folder. In a copy of each file our writer writes
-the objects of every attribute heap anew, in another order and at another place; the indexes get the IDs
-that our writer of IDs writes, all else that leads there is set as the format has it, and the old blocks are
-overwritten. Then h5py must read what was put in, by our IDs, h5dump must print what it prints of the file
-as it was, h5debug must tell our numbers, HDF5 must go on with the file where our blocks leave off, a block
-with one bit changed must be refused, and with two IDs exchanged neither attribute must be found.
-WRITE_REGION is the program of write_region.c."""
+the objects of every attribute heap anew, in another order and at another place; our writer of headers writes
+the heap's header, the indexes get the IDs that our writer of IDs writes, all else that leads there is set as
+the format has it, and the old blocks and headers are overwritten. Then h5py must read what was put in, by
+our IDs, h5dump must print what it prints of the file as it was, h5debug must tell our numbers, HDF5 must go
+on with the file where our blocks leave off, a block with one bit changed must be refused, and with two IDs
+exchanged neither attribute must be found.
+WRITE_REGION is the program of write_region.c; that of write_header.c is beside it."""
 
 import collections
 import os
@@ -24,6 +25,7 @@ import hdf5_format as form
 from hdf5_format import expect
 from hdf5_messages import little
 from made_files import WIDTHS, created, is_known, some_size, some_value
+from written_headers import written_header
 
 GEOMETRY = 4, 1024, 65536, 40  # width, starting block, largest direct block, bits of a heap offset
 JUNK = b"\xee"
@@ -245,15 +247,16 @@ class Copy:
 
 
 def spoil_old(copy, dense):
-    """Overwrites the old blocks, and the huge objects that are taken."""
+    """Overwrites the old header and blocks, and the huge objects that are taken."""
     spans = [(address, size) for _, size, address, _ in dense.heap.blocks]
     spans += [(address, dense.heap.indirect_size(rows)) for address, _, rows, _ in dense.heap.indirects]
+    spans += [(dense.heap.address, form.header_length(dense.heap.image))]
     for start, length in spans + list(dense.places.values()):
         copy.spoil(start, length)
 
 
 def header_values(dense, written):
-    """The fields of the header that lead to the new blocks."""
+    """The fields of the header that are others than they were: those that lead to the new blocks."""
     heap = dense.heap
     values = {name: number for name, number in written.totals.items() if name in heap.fields}
     values["root"] = written.at + written.totals["root_place"]
@@ -297,9 +300,10 @@ def write_anew(program, folder, copy, dense, draw):
     copy.data += JUNK * draw.randrange(8)
     written = write_region(program, folder, objects, heap.image.offset_size, len(copy.data), heap.address)
     copy.data += written.region
-    for name, value in header_values(dense, written).items():
-        copy.set(heap.fields[name][0], value, heap.fields[name][1])
-    copy.seal(heap.address, heap.address + form.header_length(heap.image) - 4)
+    values = header_values(dense, written)
+    fields = [values.get(name, getattr(heap, name)) for name, _ in form.HEADER_FIELDS]
+    header = written_header(program, heap.image, fields)
+    copy.data[heap.address : heap.address + len(header)] = header
     new_ids = dict(zip(ids, written.ids))
     for tree in dense.trees:
         set_ids(copy, tree, new_ids)
@@ -598,6 +602,7 @@ def check_file(program, folder, made, tools, counts):
             counts["blocks"] += check_debug(name, dense, made.draw)
         check_damages(name, dense, made, tools, counts)
         counts[KINDS[min(dense.heap.depth, 2)]] += 1
+        counts["headers"] += 1
     counts["went on"] += check_going_on(name, made)
     counts["files"] += 1
     os.remove(made.name)
@@ -609,6 +614,7 @@ def report(counts, tools):
     """Prints what was met; the last line is the sum."""
     heaps = ", ".join(f"{counts[kind]} {kind}" for kind in KINDS)
     print(f"written files: heaps: {heaps}; HDF5 went on with all files: {counts['went on']} attributes")
+    print(f"written files: headers that our writer wrote: {counts['headers']}, of these heaps")
     print(
         f"written files: HDF5 went by {counts['ids']} IDs that our writer wrote; with two of them exchanged, "
         f"in {counts['exchanged']} heaps, it finds neither attribute"

@@ -60,20 +60,43 @@ Examples, one after another:
 
 const IDS_MORE: &str = "\
 Each line has the size of an object in bytes; the objects are in the order in which
-they will be written. An object's line, its heap offset and its ID, is printed before the
-next size is read, and both stay the object's whatever follows. The sizes are not kept.
+they will be written. Each line of the input, the last one without an end too, has one
+line on standard output, which is printed before the next one is read: the heap offset, a
+space, and the ID. Both stay the object's whatever follows. The sizes are not kept.
 
-A size that is refused has the refusal on its line and makes no object: what follows is
-placed as without it. An empty object at the end of the heap space, at heap offset
-2^40, is an object, but has no ID: its line has the offset and the refusal. A line that is
-no number is told on standard error, with which line it is, and has none on standard
-output. An empty line is none, either.
+Where there is none, - stands in its column, and why in a third one; why in words, and
+which line it is, is told on standard error:
+  22 00:16:00:00:00:00:1C:00     an object
+  - - refused by 11              a size that is refused; it makes no object, and
+                                 what follows is placed as without it
+  1099511627776 - refused by 16  an empty object at the end of the heap space,
+                                 at heap offset 2^40, which no ID holds
+  - - no number                  a line that is no number, an empty one too
 
-Exit status: 2 where a line is no number, else 1 where one has a refusal.
+Exit status: 0 every line has its ID; 1 a line is refused; 2 a line is no number, which
+goes before 1, or wrong use, or standard input cannot be read: then what was planned so
+far is told.
 
 Examples:
   printf '28\\n' | PROGRAM ids
   printf '28\\n' | PROGRAM ids --offset-size 4";
+
+const HEADER_MORE: &str = "\
+Without PLACE every header in the file is told whose signature and checksum hold, each
+with its position; the blocks behind it are not looked at. With PLACE a header that is
+damaged is refused, and nothing is printed.
+
+Sizes are in bytes. Addresses are told as they are stored, none where they are undefined;
+where the base is not 0, the position in the file is told beside them. --json prints
+one line for each header, with the fields by their names, as heap_id_length, undefined
+addresses as null, and position (in the file), offset_size and length_size. Its numbers go
+up to 2^64 - 1: a reader that has doubles for numbers cuts those above 2^53.
+
+Examples, one after another:
+  printf 'gauge 7 was replaced at noon' >note
+  PROGRAM write --out heap.image note
+  PROGRAM header heap.image
+  PROGRAM header --json heap.image 0";
 
 const EXPLAIN_MORE: &str = "\
 Examples:
@@ -135,6 +158,7 @@ pub struct Arguments {
 pub enum Subcommands {
     Write(Write),
     Read(Read),
+    Header(Header),
     Ids(Ids),
     Explain(Explain),
     /// Prints what a shell needs to complete this program's words.
@@ -204,12 +228,8 @@ pub struct Read {
     /// Take the IDs from FILE, one a line; - is standard input.
     #[arg(long, value_name = "FILE", conflicts_with = "ids")]
     pub ids_from: Option<OsString>,
-    /// PLACE is an HDF5 address, as HDF5's tools print it, counted from the base.
-    #[arg(long)]
-    pub address: bool,
-    /// Where HDF5's addresses count from [default: where the superblock is, else 0].
-    #[arg(long, value_name = "POSITION", value_parser = number)]
-    pub base: Option<u64>,
+    #[command(flatten)]
+    pub addressing: Addressing,
     /// Take IDs of another length than the heap's.
     #[arg(long)]
     pub any_length: bool,
@@ -232,6 +252,36 @@ pub struct Read {
     /// turned round.
     #[arg(short, long)]
     pub quiet: bool,
+}
+
+/// Prints what the header of a heap says, or of each heap in a file.
+#[derive(Args)]
+#[command(after_help = HEADER_MORE)]
+pub struct Header {
+    /// An HDF5 file, or an image of a heap; - is standard input.
+    pub file: OsString,
+    /// The position of a heap's header in the file [default: every one is sought].
+    #[arg(value_parser = number)]
+    pub place: Option<u64>,
+    #[command(flatten)]
+    pub addressing: Addressing,
+    /// Print a line of JSON for each header.
+    #[arg(long)]
+    pub json: bool,
+    /// Say nothing on standard error but why something fails, and what is wrong with the file.
+    #[arg(short, long)]
+    pub quiet: bool,
+}
+
+/// How a place in a file is given, where addresses count from, and the two sizes.
+#[derive(Args)]
+pub struct Addressing {
+    /// PLACE is an HDF5 address, as HDF5's tools print it, counted from the base.
+    #[arg(long, requires = "place")]
+    pub address: bool,
+    /// Where HDF5's addresses count from [default: where the superblock is, else 0].
+    #[arg(long, value_name = "POSITION", value_parser = number)]
+    pub base: Option<u64>,
     /// Bytes of an address, 2, 4 or 8 [default: the superblock's, else 8].
     #[arg(long, value_name = "BYTES", value_parser = size)]
     pub offset_size: Option<u8>,
@@ -395,6 +445,11 @@ mod tests {
         assert!(parsed(&["read", "f", "0", "00", "--json", "--hex"]).is_err());
         assert!(parsed(&["read", "f", "0", "00", "-o", "x", "--out-dir", "y"]).is_err());
         assert!(parsed(&["read", "f", "0", "00", "--force"]).is_err());
+        assert!(parsed(&["header", "f"]).is_ok());
+        assert!(parsed(&["header", "f", "--address"]).is_err());
+        assert!(parsed(&["header", "f", "0", "--address"]).is_ok());
+        assert!(parsed(&["header", "f", "0", "1"]).is_err());
+        assert!(parsed(&["header"]).is_err());
         assert!(parsed(&["read", "f", "0", "00", "--force", "-o", "x"]).is_ok());
         assert!(parsed(&["read", "f", "0", "00", "--force", "--out-dir", "x"]).is_ok());
         assert!(parsed(&[]).is_err());
@@ -414,7 +469,14 @@ mod tests {
 
     #[test]
     fn no_example_is_wide() {
-        let helps = [EXAMPLES, WRITE_MORE, READ_MORE, IDS_MORE, EXPLAIN_MORE];
+        let helps = [
+            EXAMPLES,
+            WRITE_MORE,
+            READ_MORE,
+            HEADER_MORE,
+            IDS_MORE,
+            EXPLAIN_MORE,
+        ];
         let lines = || helps.iter().flat_map(|help| help.lines());
         for line in lines().filter(|line| line.starts_with("  ")) {
             let columns = line.chars().count();

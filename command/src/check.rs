@@ -1,10 +1,9 @@
 //! What `poilures write` checks when the heap is written: the IDs, the header, and every object by its ID.
 use crate::failure::Failure;
-use crate::library;
 use crate::progress::Progress;
 use crate::talk::Talk;
 use crate::write::{Objects, Written};
-use fractal_heap::{Error, Heap, count, grouped};
+use fractal_heap::{Added, Error, Heap, count, grouped};
 
 fn wrong(words: &str) -> Failure {
     Failure::Not(format!("not as it should be: {words}"))
@@ -29,7 +28,7 @@ pub fn check(
 fn same_ids(heap: &Written, objects: &Objects, talk: &mut Talk) -> Result<(), Failure> {
     let offsets = &heap.lists.offsets;
     for (i, (&offset, &size)) in offsets.iter().zip(&objects.sizes).enumerate() {
-        if library::managed_id(offset, size)? != objects.ids[i] {
+        if (Added { offset, size }).id()? != objects.ids[i] {
             return Err(wrong(&format!(
                 "object {i} has another ID in the whole list"
             )));
@@ -46,17 +45,28 @@ fn same_ids(heap: &Written, objects: &Objects, talk: &mut Talk) -> Result<(), Fa
     Ok(())
 }
 
-/// The header says what it should.
+/// The header that is read says what was written, and that is what the plan's totals are.
 fn check_header(readable: &Heap, heap: &Written, objects: &Objects) -> Result<(), Failure> {
-    let header = library::parse_header(readable)?;
-    let root = heap.place.region_at + heap.totals.root_place;
-    let due = (root, heap.totals.root_rows, objects.number());
-    let got = (
+    let (header, totals) = (readable.header()?, &heap.totals);
+    let due = [
+        heap.place.region_at + totals.root_place,
+        totals.root_rows,
+        objects.number(),
+        totals.free_space,
+        totals.managed_space,
+        totals.allocated_space,
+        totals.allocation_iterator,
+    ];
+    let got = [
         header.root_block_address,
-        header.root_rows,
-        header.managed_objects,
-    );
-    match got == due {
+        header.current_rows_in_root_indirect_block.into(),
+        header.managed_objects_count,
+        header.free_space_managed_blocks,
+        header.managed_space_in_heap,
+        header.allocated_managed_space_in_heap,
+        header.direct_block_allocation_iterator_offset,
+    ];
+    match header == heap.header && got == due {
         true => Ok(()),
         false => Err(wrong("the header does not say what was written")),
     }

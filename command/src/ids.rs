@@ -1,19 +1,21 @@
-//! `poilures ids`: sizes from standard input, one a line, and of each its heap offset and its ID at once.
+//! `poilures ids`: sizes from standard input, one a line, and for each line one with its heap offset and its ID at once.
 use crate::arguments::{Ids, number};
 use crate::failure::Failure;
 use crate::id::HeapId;
 use crate::inputs;
-use crate::library;
+use crate::library::Id;
 use crate::memory;
 use crate::streams;
 use crate::talk::{Talk, Volume, tell};
-use fractal_heap::{Added, OpenPlan, count, grouped};
+use fractal_heap::{Added, OpenPlan, Refusal, count, grouped};
 use std::ffi::OsStr;
 use std::io::{self, BufRead, Read};
 use std::str;
 
 /// Standard input's name.
 const STANDARD: &str = "-";
+/// Stands in the column of an offset or an ID that there is not.
+const MISSING: &str = "-";
 /// No size needs more bytes. A line may have no end, so of a longer one no more is kept than shows that.
 const LONGEST_LINE: usize = 1000;
 
@@ -47,6 +49,60 @@ impl Tally {
             ))),
         }
     }
+
+    /// What a run that ends early has done: the plan has so many objects.
+    fn so_far(&self, objects: u64) -> String {
+        let mut words = format!(
+            "so far: {}, {} planned",
+            count(self.lines, "line"),
+            count(objects, "object")
+        );
+        for (number, what) in [(self.refused, "refused"), (self.no_numbers, "no number")] {
+            if number > 0 {
+                words += &format!(", {} {what}", grouped(number));
+            }
+        }
+        words
+    }
+}
+
+/// What a line of the input comes to.
+#[derive(Debug, PartialEq, Eq)]
+enum Answer {
+    Placed {
+        offset: u64,
+        id: Id,
+    },
+    /// An object at the end of the heap space, which no ID holds.
+    WithoutId {
+        offset: u64,
+        why: Refusal,
+    },
+    Refused(Refusal),
+    NoNumber(String),
+}
+
+impl Answer {
+    /// Its line on standard output: heap offset and ID, and where one is missing why, in a third column.
+    fn line(&self) -> String {
+        match self {
+            Answer::Placed { offset, id } => format!("{offset} {}", HeapId::new(id)),
+            Answer::WithoutId { offset, why } => {
+                format!("{offset} {MISSING} refused by {}", why.number())
+            }
+            Answer::Refused(why) => format!("{MISSING} {MISSING} refused by {}", why.number()),
+            Answer::NoNumber(_) => format!("{MISSING} {MISSING} no number"),
+        }
+    }
+
+    /// Its sentence on standard error, if something is missing.
+    fn sentence(&self) -> Option<String> {
+        match self {
+            Answer::Placed { .. } => None,
+            Answer::WithoutId { why, .. } | Answer::Refused(why) => Some(why.to_string()),
+            Answer::NoNumber(why) => Some(why.clone()),
+        }
+    }
 }
 
 /// Reads the next line with its end, if there is one; of one that is too long only its front is kept.
@@ -71,19 +127,24 @@ fn size(line: &[u8]) -> Result<u64, String> {
     number(str::from_utf8(line.trim_ascii()).unwrap_or(""))
 }
 
-/// The line of an object: its heap offset and its ID, or why it has none.
-fn placed(added: Added) -> Result<String, String> {
-    let Added { offset, size } = added;
-    let id = library::managed_id(offset, size).map_err(|refusal| format!("{offset} {refusal}"))?;
-    Ok(format!("{offset} {}", HeapId::new(&id)))
+/// An object by its offset and its ID.
+fn placed(added: Added) -> Answer {
+    let offset = added.offset;
+    match added.id() {
+        Ok(id) => Answer::Placed { offset, id },
+        Err(why) => Answer::WithoutId { offset, why },
+    }
 }
 
-/// The line of a size.
-fn answer(plan: &mut OpenPlan, size: u64) -> Result<String, String> {
-    placed(plan.add(size).map_err(|refusal| refusal.to_string())?)
+/// Adds the size that a line has to the plan.
+fn answer(plan: &mut OpenPlan, line: &[u8]) -> Answer {
+    match size(line) {
+        Ok(size) => plan.add(size).map_or_else(Answer::Refused, placed),
+        Err(why) => Answer::NoNumber(why),
+    }
 }
 
-/// Each answer is printed before the next line is read; the work ends when nobody hears them.
+/// Each line is answered before the next one is read; the work ends when nobody hears that.
 fn answer_all(plan: &mut OpenPlan, talk: &mut Talk, tally: &mut Tally) -> Result<(), Failure> {
     let unread = |error: io::Error| Failure::file(STANDARD, "read", error);
     streams::check_input().map_err(unread)?;
@@ -91,19 +152,19 @@ fn answer_all(plan: &mut OpenPlan, talk: &mut Talk, tally: &mut Tally) -> Result
     let mut input = io::stdin().lock();
     while next_line(&mut input, &mut line).map_err(unread)? {
         tally.lines += 1;
-        let size = match size(&line) {
-            Ok(size) => size,
-            Err(why) => {
-                tally.no_numbers += 1;
-                tell(&format!("poilures: line {}: {why}", grouped(tally.lines)));
-                continue;
-            }
-        };
-        let answer = answer(plan, size).unwrap_or_else(|refused| {
-            tally.refused += 1;
-            refused
-        });
-        talk.give(&answer);
+        let answer = answer(plan, &line);
+        match answer {
+            Answer::Placed { .. } => {}
+            Answer::WithoutId { .. } | Answer::Refused(_) => tally.refused += 1,
+            Answer::NoNumber(_) => tally.no_numbers += 1,
+        }
+        if let Some(sentence) = answer.sentence() {
+            tell(&format!(
+                "poilures: line {}: {sentence}",
+                grouped(tally.lines)
+            ));
+        }
+        talk.give(&answer.line());
         talk.heard()?;
     }
     talk.end()
@@ -115,9 +176,15 @@ pub fn ids(arguments: &Ids) -> Result<(), Failure> {
     let mut talk = Talk::new(false, Volume::Results);
     let mut tally = Tally::default();
     match answer_all(&mut plan, &mut talk, &mut tally) {
+        Ok(()) => tally.end(),
         // A line that is no number counts for the exit status also where nobody hears the others.
         Err(Failure::Closed) if tally.no_numbers > 0 => tally.end(),
-        answered => answered.and_then(|()| tally.end()),
+        Err(failure) => {
+            if tally.lines > 0 && !matches!(failure, Failure::Closed) {
+                tell(&format!("poilures: {}", tally.so_far(plan.objects())));
+            }
+            Err(failure)
+        }
     }
 }
 
@@ -185,15 +252,51 @@ mod tests {
             offset: (1 << 40) - 1,
             size: 0,
         };
-        let due = "1099511627775 00:FF:FF:FF:FF:FF:00:00";
-        assert_eq!(placed(last), Ok(due.into()));
-        let behind = Added {
+        let last = placed(last);
+        assert_eq!(last.line(), "1099511627775 00:FF:FF:FF:FF:FF:00:00");
+        assert_eq!(last.sentence(), None);
+        let behind = placed(Added {
             offset: 1 << 40,
             size: 0,
+        });
+        assert_eq!(behind.line(), "1099511627776 - refused by 16");
+        let due = "refused by 16: no ID holds offset 1,099,511,627,776 and length 0: they must be below 2^40 and \
+                   below 2^16";
+        assert_eq!(behind.sentence(), Some(due.into()));
+    }
+
+    // Of docs/RULES.md: an object of 1,003 bytes is the first at 8,214, one of 12 behind it at 9,217, and 65,515 are too
+    // many.
+    #[test]
+    fn every_line_has_one_line() {
+        let mut plan = OpenPlan::open(8).unwrap();
+        for (line, due, has_sentence) in [
+            ("1003\n", "8214 00:16:20:00:00:00:EB:03", false),
+            ("65515\n", "- - refused by 11", true),
+            ("x\n", "- - no number", true),
+            ("\n", "- - no number", true),
+            ("12", "9217 00:01:24:00:00:00:0C:00", false),
+        ] {
+            let answer = answer(&mut plan, line.as_bytes());
+            assert_eq!(answer.line(), due);
+            assert_eq!(answer.sentence().is_some(), has_sentence, "{line}");
+        }
+        assert_eq!(plan.objects(), 2);
+    }
+
+    #[test]
+    fn a_run_that_ends_early_says_what_it_has_done() {
+        let so_far = |lines, refused, no_numbers, objects| {
+            let tally = Tally {
+                lines,
+                refused,
+                no_numbers,
+            };
+            tally.so_far(objects)
         };
-        let due = "1099511627776 refused by 16: no ID holds offset 1,099,511,627,776 and length 0: \
-                   they must be below 2^40 and below 2^16";
-        assert_eq!(placed(behind), Err(due.into()));
+        assert_eq!(so_far(1, 0, 0, 1), "so far: 1 line, 1 object planned");
+        let due = "so far: 5,000 lines, 4,997 objects planned, 2 refused, 1 no number";
+        assert_eq!(so_far(5000, 2, 1, 4997), due);
     }
 
     #[test]

@@ -1,8 +1,7 @@
 //! A file image: a heap's header and its region, each at its place, and nothing around them.
 use crate::failure::Failure;
-use crate::library::Totals;
 use crate::memory::no_room;
-use fractal_heap::{Heap, checksum, grouped};
+use fractal_heap::{Header, Heap, Refusal, grouped};
 use memmap2::{Mmap, MmapMut};
 use std::fs::File;
 use std::io;
@@ -17,7 +16,6 @@ pub const SIGNATURE: &[u8] = b"FRHP";
 pub const STARTING: u64 = 1024;
 pub const LARGEST_DIRECT: u64 = 65_536;
 pub const WIDTH: u64 = 4;
-const HEAP_BITS: u64 = 40;
 
 /// Where a heap lies, and the two sizes of its file.
 #[derive(Clone, Copy)]
@@ -29,6 +27,11 @@ pub struct Place {
 }
 
 impl Place {
+    /// Bytes of the heap's header.
+    pub fn header_length(&self) -> u64 {
+        Header::length(self.offset_size, self.length_size) as u64
+    }
+
     /// A file with the heap's header at a position of it.
     pub fn heap<'f>(&self, file: &'f [u8], header_at: u64) -> Heap<'f> {
         Heap {
@@ -40,69 +43,16 @@ impl Place {
     }
 }
 
-/// Bytes of an unfiltered header.
-pub fn header_size(offset_size: u8, length_size: u8) -> u64 {
-    26 + 12 * u64::from(length_size) + 3 * u64::from(offset_size)
-}
-
 /// Bytes of a direct block before its body.
 pub fn block_header(offset_size: u8) -> u64 {
     14 + u64::from(offset_size)
 }
 
-/// Fields one after the other. A width that no file has is left to the parser to refuse.
-struct Fields(Vec<u8>);
-
-impl Fields {
-    fn put(&mut self, width: u8, name: &str, value: u64) -> Result<(), Failure> {
-        if matches!(width, 2 | 4) && value >> (8 * width) != 0 {
-            return Err(Failure::Use(format!(
-                "{width} bytes cannot hold the {name}, {}",
-                grouped(value)
-            )));
-        }
-        self.fill(width, value);
-        Ok(())
-    }
-
-    /// The low bytes of a number, and zeros after its eighth.
-    fn fill(&mut self, width: u8, value: u64) {
-        let bytes = value.to_le_bytes().into_iter().chain(std::iter::repeat(0));
-        self.0.extend(bytes.take(width.into()));
-    }
-}
-
-/// The header of a written heap: unfiltered, of the fixed geometry, with IDs of eight bytes.
-pub fn header(place: &Place, totals: &Totals, objects: u64) -> Result<Vec<u8>, Failure> {
-    let (w, l) = (place.offset_size, place.length_size);
-    let undefined = u64::MAX;
-    let mut fields = Fields(SIGNATURE.to_vec());
-    fields.fill(1, 0); // version
-    fields.fill(2, 8); // an ID's length
-    fields.fill(2, 0); // no filters
-    fields.fill(1, 2); // flags: direct blocks have checksums
-    fields.fill(4, LARGEST_DIRECT.saturating_sub(block_header(w)));
-    fields.fill(l, 0); // next huge ID
-    fields.fill(w, undefined); // index of huge objects
-    fields.put(l, "free space", totals.free)?;
-    fields.fill(w, undefined); // free space manager
-    fields.put(l, "managed space", totals.managed)?;
-    fields.put(l, "allocated space", totals.allocated)?;
-    fields.put(l, "iterator", totals.iterator)?;
-    fields.put(l, "number of objects", objects)?;
-    for _ in 0..4 {
-        fields.fill(l, 0); // huge and tiny objects
-    }
-    fields.fill(2, WIDTH);
-    fields.put(l, "starting block size", STARTING)?;
-    fields.put(l, "largest direct block size", LARGEST_DIRECT)?;
-    fields.fill(2, HEAP_BITS);
-    fields.fill(2, 1); // starting rows
-    fields.fill(w, place.region_at.wrapping_add(totals.root_place));
-    fields.fill(2, totals.root_rows);
-    let sum = checksum(&fields.0);
-    fields.fill(4, sum.into());
-    Ok(fields.0)
+/// The bytes of a header, by the writer that is proved.
+pub fn header_bytes(header: &Header, place: &Place) -> Result<Vec<u8>, Refusal> {
+    let mut bytes = vec![0; Header::length(place.offset_size, place.length_size)];
+    header.write(place.offset_size, place.length_size, &mut bytes)?;
+    Ok(bytes)
 }
 
 /// Where header and region of a written heap lie in an image, and how large that is.
@@ -115,7 +65,7 @@ pub struct Layout {
 impl Layout {
     pub fn new(place: &Place, region_size: u64) -> Result<Self, Failure> {
         let size = size(place, region_size)?;
-        let header = header_size(place.offset_size, place.length_size);
+        let header = place.header_length();
         Ok(Layout {
             header: place.header_at..place.header_at + header,
             region: place.region_at..place.region_at + region_size,
@@ -208,7 +158,7 @@ impl Image {
 
 /// The size of the image; header and region must not overlap.
 fn size(place: &Place, region_size: u64) -> Result<u64, Failure> {
-    let header = header_size(place.offset_size, place.length_size);
+    let header = place.header_length();
     let ends = [
         place.header_at.saturating_add(header),
         place.region_at.saturating_add(region_size),

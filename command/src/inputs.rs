@@ -89,31 +89,43 @@ pub fn refuse_written<'n>(mut names: impl Iterator<Item = &'n OsStr>) -> Result<
     names.try_for_each(|name| identity_of(name).map_or(Ok(()), streams::refuse_input))
 }
 
-/// A file that was taken in: which, and how large it is.
-pub struct Taken {
+/// A file that was taken in: which, how large it is, and its bytes.
+pub struct Taken<'o> {
     pub identity: Identity,
     pub size: u64,
+    pub bytes: &'o [u8],
 }
 
-/// Room for what `take_in` reads of a file, so that reading asks for no more.
+/// Room for what `take_in` reads of a file: one byte more than an object can have.
 pub fn room_for_one() -> Result<Vec<u8>, Failure> {
-    memory::with_room(2 * LARGEST_DIRECT as usize)
+    let length = LARGEST_DIRECT as usize + 1;
+    let mut room = memory::with_room(length)?;
+    room.resize(length, 0);
+    Ok(room)
 }
 
 /// Reads a file as an object. Of a file that is too large for an object only the size is of use, so no more of it is
 /// read than shows that.
-pub fn take_in(name: &OsStr, object: &mut Vec<u8>) -> Result<Taken, Failure> {
-    let Open { file, known } = open(name)?;
-    object.clear();
-    let read = file.take(LARGEST_DIRECT + 1).read_to_end(object);
-    let mut size = read.map_err(|error| Failure::file(name, "read", error))? as u64;
-    if size > LARGEST_DIRECT {
-        object.clear();
-        size = size.max(known.len());
+pub fn take_in<'o>(name: &OsStr, room: &'o mut [u8]) -> Result<Taken<'o>, Failure> {
+    let Open { mut file, known } = open(name)?;
+    let identity = identity(&known);
+    let mut length = 0;
+    while length < room.len() {
+        match file.read(&mut room[length..]) {
+            Ok(0) => break,
+            Ok(more) => length += more,
+            Err(error) if error.kind() == io::ErrorKind::Interrupted => {}
+            Err(error) => return Err(Failure::file(name, "read", error)),
+        }
     }
+    let (bytes, size) = match length as u64 {
+        size if size > LARGEST_DIRECT => (&[][..], size.max(known.len())),
+        size => (&room[..length], size),
+    };
     Ok(Taken {
-        identity: identity(&known),
+        identity,
         size,
+        bytes,
     })
 }
 
@@ -271,6 +283,21 @@ mod tests {
     }
 
     #[test]
+    fn an_object_is_taken_in_whole_or_not_at_all() {
+        let mut room = room_for_one().unwrap();
+        for length in [0, 1, 65_535, 65_536, 65_537, 200_000] {
+            let mut file = tempfile::NamedTempFile::new().unwrap();
+            let due: Vec<u8> = (0..length).map(|i| (i % 251) as u8).collect();
+            file.write_all(&due).unwrap();
+            let taken = take_in(file.path().as_os_str(), &mut room).unwrap();
+            assert_eq!(taken.size, length);
+            // A block has 65,536 bytes at most, an object fewer.
+            let kept = if length > 65_536 { &[][..] } else { &due };
+            assert_eq!(taken.bytes, kept, "{length}");
+        }
+    }
+
+    #[test]
     fn an_empty_file_is_no_bytes() {
         let empty = tempfile::NamedTempFile::new().unwrap();
         assert_eq!(&*whole(empty.path().as_os_str()).unwrap(), b"");
@@ -280,10 +307,7 @@ mod tests {
     fn folders_and_devices_are_refused() {
         for name in ["/", "/dev/null"] {
             assert!(whole(OsStr::new(name)).is_err(), "{name}");
-            assert!(
-                take_in(OsStr::new(name), &mut Vec::new()).is_err(),
-                "{name}"
-            );
+            assert!(take_in(OsStr::new(name), &mut []).is_err(), "{name}");
         }
     }
 }

@@ -1,25 +1,9 @@
 //! The proved functions that this program calls beside the loader's, each behind a safe one.
-use fractal_heap::{Heap, Refusal};
-use fractal_heap_sys::{
-    tools_heap_id_type, tools_parse_header, tools_plan, tools_read_tiny_object, tools_serialize,
-    tools_write_managed_id,
-};
+use fractal_heap::{Refusal, Totals};
+use fractal_heap_sys::{tools_heap_id_type, tools_plan, tools_read_tiny_object, tools_serialize};
 
 /// A managed object's ID.
 pub type Id = [u8; 8];
-
-/// The eight numbers of a plan.
-#[derive(Clone, Copy, PartialEq, Eq)]
-pub struct Totals {
-    pub blocks: u64,
-    pub region_size: u64,
-    pub root_rows: u64,
-    pub root_place: u64,
-    pub managed: u64,
-    pub allocated: u64,
-    pub free: u64,
-    pub iterator: u64,
-}
 
 /// Both lists of a plan: the objects' heap offsets, and the heap offsets of the placed blocks.
 #[derive(Default)]
@@ -46,26 +30,7 @@ fn accepted(number: u32, first: u64, second: u64) -> Result<(), Refusal> {
 
 fn totals(number: u32, numbers: [u64; 8]) -> Result<Totals, Refusal> {
     accepted(number, numbers[0], numbers[1])?;
-    let [
-        blocks,
-        region_size,
-        root_rows,
-        root_place,
-        managed,
-        allocated,
-        free,
-        iterator,
-    ] = numbers;
-    Ok(Totals {
-        blocks,
-        region_size,
-        root_rows,
-        root_place,
-        managed,
-        allocated,
-        free,
-        iterator,
-    })
+    Ok(numbers.into())
 }
 
 /// Plans these sizes; the lists hold the plan.
@@ -134,61 +99,6 @@ fn pair(call: impl FnOnce(*mut u8, usize) -> u32) -> Result<(u64, u64), Refusal>
     let mut slot = [0; 16];
     let number = call(slot.as_mut_ptr(), slot.len());
     Refusal::answered(number, slot)
-}
-
-/// The ID of an object.
-pub fn managed_id(offset: u64, size: u64) -> Result<Id, Refusal> {
-    let mut id = [0; 8];
-    let (at, len) = (id.as_mut_ptr(), id.len());
-    // SAFETY: ID and slot are arrays of their own.
-    pair(|slot, n| unsafe { tools_write_managed_id(offset, size, at, len, slot, n) })?;
-    Ok(id)
-}
-
-/// The fields of a header that this program looks at.
-pub struct Header {
-    pub heap_id_length: u16,
-    pub root_block_address: u64,
-    pub root_rows: u64,
-    pub managed_objects: u64,
-}
-
-/// The header of a heap, if it is sound.
-pub fn parse_header(heap: &Heap) -> Result<Header, Refusal> {
-    let mut fields = [0; 12];
-    // SAFETY: pointers and lengths are those of a slice that is only read, and of an array.
-    let number = unsafe {
-        tools_parse_header(
-            heap.file.as_ptr(),
-            heap.file.len(),
-            heap.header_at,
-            heap.offset_size,
-            heap.length_size,
-            fields.as_mut_ptr(),
-            fields.len(),
-        )
-    };
-    accepted(number, fields[0], fields[1])?;
-    let [
-        heap_id_length,
-        _filter_length,
-        _max_managed_object_size,
-        _huge_objects_address,
-        _table_width,
-        _starting_block_size,
-        _max_direct_block_size,
-        _max_heap_size,
-        _start_root_rows,
-        root_block_address,
-        root_rows,
-        managed_objects,
-    ] = fields;
-    Ok(Header {
-        heap_id_length: heap_id_length as u16,
-        root_block_address,
-        root_rows,
-        managed_objects,
-    })
 }
 
 /// The kinds of heap IDs.

@@ -3,6 +3,7 @@
 mod arguments;
 mod check;
 mod failure;
+mod header;
 mod id;
 mod ids;
 mod image;
@@ -18,6 +19,7 @@ mod progress;
 mod quoting;
 mod read;
 mod signals;
+mod site;
 mod streams;
 mod table;
 mod talk;
@@ -100,6 +102,7 @@ fn run() -> Result<(), Failure> {
     match &arguments.subcommand {
         Subcommands::Write(arguments) => write::write(arguments),
         Subcommands::Read(arguments) => read::read(arguments),
+        Subcommands::Header(arguments) => header::header(arguments),
         Subcommands::Ids(arguments) => ids::ids(arguments),
         Subcommands::Explain(arguments) => explain(arguments),
         Subcommands::Completions { shell } => completions(*shell),

@@ -53,7 +53,7 @@ fn direct_root(fullness: &Fullness, ascii: bool) -> Vec<String> {
             "  {} bytes {edge}{}{edge} {used} of {body} used, {}",
             grouped(STARTING),
             bar(fill, WIDE, ascii),
-            percent(fill)
+            full(fill)
         ),
     ]
 }
@@ -79,14 +79,18 @@ fn bar(fill: Fill, columns: u64, ascii: bool) -> String {
     format!("{text:<0$}", columns as usize)
 }
 
-/// How full, in percent: 100 only where nothing is free, 0 only where nothing is used.
-fn percent(fill: Fill) -> String {
-    match fill {
-        Fill { body: 0, .. } => String::new(),
-        Fill { used: 0, .. } => "0%".into(),
-        Fill { used, body } if 100 * used < body => "<1%".into(),
-        Fill { used, body } => format!("{}%", 100 * used / body),
-    }
+/// How much of the whole, in percent: 100 only where that is all, 0 only where it is nothing. Of nothing it is none.
+pub fn percent(part: u64, whole: u64) -> Option<String> {
+    let hundredths = (100 * u128::from(part)).checked_div(whole.into())?;
+    Some(match hundredths {
+        0 if part > 0 => "<1%".into(),
+        hundredths => format!("{hundredths}%"),
+    })
+}
+
+/// How full.
+fn full(fill: Fill) -> String {
+    percent(fill.used, fill.body).unwrap_or_default()
 }
 
 /// A power of two: 1K, 64K, 2M, 1G.
@@ -120,7 +124,7 @@ impl Group<'_> {
             placed += table.placed();
             fill = fill.and(table.fill());
         }
-        let full = format!("placed, {} full", percent(fill));
+        let full = format!("placed, {} full", full(fill));
         let slots = direct_slots(rows);
         let last = self.first as u64 + n - 1;
         let of = |placed, slots| format!("{} of {} slots {full}", grouped(placed), grouped(slots));
@@ -180,7 +184,7 @@ impl Look {
         let mut lines = vec![
             format!(
                 "map: the root has {rows}; {blocks} placed, {} full",
-                percent(root.fill())
+                full(root.fill())
             ),
             format!(
                 "{:>5} {:>2$} slot size   slot 0   slot 1   slot 2   slot 3  full",
@@ -228,7 +232,7 @@ impl Look {
         let sizes = ends(short_size(first.slot_size), short_size(last.slot_size));
         let fill = rows.iter().map(Row::fill).fold(Fill::default(), Fill::and);
         let (indent, columns) = ("  ".repeat(level), self.columns);
-        let (start, full) = (grouped(first.start), percent(fill));
+        let (start, full) = (grouped(first.start), full(fill));
         let line = format!("{indent}{numbers:>5} {start:>columns$} {sizes:>9} {cells} {full:>4}");
         line.trim_end().into()
     }
@@ -251,5 +255,29 @@ impl Look {
             at = end;
         }
         cut
+    }
+}
+
+#[cfg(test)]
+mod tests {
+    use super::*;
+
+    #[test]
+    fn a_share_in_percent() {
+        let largest = u64::MAX;
+        for (part, whole, due) in [
+            (0, 7, "0%"),
+            (1, 1000, "<1%"),
+            (10, 1000, "1%"),
+            (999, 1000, "99%"),
+            (1000, 1000, "100%"),
+            (largest, largest, "100%"),
+            (largest - 1, largest, "99%"),
+            (1, largest, "<1%"),
+        ] {
+            assert_eq!(percent(part, whole).as_deref(), Some(due));
+        }
+        assert_eq!(percent(0, 0), None);
+        assert_eq!(percent(5, 0), None);
     }
 }

@@ -2,16 +2,16 @@
 use crate::arguments::Read;
 use crate::failure::Failure;
 use crate::id::{self, HeapId, hex};
-use crate::image;
 use crate::inputs::{self, Bytes, Identity};
-use crate::library::{Header, Kind, kind, parse_header, tiny_object};
+use crate::library::{Kind, kind, tiny_object};
 use crate::message;
 use crate::output::{self, Output};
 use crate::progress::Progress;
 use crate::quoting::shown;
+use crate::site::{self, Remarks, Site};
 use crate::streams;
 use crate::talk::{Talk, Volume, tell};
-use fractal_heap::{Error, Heap, Refusal, Superblock, checksum, count, grouped};
+use fractal_heap::{Error, Header, Heap, Refusal, count, grouped};
 use serde_json::json;
 use std::borrow::Cow;
 use std::collections::HashSet;
@@ -23,13 +23,11 @@ use std::path::Path;
 /// and so that a file that was cut raises the signal that we handle, where the system would return an error of its own.
 const STRIDE: usize = 1 << 16;
 
-/// A heap in a file, and where the file's addresses count from.
-struct Site<'f> {
+/// The heap that is read, in its file, and what its header says.
+struct Reading<'f> {
+    site: Site<'f>,
     heap: Heap<'f>,
-    base: u64,
     header: Header,
-    /// The file has a superblock, so that its objects are HDF5's messages.
-    of_hdf5: bool,
 }
 
 /// Where an object was found.
@@ -83,191 +81,6 @@ impl Object<'_> {
     }
 }
 
-/// What is said on standard error while all is well.
-struct Remarks {
-    quiet: bool,
-}
-
-impl Remarks {
-    fn tell(&self, line: &str) {
-        if !self.quiet {
-            tell(line);
-        }
-    }
-}
-
-/// What the superblock is and says, in a line; then what options say instead.
-fn described(superblock: Option<&Superblock>, arguments: &Read) -> String {
-    let mut line = match superblock {
-        None => "no superblock".into(),
-        Some(s) => format!("superblock of version {} at {}", s.version, grouped(s.at)),
-    };
-    line += &match superblock.map(|s| s.sizes) {
-        Some(Some((offset, length))) => format!(": offset size {offset}, length size {length}"),
-        Some(None) => ", not known: offset size 8, length size 8".into(),
-        None => ": offset size 8, length size 8".into(),
-    };
-    for (option, size) in [
-        ("--offset-size", arguments.offset_size),
-        ("--length-size", arguments.length_size),
-    ] {
-        line += &size.map_or(String::new(), |size| format!("; {option} says {size}"));
-    }
-    line
-}
-
-/// Tells what is wrong with a superblock, also where nothing else is to be said.
-fn warn(superblock: &Superblock) {
-    if let Some(field) = superblock.base.filter(|&field| field != superblock.at) {
-        tell(&format!(
-            "the superblock's base address field says {}, but it stands at {}, which counts for HDF5",
-            grouped(field),
-            grouped(superblock.at)
-        ));
-    }
-    if superblock.open_for_writing {
-        tell("the superblock is marked as open for writing: the file may not be whole");
-    }
-}
-
-/// Where HDF5's addresses count from: where the superblock is, unless an option says otherwise.
-fn base(superblock: Option<&Superblock>, arguments: &Read, remarks: &Remarks) -> u64 {
-    let found = superblock.map_or(0, |s| s.at);
-    let base = arguments.base.unwrap_or(found);
-    let given = if arguments.base.is_some() {
-        ", by --base"
-    } else {
-        ""
-    };
-    if base != 0 || found != 0 {
-        remarks.tell(&format!(
-            "the base is {}{given}: HDF5's addresses count from there; positions told here are in the file",
-            grouped(base)
-        ));
-    }
-    base
-}
-
-/// The superblock that counts. One behind the heap's header is none: there an object's bytes look like one.
-fn superblock(file: &[u8], arguments: &Read, remarks: &Remarks) -> Option<Superblock> {
-    let found = Superblock::find(file)?;
-    let heap = usize::try_from(arguments.place).ok();
-    let heap = heap.and_then(|place| file.get(place..)).unwrap_or(&[]);
-    let is_of_image = arguments.place < found.at
-        && !arguments.address
-        && arguments.base.is_none()
-        && heap.starts_with(image::SIGNATURE);
-    if is_of_image {
-        remarks.tell(&format!(
-            "what looks like a superblock at {} is behind the heap's header, and none: addresses count from 0",
-            grouped(found.at)
-        ));
-        return None;
-    }
-    Some(found)
-}
-
-/// Where the heap's header is, counted from the base.
-fn header_at(arguments: &Read, base: u64) -> Result<u64, Failure> {
-    match arguments.address {
-        true => Ok(arguments.place),
-        false => arguments.place.checked_sub(base).ok_or_else(|| {
-            Failure::Use(format!(
-                "PLACE {} is before the base, {}; --address says that it is an HDF5 address, --base 0 that \
-                 addresses count from the file's start",
-                grouped(arguments.place),
-                grouped(base)
-            ))
-        }),
-    }
-}
-
-/// The heap that the words name: the two sizes and the base are the superblock's, unless options say otherwise.
-fn site<'f>(file: &'f [u8], arguments: &Read, remarks: &Remarks) -> Result<Site<'f>, Failure> {
-    let superblock = superblock(file, arguments, remarks);
-    let known = superblock.as_ref().and_then(|s| s.sizes).unwrap_or((8, 8));
-    remarks.tell(&described(superblock.as_ref(), arguments));
-    if let Some(superblock) = &superblock {
-        warn(superblock);
-    }
-    let base = base(superblock.as_ref(), arguments, remarks);
-    let from_base = usize::try_from(base).ok().and_then(|base| file.get(base..));
-    let heap = Heap {
-        file: from_base.ok_or_else(|| {
-            let (base, size) = (grouped(base), count(file.len() as u64, "byte"));
-            Failure::Use(format!(
-                "the base, {base}, is past the file, which has {size}"
-            ))
-        })?,
-        header_at: header_at(arguments, base)?,
-        offset_size: arguments.offset_size.unwrap_or(known.0),
-        length_size: arguments.length_size.unwrap_or(known.1),
-    };
-    let header = parse_header(&heap).map_err(|refusal| not_parsed(refusal, &heap, base))?;
-    Ok(Site {
-        heap,
-        base,
-        header,
-        of_hdf5: superblock.is_some(),
-    })
-}
-
-/// Why the header is refused. That of a filtered heap is longer, so that its checksum is not where the library seeks it
-/// (docs/DIFFERENCES.md): it may be sound.
-fn not_parsed(refusal: Refusal, heap: &Heap, base: u64) -> Failure {
-    let filters = filters(heap).filter(|&length| length > 0);
-    let (Refusal::ChecksumMismatch { .. }, Some(length)) = (refusal, filters) else {
-        return in_file(refusal, base, None).into();
-    };
-    let filtered = format!(
-        "the heap is filtered, by filters that take {} of its header, and filtered heaps are not read yet",
-        count(length.into(), "byte")
-    );
-    Failure::Not(match filtered_sums(heap, length) {
-        Some((stored, computed)) if stored == computed => filtered,
-        Some((stored, computed)) => format!(
-            "{filtered}; or its header is damaged: {stored:08X} is its checksum, {computed:08X} computed"
-        ),
-        None => format!("{filtered}; or its header is damaged: it ends past the file"),
-    })
-}
-
-/// The filters' length, by the header.
-fn filters(heap: &Heap) -> Option<u16> {
-    let at = usize::try_from(heap.header_at).ok()?;
-    let field = heap.file.get(at.checked_add(7)?..at.checked_add(9)?)?;
-    Some(u16::from_le_bytes(field.try_into().ok()?))
-}
-
-/// The checksum that a filtered heap's header has, and the one that it should have. Before it are, beside the fields of
-/// every heap, the size of a filtered root block, its filter mask of four bytes, and the filters.
-fn filtered_sums(heap: &Heap, filters: u16) -> Option<(u32, u32)> {
-    let every = image::header_size(heap.offset_size, heap.length_size) - 4;
-    let length = every + u64::from(heap.length_size) + 4 + u64::from(filters);
-    let header = heap.file.get(usize::try_from(heap.header_at).ok()?..)?;
-    let (fields, rest) = header.split_at_checked(usize::try_from(length).ok()?)?;
-    let (stored, _) = rest.split_first_chunk()?;
-    Some((u32::from_le_bytes(*stored), checksum(fields)))
-}
-
-/// A refusal whose positions are positions in the file. The end expected may also be the ID's own in the heap, which
-/// is none.
-fn in_file(refusal: Refusal, base: u64, ids_end: Option<u64>) -> Refusal {
-    match refusal {
-        Refusal::UnexpectedEof {
-            expected,
-            available,
-        } if (expected, available) != (1, 0) => {
-            let in_heap = expected <= available || ids_end == Some(expected);
-            Refusal::UnexpectedEof {
-                expected: expected.saturating_add(if in_heap { 0 } else { base }),
-                available: available.saturating_add(base),
-            }
-        }
-        other => other,
-    }
-}
-
 /// IDs of the heap's length, each in one word.
 fn check_ids(ids: &[HeapId], id_length: u16) -> Result<(), Failure> {
     let wrong = |id: &&HeapId| id.bytes().len() != usize::from(id_length);
@@ -292,7 +105,17 @@ fn position(file: &[u8], part: &[u8]) -> u64 {
     (part.as_ptr() as usize - file.as_ptr() as usize) as u64
 }
 
-impl<'f> Site<'f> {
+impl<'f> Reading<'f> {
+    /// The heap that the words name.
+    fn new(file: &'f [u8], arguments: &Read, remarks: &Remarks) -> Result<Self, Failure> {
+        let addressing = &arguments.addressing;
+        let site = Site::new(file, Some(arguments.place), addressing, remarks)?;
+        let heap = site.heap(arguments.place, addressing)?;
+        let header = heap.header();
+        let header = header.map_err(|refusal| site::not_parsed(refusal, &heap, site.base))?;
+        Ok(Reading { site, heap, header })
+    }
+
     /// A managed object, as it lies in the file. One without bytes may lie in no block, and is refused by 1; in a list,
     /// where all objects of a heap may stand, it is just empty.
     fn managed(
@@ -304,7 +127,10 @@ impl<'f> Site<'f> {
         let (offset, length) = self.heap.decode_managed_id_of_any_length(id)?;
         let end = offset.saturating_add(length);
         let (bytes, position) = match self.heap.read_managed_object_of_any_length(id) {
-            Ok(bytes) => (bytes, Some(self.base + position(self.heap.file, bytes))),
+            Ok(bytes) => (
+                bytes,
+                Some(self.site.base + position(self.heap.file, bytes)),
+            ),
             Err(Error::Refused(Refusal::UnexpectedEof { .. })) if in_list && length == 0 => {
                 (&[][..], None)
             }
@@ -319,7 +145,7 @@ impl<'f> Site<'f> {
             return Failure::Not(error.to_string());
         };
         // Only under an indirect root the end that is told may be the ID's own.
-        let in_heap = self.header.root_rows > 0;
+        let in_heap = self.header.current_rows_in_root_indirect_block > 0;
         match refusal {
             Refusal::UnexpectedEof {
                 expected,
@@ -329,7 +155,7 @@ impl<'f> Site<'f> {
             ),
             _ => {}
         }
-        in_file(refusal, self.base, in_heap.then_some(end)).into()
+        site::in_file(refusal, self.site.base, in_heap.then_some(end)).into()
     }
 
     /// A tiny object, as it lies in its ID.
@@ -380,7 +206,7 @@ impl<'f> Site<'f> {
         let is_none = match found {
             None => true,
             Some(_) if matches!(id.bytes(), [first, .., 0] if *first != 0) => true,
-            Some(object) if self.of_hdf5 && !message::is_attribute(object.bytes) => false,
+            Some(object) if self.site.of_hdf5 && !message::is_attribute(object.bytes) => false,
             Some(_) => return None,
         };
         let (turned, bytes) = self.backwards(id)?;
@@ -572,12 +398,12 @@ fn found<'o>(
     let remarks = Remarks {
         quiet: arguments.quiet,
     };
-    let site = site(file, arguments, &remarks)?;
+    let reading = Reading::new(file, arguments, &remarks)?;
     if !arguments.any_length {
-        check_ids(ids, site.header.heap_id_length)?;
+        check_ids(ids, reading.header.heap_id_length)?;
     }
     let in_list = arguments.ids_from.is_some();
-    let objects = site.objects(ids, in_list, &remarks)?;
+    let objects = reading.objects(ids, in_list, &remarks)?;
     if in_list {
         let bytes: usize = objects.iter().map(|object| object.bytes.len()).sum();
         remarks.tell(&format!(
@@ -621,31 +447,6 @@ pub fn read(arguments: &Read) -> Result<(), Failure> {
 #[cfg(test)]
 mod tests {
     use super::*;
-
-    fn eof(expected: u64, available: u64) -> Refusal {
-        Refusal::UnexpectedEof {
-            expected,
-            available,
-        }
-    }
-
-    #[test]
-    fn positions_are_in_the_file() {
-        assert_eq!(in_file(eof(1289, 1200), 512, None), eof(1801, 1712));
-        assert_eq!(in_file(eof(1289, 1200), 512, Some(7)), eof(1801, 1712));
-        assert_eq!(in_file(eof(u64::MAX, 9), 512, None), eof(u64::MAX, 521));
-        assert_eq!(in_file(eof(1289, 1200), 0, None), eof(1289, 1200));
-    }
-
-    #[test]
-    fn places_in_the_heap_and_addresses_stay() {
-        let id_past_every_block = in_file(eof(10_240, 2312), 512, Some(10_240));
-        assert_eq!(id_past_every_block, eof(10_240, 2824));
-        assert_eq!(in_file(eof(23, 4096), 512, Some(23)), eof(23, 4608));
-        assert_eq!(in_file(eof(1, 0), 512, Some(1)), eof(1, 0));
-        let address = Refusal::new(9, u64::MAX - 15, 22);
-        assert_eq!(in_file(address, 512, None), address);
-    }
 
     #[test]
     fn a_dump_counts_on_from_part_to_part() {

@@ -6,7 +6,7 @@ use crate::id::HeapId;
 use crate::image::{self, Image, Layout, Place};
 use crate::inputs::{self, Bytes, Identity};
 use crate::joined::{self, Joined};
-use crate::library::{self, Id, Lists, Totals, Writing};
+use crate::library::{self, Id, Lists, Writing};
 use crate::memory;
 use crate::output::Output;
 use crate::progress::Progress;
@@ -15,7 +15,7 @@ use crate::signals;
 use crate::table::Fullness;
 use crate::talk::{Talk, Volume, tell};
 use crate::{index, map, print};
-use fractal_heap::{Added, OpenPlan, Refusal, Superblock, count, grouped};
+use fractal_heap::{Added, Header, OpenPlan, Refusal, Superblock, Totals, count, grouped};
 use memmap2::Mmap;
 use serde_json::json;
 use std::env;
@@ -113,7 +113,7 @@ const DISK_FAILED: &str = "its disk is full, or failed";
 fn place(arguments: &Write) -> Result<Place, Failure> {
     let (offset_size, length_size) = (arguments.offset_size, arguments.length_size);
     let header_at = arguments.header_at;
-    let behind = header_at.saturating_add(image::header_size(offset_size, length_size));
+    let behind = header_at.saturating_add(Header::length(offset_size, length_size) as u64);
     let place = Place {
         header_at,
         region_at: arguments.at.unwrap_or(behind),
@@ -121,8 +121,6 @@ fn place(arguments: &Write) -> Result<Place, Failure> {
         length_size,
     };
     let none = library::plan(&[], &mut Lists::default(), offset_size)?;
-    let header = image::header(&place, &none, 0)?;
-    library::parse_header(&place.heap(&header, 0))?;
     let writing = Writing {
         sizes: &[],
         objects: &[],
@@ -132,6 +130,7 @@ fn place(arguments: &Write) -> Result<Place, Failure> {
     };
     let mut region = vec![0; none.region_size as usize];
     library::serialize(&writing, &mut Lists::default(), &mut region)?;
+    image::header_bytes(&none.header(0, place.region_at, offset_size), &place)?;
     Layout::new(&place, none.region_size)?;
     Ok(place)
 }
@@ -163,6 +162,16 @@ fn lists(objects: usize) -> Result<Lists, Failure> {
     Ok(Lists {
         offsets: memory::with_room(objects)?,
         blocks: memory::with_room(objects.max(1))?,
+    })
+}
+
+/// The ID of an object that was placed; the file of one that has none is named.
+fn given_id(added: Added, name: &OsStr) -> Result<Id, Failure> {
+    added.id().map_err(|refusal| {
+        let file = shown(name);
+        Failure::Not(format!(
+            "{refusal}\nthe file is {file}; it is empty, and the heap space is full"
+        ))
     })
 }
 
@@ -222,7 +231,8 @@ impl Line<'_> {
 }
 
 /// Takes the files in, one by one. A plan that stays open places each at once; as front parts are planned alike, the ID
-/// that an object gets here is its ID for good. Where nothing is kept, the work ends when nobody hears the IDs.
+/// that an object gets here is its ID for good. Its bytes are put by first, so that none is planned, and no ID printed, of
+/// an object that could not be kept. Where nothing is kept, the work ends when nobody hears the IDs.
 fn take_in(
     names: &[&OsStr],
     w: u8,
@@ -233,17 +243,18 @@ fn take_in(
     let number = names.len();
     let (mut sizes, mut ids) = (memory::with_room(number)?, memory::with_room(number)?);
     let (mut files, mut plan) = (memory::with_room(number)?, OpenPlan::open(w)?);
-    let (mut joined, mut object) = (destination.joined(), inputs::room_for_one()?);
+    let (mut joined, mut room) = (destination.joined(), inputs::room_for_one()?);
     let mut progress = Progress::unless(talk.is_seen(), "taking in the files", number as u64);
     if !names.is_empty() {
         talk.say(" object     size     heap offset  ID                       file");
     }
     for (i, name) in names.iter().enumerate() {
-        let taken = inputs::take_in(name, &mut object)?;
-        joined.add(&object)?;
+        let taken = inputs::take_in(name, &mut room)?;
+        joined.add(taken.bytes)?;
+        let added = plan.add(taken.size).map_err(|r| not_taken(&r, name, w))?;
+        let id = given_id(added, name)?;
+        let Added { offset, size } = added;
         files.push(taken.identity);
-        let Added { offset, size } = plan.add(taken.size).map_err(|r| not_taken(&r, name, w))?;
-        let id = library::managed_id(offset, size)?;
         sizes.push(size);
         ids.push(id);
         let line = Line {
@@ -267,10 +278,11 @@ fn take_in(
     })
 }
 
-/// A heap that is written: its plan, and where it is.
+/// A heap that is written: its plan, its header, and where it is.
 pub struct Written {
     pub lists: Lists,
     pub totals: Totals,
+    pub header: Header,
     pub place: Place,
 }
 
@@ -283,7 +295,8 @@ fn written(
     let w = place.offset_size;
     let mut lists = lists(objects.sizes.len())?;
     let totals = library::plan(&objects.sizes, &mut lists, w)?;
-    let header = image::header(&place, &totals, objects.number())?;
+    let header = totals.header(objects.number(), place.region_at, w);
+    let header_bytes = image::header_bytes(&header, &place)?;
     let layout = Layout::new(&place, totals.region_size)?;
     let mut image = destination.image(&layout, objects.bytes.len() as u64)?;
     let writing = Writing {
@@ -301,11 +314,12 @@ fn written(
             "writing and planning have different totals".into(),
         ));
     }
-    let image = image.finish(&header);
+    let image = image.finish(&header_bytes);
     let image = image.map_err(|error| destination.no_image(error))?;
     let heap = Written {
         lists,
         totals,
+        header,
         place,
     };
     Ok((heap, image))
@@ -321,7 +335,7 @@ fn print_totals(heap: &Written, objects: &Objects, talk: &mut Talk) {
         count(objects.bytes.len() as u64, "byte")
     ));
     let lines = [
-        ("blocks", t.blocks, String::new()),
+        ("blocks", t.block_count, String::new()),
         (
             "region size",
             t.region_size,
@@ -333,10 +347,10 @@ fn print_totals(heap: &Written, objects: &Objects, talk: &mut Talk) {
             t.root_place,
             format!("in the region, at {} in the image", grouped(root)),
         ),
-        ("managed space", t.managed, String::new()),
-        ("allocated space", t.allocated, String::new()),
-        ("free space", t.free, String::new()),
-        ("iterator", t.iterator, String::new()),
+        ("managed space", t.managed_space, String::new()),
+        ("allocated space", t.allocated_space, String::new()),
+        ("free space", t.free_space, String::new()),
+        ("iterator", t.allocation_iterator, String::new()),
     ];
     for (name, number, more) in lines {
         let line = format!("  {name:<16} {:>17}  {more}", grouped(number));
@@ -346,7 +360,7 @@ fn print_totals(heap: &Written, objects: &Objects, talk: &mut Talk) {
 
 fn print_map(heap: &Written, objects: &Objects, ascii: bool, talk: &mut Talk) {
     let (lists, totals) = (&heap.lists, &heap.totals);
-    let starts = &lists.blocks[..totals.blocks as usize];
+    let starts = &lists.blocks[..totals.block_count as usize];
     let w = heap.place.offset_size;
     let fullness = Fullness::new(starts, &lists.offsets, &objects.sizes, w);
     talk.say("");
@@ -450,4 +464,23 @@ pub fn write(arguments: &Write) -> Result<(), Failure> {
             tell("the image is whole, but standard output did not take all that was to be printed");
         }
     })
+}
+
+#[cfg(test)]
+mod tests {
+    use super::*;
+
+    // By docs/RULES.md the heap space ends at 2^40, where an empty object is placed, but no ID holds that offset.
+    #[test]
+    fn a_file_without_an_id_is_named() {
+        let id = |offset| given_id(Added { offset, size: 0 }, OsStr::new("a note"));
+        let last = [0, 0xFF, 0xFF, 0xFF, 0xFF, 0xFF, 0, 0];
+        assert_eq!(id((1 << 40) - 1).unwrap(), last);
+        let Err(Failure::Not(words)) = id(1 << 40) else {
+            panic!("it has an ID, or is called wrong use");
+        };
+        let due = "refused by 16: no ID holds offset 1,099,511,627,776 and length 0: they must be below 2^40 and below \
+                   2^16\nthe file is a note; it is empty, and the heap space is full";
+        assert_eq!(words, due);
+    }
 }

@@ -2,22 +2,22 @@
 use Rattle.std.proofs.Common.{◌≡◌, ℕ, suc, ◌+◌, ◌-◌, ◌<◌, ◌≤◌, List, length, sym, arith}
 use Rattle.checksum.specs.Mix.{mixed}
 use Rattle.checksum.specs.declared.mixing.State.{State}
-use Rattle.checksum.specs.Lookup3.{grouped, run, groups_of}
+use Rattle.checksum.specs.Lookup3.{group_size, grouped, run, groups_of}
 use Rattle.checksum.specs.Laws.{MixedWhileMore, TailsSwitched}
 use Rattle.checksum.proofs.Switch.{switch-words, tail-group}
 use Rattle.checksum.proofs.Walk.{groups-more, groups_none}
 
-turn-mixed : (bytes : List ℕ) (at : ℕ) (s : State) → 12 < length bytes - at
+turn-mixed : (bytes : List ℕ) (at : ℕ) (s : State) → group_size < length bytes - at
     → run bytes at (groups_of (length bytes - at)) s
-    ≡ run bytes (at + 12) (groups_of (length bytes - (at + 12))) (mixed (grouped bytes at s))
+    ≡ run bytes (at + group_size) (groups_of (length bytes - (at + group_size))) (mixed (grouped bytes at s))
 unfolding run
 turn-mixed bytes at s h =
-    let more : groups_of (length bytes - at) ≡ suc (groups_of (length bytes - at - 12)) =
+    let more : groups_of (length bytes - at) ≡ suc (groups_of (length bytes - at - group_size)) =
     groups-more (length bytes - at) h in
-    let left : length bytes - (at + 12) ≡ length bytes - at - 12 = omega arith in
+    let left : length bytes - (at + group_size) ≡ length bytes - at - group_size = omega arith in
     rw (more, left)
 
-turns_end : (bytes : List ℕ) (at : ℕ) (s : State) → length bytes - at ≤ 12
+turns_end : (bytes : List ℕ) (at : ℕ) (s : State) → length bytes - at ≤ group_size
     → run bytes at (groups_of (length bytes - at)) s ≡ s
 unfolding run
 turns_end bytes at s h = rw (groups_none (length bytes - at) h)

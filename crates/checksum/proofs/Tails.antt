@@ -107,17 +107,15 @@ module _ (s : List ℕ) where
           c = add32 w.c (le_at s (at + 4) 8 / 2 ^ 32);
         }
         ≡ grouped s at w
-    unfolding grouped
     in_halves at w t =
         let third : at + 4 + 4 ≡ at + 8 = omega arith in
-        let near : length s ≤ at + 4 + 8 = omega (arith, t.most) in
-        rw (low-half (at + 4) t.eight near, high-half (at + 4) t.eight near, third) refl
+        let near : length s ≤ at + 4 + 8 = omega (arith, t.at_most_group) in
+        rw (low-half (at + 4) t.eight_bytes near, high-half (at + 4) t.eight_bytes near, third) refl
 
   module _ {x : ℕ} (f : x < 2 ^ 32) where
     -- three bytes or fewer are all in the first word
     pub in_one : length s ≤ 4
         → record { a = add32 x (le_at s 0 4); b = x; c = x } ≡ grouped s 0 (record { a = x; b = x; c = x })
-    unfolding grouped
     in_one h =
         rw (past_end 4 4 (omega arith), past_end 8 4 (omega arith))
         (λ i. record { a = add32 x (le_at s 0 4); b = add_none f i; c = add_none f i })
@@ -126,6 +124,5 @@ module _ (s : List ℕ) where
     pub in_two : length s ≤ 8
         → record { a = add32 x (le_at s 0 4); b = add32 x (le_at s 4 4); c = x }
         ≡ grouped s 0 (record { a = x; b = x; c = x })
-    unfolding grouped
     in_two h =
         rw (past_end 8 4 h) (λ i. record { a = add32 x (le_at s 0 4); b = add32 x (le_at s 4 4); c = add_none f i })

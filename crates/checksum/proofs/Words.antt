@@ -10,5 +10,4 @@ pub record Fit (s : State) : Type 0 where
   pub c : s.c < 2 ^ 32
 
 pub add_none : {x : ℕ} → x < 2 ^ 32 → x ≡ add32 x 0
-unfolding add32
 add_none h = omega arith

@@ -9,40 +9,45 @@ use Rattle.checksum.specs.Mix.{mixed, final_mixed}
 use Rattle.checksum.specs.declared.mixing.State.{State}
 
 -- the start: each word is hexadecimal DEADBEEF plus the length as a 32-bit number, plus initval, 0
-unfoldable pub begun : ℕ → State
-begun n =
-    let x = add32 0xdeadbeef (n % 2 ^ 32) in record { a = x; b = x; c = x }
+abbrev pub first_word : (length : ℕ) → ℕ
+first_word n = add32 0xdeadbeef (n % 2 ^ 32)
 
--- the loop's twelve additions, of the 12 bytes from p on: four to a, four to b, four to c, shifted by 0, 8, 16 and 24
+abbrev pub begun : (length : ℕ) → State
+begun n = record { a = first_word n; b = first_word n; c = first_word n }
+
+-- the bytes of a group, and the most that a tail has
+abbrev pub group_size : ℕ
+group_size = 12
+
+-- the loop's twelve additions, of the group from p on: four to a, four to b, four to c, shifted by 0, 8, 16 and 24
 -- bits
-unfoldable pub grouped : (bytes : List ℕ) (p : ℕ) (s : State) → State
+abbrev pub grouped : (bytes : List ℕ) (p : ℕ) (s : State) → State
 grouped bytes p s = record {
   a = add32 s.a (le_at bytes p 4);
   b = add32 s.b (le_at bytes (p + 4) 4);
   c = add32 s.c (le_at bytes (p + 8) 4);
 }
 
--- the loop, while more than 12 bytes are left: one group is added and mixed, and 12 bytes are done. n such groups
--- from p on
+-- the loop, while more bytes are left than a group has: one group is added and mixed. n such groups from p on
 unfoldable pub run : (bytes : List ℕ) (p n : ℕ) (s : State) → State
 run bytes p zero s = s
-run bytes p (suc n) s = run bytes (p + 12) n (mixed (grouped bytes p s))
+run bytes p (suc n) s = run bytes (p + group_size) n (mixed (grouped bytes p s))
 
--- how often more than 12 of n bytes remain: that this is the loop's count is the law `MixedWhileMore`
-unfoldable pub groups_of : ℕ → ℕ
-groups_of n = (n - 1) / 12
+-- how often more than a group remains of n bytes: that this is the loop's count is the law `MixedWhileMore`
+abbrev pub groups_of : ℕ → ℕ
+groups_of n = (n - 1) / group_size
 
 -- the words after the loop
-unfoldable pub body : List ℕ → State
+abbrev pub body : List ℕ → State
 body bytes = run bytes 0 (groups_of (length bytes)) (begun (length bytes))
 
 -- the bytes that are left after it
-unfoldable pub tail_of : List ℕ → List ℕ
-tail_of bytes = drop (12 * groups_of (length bytes)) bytes
+abbrev pub tail_of : List ℕ → List ℕ
+tail_of bytes = drop (group_size * groups_of (length bytes)) bytes
 
 -- case n of the switch adds x, the n-th byte: cases 1 to 4 to a, 5 to 8 to b, 9 to 12 to c, shifted by 0, 8,
 -- 16 and 24 bits in turn
-unfoldable pub case_added : (n x : ℕ) (s : State) → State
+abbrev pub case_added : (n x : ℕ) (s : State) → State
 case_added n x s =
     let y = x * 2 ^ ((n - 1) % 4 * 8) in
     if nat_le n 4 then record { a = add32 s.a y; b = s.b; c = s.c }
@@ -51,7 +56,7 @@ case_added n x s =
 
 -- a tail enters at the case of its length and falls through to case 1, so it meets case n if it has n
 -- bytes or more
-unfoldable pub case_met : (n : ℕ) (tail : List ℕ) (s : State) → State
+abbrev pub case_met : (n : ℕ) (tail : List ℕ) (s : State) → State
 case_met n tail s = if nat_le n (length tail) then case_added n (slice_index tail (n - 1)) s else s
 
 -- the switch: the cases from n down
@@ -60,8 +65,8 @@ switched zero tail s = s
 switched (suc n) tail s = switched n tail (case_met (suc n) tail s)
 
 -- case 0 gives c as it is; the other cases give it after the final mix
-unfoldable pub ended : (tail : List ℕ) (s : State) → ℕ
-ended tail s = if length tail == 0 then s.c else (final_mixed (switched 12 tail s)).c
+abbrev pub ended : (tail : List ℕ) (s : State) → ℕ
+ended tail s = if length tail == 0 then s.c else (final_mixed (switched group_size tail s)).c
 
 -- hashlittle(bytes, length, 0)
 unfoldable pub hashlittle : (bytes : List ℕ) → ℕ

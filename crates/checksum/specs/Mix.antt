@@ -7,15 +7,15 @@ use Rattle.checksum.specs.declared.mixing.State.{State}
 -- ---- the macro mix
 
 -- a line for a: c is taken from it, then it is exclusive-ored with c rotated by k; b is added to c
-unfoldable pub mix_a : ℕ → State → State
+abbrev pub mix_a : ℕ → State → State
 mix_a k s = record { a = sub_xor s.a s.c k; b = s.b; c = add32 s.c s.b }
 
 -- a line for b: likewise with a; c is added to a
-unfoldable pub mix_b : ℕ → State → State
+abbrev pub mix_b : ℕ → State → State
 mix_b k s = record { a = add32 s.a s.c; b = sub_xor s.b s.a k; c = s.c }
 
 -- a line for c: likewise with b; a is added to b
-unfoldable pub mix_c : ℕ → State → State
+abbrev pub mix_c : ℕ → State → State
 mix_c k s = record { a = s.a; b = add32 s.b s.a; c = sub_xor s.c s.b k }
 
 -- its six lines in turn, with the rotations 4 6 8 16 19 4
@@ -25,15 +25,15 @@ mixed s = mix_c 4 (mix_b 19 (mix_a 16 (mix_c 8 (mix_b 6 (mix_a 4 s)))))
 -- ---- the macro final
 
 -- a line for c: it is exclusive-ored with b, then b rotated by k is taken from it
-unfoldable pub final_c : ℕ → State → State
+abbrev pub final_c : ℕ → State → State
 final_c k s = record { a = s.a; b = s.b; c = xor_sub s.c s.b k }
 
 -- a line for a: likewise with c
-unfoldable pub final_a : ℕ → State → State
+abbrev pub final_a : ℕ → State → State
 final_a k s = record { a = xor_sub s.a s.c k; b = s.b; c = s.c }
 
 -- a line for b: likewise with a
-unfoldable pub final_b : ℕ → State → State
+abbrev pub final_b : ℕ → State → State
 final_b k s = record { a = s.a; b = xor_sub s.b s.a k; c = s.c }
 
 -- its seven lines in turn, with the rotations 14 11 25 16 4 14 24

@@ -3,7 +3,7 @@
 use Rattle.std.specs.Prelude.{ℕ, ◌+◌, ◌-◌, ◌%◌, ◌^◌, bit_xor}
 use Rattle.std.specs.Int.{w32, rotate_left}
 
-unfoldable pub add32 : ℕ → ℕ → ℕ
+abbrev pub add32 : ℕ → ℕ → ℕ
 add32 x y = (x + y) % 2 ^ 32
 
 abbrev pub sub32 : ℕ → ℕ → ℕ

@@ -9,14 +9,22 @@ ghost use Rattle.fields.specs.LittleEndian.{le_at};
 ghost use Rattle.checksum.specs.Words.{add32};
 ghost use Rattle.checksum.specs.Mix.{final_mixed};
 ghost use Rattle.checksum.specs.Requires.{Tail};
-ghost use Rattle.checksum.specs.Lookup3.{grouped, switched, hashlittle};
+ghost use Rattle.checksum.specs.Lookup3.{first_word, grouped, switched, hashlittle};
 ghost use Rattle.checksum.specs.Laws.{MixedWhileMore, TailsSwitched};
 
 use crate::mixing::{State, final_mix, mix};
 use fields::little_endian::{read_u16_le, read_u32_le, read_u64_le};
 
+/// The bytes of a group, four for each of three words; of a tail there are as many at most.
+const GROUP_SIZE: usize = 12;
+
+/// How many values a word has: 2^32.
+const WORD_VALUES: u64 = 0x1_0000_0000;
+
+/// What each word is at the start, before the length is added.
+const START_WORD: u32 = 0xdeadbeef;
+
 // A word with the four bytes at `p` added.
-#[tactic(auto, unfolding(crate::specs::Words::add32))]
 fn add_word(x: u32, bytes: &[u8], p: usize) -> u32
     requires { p + 4 ≤ length bytes.now }
     ensures { result ≡ add32 x (le_at bytes.now p 4) }
@@ -24,10 +32,9 @@ fn add_word(x: u32, bytes: &[u8], p: usize) -> u32
     x.wrapping_add(read_u32_le(bytes, p))
 }
 
-// The 12 bytes at `at` added to the words, four to each.
-#[tactic(auto, unfolding(crate::specs::Lookup3::grouped))]
+// The group at `at` added to the words, four to each.
 fn add_group(s: State, bytes: &[u8], at: usize) -> State
-    requires { at + 12 ≤ length bytes.now }
+    requires { at + GROUP_SIZE ≤ length bytes.now }
     ensures { result ≡ grouped bytes.now at s }
 {
     State {
@@ -58,8 +65,8 @@ fn add_tail_word(x: u32, bytes: &[u8], p: usize) -> u32
 // The bytes at `p`, eight at most and fewer at the end, as one number: the last eight bytes, shifted down. They are
 // read before the choice, since the compiler moves a load that only one side needs to that side, behind a branch.
 fn last_bytes(bytes: &[u8], p: usize) -> u64
-    requires some { 8 ≤ length bytes.now }
-    requires near { length bytes.now ≤ p + 8 }
+    requires eight_bytes { 8 ≤ length bytes.now }
+    requires reaches_end { length bytes.now ≤ p + 8 }
     ensures { result ≡ le_at bytes.now p 8 }
 {
     let at = bytes.len() - 8;
@@ -72,20 +79,20 @@ fn last_bytes(bytes: &[u8], p: usize) -> u64
 // and the law `tails_are_added_as_words` says that the sums are the same.
 fn add_tail(s: State, bytes: &[u8], at: usize) -> State
     requires { Tail bytes.now at }
-    ensures { result ≡ switched 12 (drop at bytes.now) s }
+    ensures { result ≡ switched GROUP_SIZE (drop at bytes.now) s }
 {
     let rest = last_bytes(bytes, at + 4);
     State {
         a: add_tail_word(s.a, bytes, at),
-        b: s.b.wrapping_add((rest % 0x1_0000_0000) as u32),
-        c: s.c.wrapping_add((rest / 0x1_0000_0000) as u32),
+        b: s.b.wrapping_add((rest % WORD_VALUES) as u32),
+        c: s.c.wrapping_add((rest / WORD_VALUES) as u32),
     }
 }
 
 // The bytes behind the first four of 4 to 8: the last word that there is, shifted down.
 fn second_word(bytes: &[u8]) -> u32
-    requires more { 4 ≤ length bytes.now }
-    requires most { length bytes.now ≤ 8 }
+    requires at_least_four { 4 ≤ length bytes.now }
+    requires at_most_eight { length bytes.now ≤ 8 }
     ensures { result ≡ le_at bytes.now 4 4 }
 {
     let n = bytes.len();
@@ -94,20 +101,20 @@ fn second_word(bytes: &[u8]) -> u32
 
 // The bytes behind the first eight of 9 to 12: likewise.
 fn third_word(bytes: &[u8]) -> u32
-    requires more { 9 ≤ length bytes.now }
-    requires most { length bytes.now ≤ 12 }
+    requires at_least_nine { 9 ≤ length bytes.now }
+    requires at_most_group { length bytes.now ≤ GROUP_SIZE }
     ensures { result ≡ le_at bytes.now 8 4 }
 {
     let n = bytes.len();
-    read_u32_le(bytes, n - 4) >> (8 * (12 - n))
+    read_u32_le(bytes, n - 4) >> (8 * (GROUP_SIZE - n))
 }
 
 // 4 to 12 bytes, which are all of the tail, added to three words that are `first`. The branch between 8 and 9 stays:
-// without it lengths at random took 0.78 to 0.91 of the time, but 5 bytes of one length up to 1.19 of the original's,
-// whose jump costs nothing where the processor foresees it.
+// without it lengths at random took 0.78 to 0.91 of the time, but 5 bytes of one length 1.05 to 1.19 of the
+// original's, whose jump costs nothing where the processor foresees it.
 fn add_few(first: u32, bytes: &[u8]) -> State
-    requires more { 4 ≤ length bytes.now }
-    requires most { length bytes.now ≤ 12 }
+    requires at_least_four { 4 ≤ length bytes.now }
+    requires at_most_group { length bytes.now ≤ GROUP_SIZE }
     ensures { result ≡ grouped bytes.now 0 (record { a = first; b = first; c = first }) }
 {
     let a = add_word(first, bytes, 0);
@@ -127,8 +134,8 @@ fn add_few(first: u32, bytes: &[u8]) -> State
 
 // The third of 2 or 3 bytes, or 0: a product, not a branch, which a processor could not predict.
 fn third_byte(bytes: &[u8]) -> u16
-    requires more { 2 ≤ length bytes.now }
-    requires most { length bytes.now ≤ 3 }
+    requires at_least_two { 2 ≤ length bytes.now }
+    requires at_most_three { length bytes.now ≤ 3 }
     ensures { result ≡ le_at bytes.now 2 2 }
 {
     let n = bytes.len();
@@ -137,8 +144,8 @@ fn third_byte(bytes: &[u8]) -> u16
 
 // All of 1 to 3 bytes.
 fn short_word(bytes: &[u8]) -> u32
-    requires some { 0 < length bytes.now }
-    requires most { length bytes.now ≤ 3 }
+    requires nonempty { 0 < length bytes.now }
+    requires at_most_three { length bytes.now ≤ 3 }
     ensures { result ≡ le_at bytes.now 0 4 }
 {
     if bytes.len() == 1 {
@@ -156,18 +163,17 @@ fn ended(s: State) -> u32
 }
 
 // What each word is at the start.
-#[tactic(auto, unfolding(crate::specs::Words::add32))]
 fn begun(n: usize) -> u32
-    ensures { result ≡ add32 0xdeadbeef (n % 2 ^ 32) }
+    ensures { result ≡ first_word n }
 {
-    0xdeadbeefu32.wrapping_add((n % 0x1_0000_0000) as u32)
+    START_WORD.wrapping_add((n as u64 % WORD_VALUES) as u32)
 }
 
 // More than 12 bytes: groups of 12 are mixed while more remain, and 1 to 12 bytes are left. It is not inlined, so that
 // what is short does not pay for the loop's registers.
 #[inline(never)]
 fn mix_groups(bytes: &[u8]) -> u32
-    requires { 12 < length bytes.now }
+    requires { GROUP_SIZE < length bytes.now }
     ensures { result ≡ hashlittle bytes.now }
 {
     let first = begun(bytes.len());
@@ -177,9 +183,9 @@ fn mix_groups(bytes: &[u8]) -> u32
         c: first,
     };
     let mut at: usize = 0;
-    while bytes.len() - at > 12 {
+    while bytes.len() - at > GROUP_SIZE {
         s = mix(add_group(s, bytes, at));
-        at += 12;
+        at += GROUP_SIZE;
     }
     ended(add_tail(s, bytes, at))
 }
@@ -189,7 +195,7 @@ fn mix_groups(bytes: &[u8]) -> u32
 pub fn jenkins_lookup3(bytes: &[u8]) -> u32
     ensures { result ≡ hashlittle bytes.now }
 {
-    if bytes.len() > 12 {
+    if bytes.len() > GROUP_SIZE {
         return mix_groups(bytes);
     }
     let first = begun(bytes.len());

@@ -27,7 +27,6 @@ fn xor_sub(x: u32, y: u32, k: u32) -> u32
 }
 
 // A line of mix for a: c is taken from it, then it is exclusive-ored with c rotated by `k`; b is added to c.
-#[tactic(auto, unfolding(crate::specs::Mix::mix_a, crate::specs::Words::add32))]
 fn mix_a(s: State, k: u32) -> State
     ensures { result ≡ mix_a k s }
 {
@@ -39,7 +38,6 @@ fn mix_a(s: State, k: u32) -> State
 }
 
 // A line of mix for b: likewise with a; c is added to a.
-#[tactic(auto, unfolding(crate::specs::Mix::mix_b, crate::specs::Words::add32))]
 fn mix_b(s: State, k: u32) -> State
     ensures { result ≡ mix_b k s }
 {
@@ -51,7 +49,6 @@ fn mix_b(s: State, k: u32) -> State
 }
 
 // A line of mix for c: likewise with b; a is added to b.
-#[tactic(auto, unfolding(crate::specs::Mix::mix_c, crate::specs::Words::add32))]
 fn mix_c(s: State, k: u32) -> State
     ensures { result ≡ mix_c k s }
 {
@@ -76,7 +73,6 @@ pub fn mix(s: State) -> State
 }
 
 // A line of final for c: it is exclusive-ored with b, then b rotated by `k` is taken from it.
-#[tactic(auto, unfolding(crate::specs::Mix::final_c))]
 fn final_c(s: State, k: u32) -> State
     ensures { result ≡ final_c k s }
 {
@@ -88,7 +84,6 @@ fn final_c(s: State, k: u32) -> State
 }
 
 // A line of final for a: likewise with c.
-#[tactic(auto, unfolding(crate::specs::Mix::final_a))]
 fn final_a(s: State, k: u32) -> State
     ensures { result ≡ final_a k s }
 {
@@ -100,7 +95,6 @@ fn final_a(s: State, k: u32) -> State
 }
 
 // A line of final for b: likewise with a.
-#[tactic(auto, unfolding(crate::specs::Mix::final_b))]
 fn final_b(s: State, k: u32) -> State
     ensures { result ≡ final_b k s }
 {

@@ -8,5 +8,4 @@ use Rattle.fields.specs.Fields.{len_ensured, number_at, offset_at}
 
 -- a number of a right width with room is read
 pub offset_read : (s : List ℕ) (p w : ℕ) → legal w ≡ true → p + w ≤ length s → offset_at s p w ≡ Ok (le_at s p w)
-unfolding offset_at number_at len_ensured
 offset_read s p w h l = grind (arith, common_steps)

@@ -1,12 +1,14 @@
 -- Laws of little-endian numbers, and of bytes put in the place of others, for every width.
-use Rattle.std.proofs.Common.{◌≡◌, refl, sym, ap, ◌∙◌, List, [], ◌∷◌, ◌++◌, append_assoc, ℕ, zero, suc, ◌+◌, ◌-◌, ◌*◌}
+use Rattle.std.proofs.Common.{◌≡◌, refl, sym, ap, ap₂, ◌∙◌, List, [], ◌∷◌, ◌++◌, append_assoc, ℕ, zero, suc, ◌+◌, ◌-◌, ◌*◌}
 use Rattle.std.proofs.Common.{◌/◌, ◌%◌, ◌^◌, ◌≤◌, ◌<◌, zero-add, arith, length, take, drop, replicate, length-append}
 use Rattle.std.proofs.Common.{length-drop, take-add, drop-drop, drop-cons, take_all, take_at, drop_at, length-take-le}
-use Rattle.std.proofs.Common.{get_or-drop, pow-add, pow_pos, shr-shr}
+use Rattle.std.proofs.Common.{get_or-take, get_or-drop, pow-add, pow_pos, shr-shr}
 use Rattle.std.proofs.Math.Nat.{zero-div}
 use Rattle.std.proofs.Math.Seq.{sets, length-sets, sets-eq}
 use Rattle.std.proofs.Math.Pow.{mod-pow-add}
-use Rattle.std.specs.Prelude.{slice_index}
+use Rattle.std.proofs.lemmas.Bool.Decides.{nat_tests}
+use Rattle.std.proofs.lemmas.Slice.Eq.{bytes_eq-Decides}
+use Rattle.std.specs.Prelude.{slice_index, bytes_eq, ◌==◌}
 use Rattle.fields.specs.LittleEndian.{le, value, le_at, put}
 
 -- one byte more is eight bits more
@@ -26,6 +28,33 @@ pub value-lt : (bs : List ℕ) → ((j : ℕ) → slice_index bs j < 256) → va
 unfolding value
 value-lt [] h = omega arith
 value-lt (b ∷ bs) h = omega (arith, h 0, value-lt bs (λ j. h (suc j)), pow-byte (length bs))
+
+-- as many bytes with the same number are the same bytes
+value-same : (bs cs : List ℕ) → length bs ≡ length cs → ((j : ℕ) → j < length bs → slice_index bs j < 256)
+    → ((j : ℕ) → slice_index cs j < 256) → value bs ≡ value cs → bs ≡ cs
+unfolding value
+value-same [] [] e h k v = refl
+value-same [] (c ∷ cs) e h k v = absurd (omega arith)
+value-same (b ∷ bs) [] e h k v = absurd (omega arith)
+value-same (b ∷ bs) (c ∷ cs) e h k v =
+    let one : b < 256 = h 0 (omega arith) in
+    let first : b ≡ c = omega (arith, v, one, k 0) in
+    let others : value bs ≡ value cs = omega (arith, v, one, k 0) in
+    ap₂ (λ x xs. x ∷ xs) first
+    (value-same bs cs (omega arith) (λ j l. h (suc j) (omega (arith, l))) (λ j. k (suc j)) others)
+
+-- four letters that stand at p, compared as numbers
+pub same_letters : (s letters : List ℕ) (p n : ℕ) → n ≡ le_at s p 4 → (m : ℕ) → m ≡ le_at letters 0 4
+    → p + 4 ≤ length s → length letters ≡ 4 → ((j : ℕ) → slice_index s j < 256)
+    → ((j : ℕ) → slice_index letters j < 256) → (n == m) ≡ bytes_eq (take 4 (drop p s)) letters
+unfolding le_at
+same_letters s letters p n e m f there four h k =
+    let part : List ℕ = take 4 (drop p s) in
+    let len : length part ≡ 4 = length-take-le 4 (drop p s) (rw length-drop (omega arith)) in
+    let small : (j : ℕ) → j < length part → slice_index part j < 256 =
+    λ j l. rw (get_or-take 4 (drop p s) j 0 (omega (arith, l, len)), get_or-drop p s j 0) (h (p + j)) in
+    let whole : m ≡ value letters = f ∙ ap value (take_all 4 letters (omega arith)) in
+    grind (arith, nat_tests, bytes_eq-Decides part letters, value-same part letters (omega (arith, len)) small k)
 
 -- i bytes, then j bytes
 pub le_at-add : (i j : ℕ) (s : List ℕ) (p : ℕ) → p + i ≤ length s

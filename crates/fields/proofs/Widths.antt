@@ -7,15 +7,12 @@ use Rattle.fields.specs.declared.width.Width.TheVariants.{Two, Four, Eight}
 
 -- a width that is neither 2 nor 4 is 8
 pub legal-eight : (w : ℕ) → legal w ≡ true → (w ≡ 2 → ⊥) → (w ≡ 4 → ⊥) → w ≡ 8
-unfolding legal
 legal-eight w h a b = grind (arith, nat_tests)
 
 pub legal-small : (w : ℕ) → legal w ≡ true → w ≤ 8
-unfolding legal
 legal-small w h = grind (arith, nat_tests)
 
 pub legal_width : (width : Width) → legal (byte_count width) ≡ true
-unfolding legal
 legal_width Two = refl
 legal_width Four = refl
 legal_width Eight = refl

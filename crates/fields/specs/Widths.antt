@@ -6,7 +6,7 @@ use Rattle.fields.specs.declared.width.Width.{Width}
 use Rattle.fields.specs.declared.width.Width.TheVariants.{Two, Four, Eight}
 
 -- the widths that an address or a length may have
-unfoldable pub legal : ℕ → Bool
+abbrev pub legal : ℕ → Bool
 legal w = (w == 2) || ((w == 4) || (w == 8))
 
 -- how many bytes such a width has

@@ -8,7 +8,8 @@ written w = take w.at w.bytes.now
 abbrev pub behind : Writer → List ℕ
 behind w = drop w.at w.bytes.now
 
--- n bytes were put behind those that were written; what stands behind them is as it was
+-- these n bytes were put behind those that were written; what stands behind them is as it was. Their length is said by
+-- itself, so that a chain of puts adds up plain numbers, and not the lengths of what was put
 pub record Puts (old new : Writer) (n : ℕ) (bytes : List ℕ) : Type 0 where
   pub same_reference : new.bytes.ghost_name ≡ old.bytes.ghost_name
   pub at : new.at ≡ old.at + n

@@ -5,6 +5,7 @@
 pub mod convert;
 pub mod little_endian;
 pub mod place;
+pub mod signature;
 pub mod slot;
 pub mod stores;
 pub mod width;
@@ -15,8 +16,10 @@ ghost use Rattle.fields.specs.Widths.{legal, byte_count};
 ghost use Rattle.fields.specs.Fields.{len_ensured, plain_at, number_at, offset_at, length_at};
 
 use crate::little_endian::{read_le, read_u16_le, read_u32_le};
-use crate::width::Width;
+pub use place::Place;
 use refusals::FormatError;
+pub use stores::Writer;
+pub use width::Width;
 
 // The refusal where no `needed` bytes stand at `offset`. The end that it reports saturates at 2^64 - 1.
 #[tactic(auto, unfolding(numbers::specs::Numbers::saturated))]
@@ -30,7 +33,6 @@ fn end_missing(bytes: &[u8], offset: usize, needed: usize) -> FormatError
 }
 
 /// Tests that `needed` bytes stand at `offset`: else 1, with the end that they would have, and the number of bytes.
-#[tactic(auto, unfolding(crate::specs::Fields::len_ensured))]
 pub fn ensure_len(bytes: &[u8], offset: usize, needed: usize) -> Result<(), FormatError>
     ensures value { result ≡ len_ensured bytes.now offset needed }
     ensures there { OnOk result (offset + needed ≤ length bytes.now) }
@@ -42,7 +44,6 @@ pub fn ensure_len(bytes: &[u8], offset: usize, needed: usize) -> Result<(), Form
 }
 
 /// The two bytes at `pos` as a number.
-#[tactic(auto, unfolding(crate::specs::Fields::plain_at))]
 pub fn read_u16(bytes: &[u8], pos: usize) -> Result<u16, FormatError>
     ensures value { result ≡ plain_at bytes.now pos 2 }
     ensures there { OnOk result (pos + 2 ≤ length bytes.now) }
@@ -52,7 +53,6 @@ pub fn read_u16(bytes: &[u8], pos: usize) -> Result<u16, FormatError>
 }
 
 /// The four bytes at `pos` as a number.
-#[tactic(auto, unfolding(crate::specs::Fields::plain_at))]
 pub fn read_u32(bytes: &[u8], pos: usize) -> Result<u32, FormatError>
     ensures value { result ≡ plain_at bytes.now pos 4 }
     ensures there { OnOk result (pos + 4 ≤ length bytes.now) }
@@ -69,7 +69,6 @@ pub fn has_room(lent: usize, pos: usize, needed: usize) -> bool
 }
 
 /// Whether an address or a length may have this width.
-#[tactic(auto, unfolding(crate::specs::Widths::legal))]
 pub fn is_width(width: u8) -> bool
     ensures { result ≡ legal width }
 {
@@ -86,7 +85,6 @@ pub fn offset_width(offset_size: u8) -> Result<Width, FormatError>
 }
 
 // A number of `width` bytes at `pos`; `invalid` is the refusal of a width that is none.
-#[tactic(auto, unfolding(crate::specs::Fields::number_at, crate::specs::Fields::len_ensured))]
 fn read_number(
     bytes: &[u8],
     pos: usize,
@@ -107,7 +105,6 @@ fn read_number(
 }
 
 /// The address of `offset_size` bytes at `pos`.
-#[tactic(auto, unfolding(crate::specs::Fields::offset_at))]
 pub fn read_offset(bytes: &[u8], pos: usize, offset_size: u8) -> Result<u64, FormatError>
     ensures value { result ≡ offset_at bytes.now pos offset_size }
     ensures there { OnOk result (pos + offset_size ≤ length bytes.now) }
@@ -121,7 +118,6 @@ pub fn read_offset(bytes: &[u8], pos: usize, offset_size: u8) -> Result<u64, For
 }
 
 /// The length of `length_size` bytes at `pos`.
-#[tactic(auto, unfolding(crate::specs::Fields::length_at))]
 pub fn read_length(bytes: &[u8], pos: usize, length_size: u8) -> Result<u64, FormatError>
     ensures value { result ≡ length_at bytes.now pos length_size }
     ensures there { OnOk result (pos + length_size ≤ length bytes.now) }

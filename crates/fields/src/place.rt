@@ -1,5 +1,5 @@
 //! Where an object's bytes are.
-use refusals::answer::{Answer, Reported};
+use refusals::{Answer, Reported};
 
 /// The position of an object's first byte, and how many bytes it has.
 #[derive(Clone, Copy, Debug, PartialEq, Eq)]

@@ -7,7 +7,6 @@ use refusals::{Answer, SLICE_TOO_SHORT};
 
 /// Puts the two values into the first 16 bytes of `slot`, little-endian, and returns the number. A shorter slot is left
 /// as it is and gives 13, whatever the answer is. Every C function hands its answer back by this.
-#[tactic(auto, unfolding(crate::specs::Slot::slot_number, crate::specs::Slot::slot_bytes))]
 pub fn put_answer(slot: &mut [u8], answer: Answer) -> u32
     ensures number { result ≡ slot_number slot.old answer }
     ensures slot_after { slot.new ≡ slot_bytes slot.old answer }

@@ -24,7 +24,7 @@ fn store_le(bytes: &mut [u8], pos: usize, value: u64, width: usize)
 }
 
 // Tests that an address of `offset_size` bytes can be stored at `pos` of `lent` bytes.
-#[tactic(auto, unfolding(crate::specs::Stores::store_ensured, numbers::specs::Numbers::saturated))]
+#[tactic(auto, unfolding(numbers::specs::Numbers::saturated))]
 fn ensure_store(lent: usize, pos: usize, offset_size: u8) -> Result<(), FormatError>
     ensures value { result ≡ store_ensured lent pos offset_size }
     ensures width { OnOk result (legal offset_size ≡ true) }

@@ -14,7 +14,6 @@ pub enum Width {
 
 impl Width {
     /// The width of so many bytes, if it is one.
-    #[tactic(auto, unfolding(crate::specs::Widths::legal))]
     pub fn new(bytes: u8) -> Option<Width>
         ensures is_legal { IsSome result ↔ (legal bytes ≡ true) }
         ensures bytes { IfSome result (λ width. byte_count width ≡ bytes) }

@@ -4,10 +4,11 @@
 -- bytes it has.
 use Rattle.std.specs.Prelude.{ℕ, ◌+◌, ◌*◌, List, Ok}
 use Rattle.refusals.specs.Steps.{◌>>=◌}
-use Rattle.reading.specs.declared.rows.DoublingTable.{DoublingTable}
-use Rattle.fractal_heap.specs.HeaderReader.{Step, plain_field, offset_field, length_field, passed}
+use Rattle.fields.specs.Fields.{len_ensured}
+use Rattle.fractal_heap.specs.HeaderReader.{Step, plain_field, offset_field, length_field, taken}
 use Rattle.fractal_heap.specs.declared.header_fields.FrontFields.{FrontFields}
 use Rattle.fractal_heap.specs.declared.header_fields.ObjectFields.{ObjectFields}
+use Rattle.fractal_heap.specs.declared.header_fields.TableFields.{TableFields}
 use Rattle.fractal_heap.specs.declared.header_fields.RootFields.{RootFields}
 
 -- what stands before the fields whose sizes the file chooses
@@ -15,12 +16,13 @@ abbrev pub front_fields : List ℕ → ℕ → Step FrontFields
 front_fields s p = do
   (heap_id_length, p) ← plain_field s p 2  -- Heap ID Length
   (io_filter_encoded_length, p) ← plain_field s p 2  -- I/O Filters' Encoded Length
-  p ← passed s p 1  -- Flags
+  (flags, p) ← plain_field s p 1  -- Flags
   (max_managed_object_size, p) ← plain_field s p 4  -- Maximum Size of Managed Objects
   Ok (
     record {
       heap_id_length = heap_id_length;
       io_filter_encoded_length = io_filter_encoded_length;
+      flags = flags;
       max_managed_object_size = max_managed_object_size;
     },
     p,
@@ -29,19 +31,29 @@ front_fields s p = do
 abbrev pub front_size : ℕ
 front_size = 9
 
--- the huge objects' tree, and how many managed objects there are; one test is made for the five fields between these:
--- Amount of Free Space in Managed Blocks (ls), Address of Managed Block Free Space Manager (os), Amount of Managed
--- Space in Heap (ls), Amount of Allocated Managed Space in Heap (ls), Offset of Direct Block Allocation Iterator in
--- Managed Space (ls)
+-- the huge objects' IDs and tree, the managed space, and how many managed objects there are; one test is made for the
+-- five fields between the tree's address and the number of objects
 abbrev pub object_fields : List ℕ → ℕ → ℕ → ℕ → Step ObjectFields
 object_fields s p os ls = do
-  p ← passed s p ls  -- Next Huge Object ID
+  _ ← len_ensured s p ls
+  (next_huge_object_id, p) ← taken s p ls  -- Next Huge Object ID
   (btree_huge_objects_address, p) ← offset_field s p os  -- v2 B-tree Address of Huge Objects
-  p ← passed s p (4 * ls + os)  -- the five
+  _ ← len_ensured s p (4 * ls + os)  -- the five:
+  (free_space_managed_blocks, p) ← taken s p ls  -- Amount of Free Space in Managed Blocks
+  (managed_block_free_space_manager_address, p) ← taken s p os  -- Address of Managed Block Free Space Manager
+  (managed_space_in_heap, p) ← taken s p ls  -- Amount of Managed Space in Heap
+  (allocated_managed_space_in_heap, p) ← taken s p ls  -- Amount of Allocated Managed Space in Heap
+  (direct_block_allocation_iterator_offset, p) ← taken s p ls  -- Offset of Direct Block Allocation Iterator in Managed Space
   (managed_objects_count, p) ← length_field s p ls  -- Number of Managed Objects in Heap
   Ok (
     record {
+      next_huge_object_id = next_huge_object_id;
       btree_huge_objects_address = btree_huge_objects_address;
+      free_space_managed_blocks = free_space_managed_blocks;
+      managed_block_free_space_manager_address = managed_block_free_space_manager_address;
+      managed_space_in_heap = managed_space_in_heap;
+      allocated_managed_space_in_heap = allocated_managed_space_in_heap;
+      direct_block_allocation_iterator_offset = direct_block_allocation_iterator_offset;
       managed_objects_count = managed_objects_count;
     },
     p,
@@ -50,21 +62,31 @@ object_fields s p os ls = do
 abbrev pub objects_size : ℕ → ℕ → ℕ
 objects_size os ls = 6 * ls + 2 * os
 
--- the doubling table; the four lengths before it are stepped over without a test: Size of Huge Objects in Heap, Number
--- of Huge Objects in Heap, Size of Tiny Objects in Heap, Number of Tiny Objects in Heap
-abbrev pub table_fields : List ℕ → ℕ → ℕ → Step DoublingTable
+-- the sizes and numbers of huge and of tiny objects, of which nothing is tested, and the doubling table, with whose tests
+-- they are there, too
+abbrev pub table_fields : List ℕ → ℕ → ℕ → Step TableFields
 table_fields s p ls = do
-  let p = p + 4 * ls  -- the four
+  (huge_objects_size, p) ← taken s p ls  -- Size of Huge Objects in Heap
+  (huge_objects_count, p) ← taken s p ls  -- Number of Huge Objects in Heap
+  (tiny_objects_size, p) ← taken s p ls  -- Size of Tiny Objects in Heap
+  (tiny_objects_count, p) ← taken s p ls  -- Number of Tiny Objects in Heap
   (table_width, p) ← plain_field s p 2  -- Table Width
   (starting_block_size, p) ← length_field s p ls  -- Starting Block Size
   (max_direct_block_size, p) ← length_field s p ls  -- Maximum Direct Block Size
   (max_heap_size, p) ← plain_field s p 2  -- Maximum Heap Size
   Ok (
     record {
-      table_width = table_width;
-      starting_block_size = starting_block_size;
-      max_direct_block_size = max_direct_block_size;
-      max_heap_size = max_heap_size;
+      huge_objects_size = huge_objects_size;
+      huge_objects_count = huge_objects_count;
+      tiny_objects_size = tiny_objects_size;
+      tiny_objects_count = tiny_objects_count;
+      table =
+          record {
+            table_width = table_width;
+            starting_block_size = starting_block_size;
+            max_direct_block_size = max_direct_block_size;
+            max_heap_size = max_heap_size;
+          };
     },
     p,
   )

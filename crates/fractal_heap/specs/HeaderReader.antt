@@ -1,9 +1,10 @@
 -- Steps through a header: each gives what stands at p of the file s, and where the next field begins. A field that is
 -- not all there is refused, with the end that it would have.
 use Rattle.std.specs.Prelude.{ℕ, ◌+◌, List, Result, Ok}
+use Rattle.fields.specs.LittleEndian.{le_at}
 use Rattle.refusals.specs.Steps.{◌>>=◌}
 use Rattle.refusals.specs.declared.FormatError.{FormatError}
-use Rattle.fields.specs.Fields.{len_ensured, plain_at, offset_at, length_at}
+use Rattle.fields.specs.Fields.{plain_at, offset_at, length_at}
 
 -- a value, and where the next field begins
 abbrev pub Step : Type 0 → Type 0
@@ -27,8 +28,6 @@ length_field s p ls = do
   number ← length_at s p ls
   Ok (number, p + ls)
 
--- n bytes whose numbers the header value has no place for: only where the next field begins
-abbrev pub passed : List ℕ → ℕ → ℕ → Result ℕ FormatError
-passed s p n = do
-  _ ← len_ensured s p n
-  Ok (p + n)
+-- the number of w bytes, of which nothing is tested: another test says that they are there
+abbrev pub taken : List ℕ → ℕ → ℕ → Step ℕ
+taken s p w = Ok (le_at s p w, p + w)

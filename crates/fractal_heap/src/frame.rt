@@ -5,6 +5,7 @@ ghost use Rattle.fractal_heap.specs.Frame.{start_checked, sum_checked};
 use checksum::jenkins_lookup3;
 use fields::ensure_len;
 use fields::little_endian::read_u32_le;
+use fields::signature::has_signature;
 use refusals::FormatError;
 
 /// Tests signature FRHP (else 4) and version 0 (else 5) at `at`, and tells where the first field begins.
@@ -15,7 +16,7 @@ pub fn check_start(file: &[u8], at: usize) -> Result<usize, FormatError>
     ensures there { IfOk result (λ pos. pos ≤ length file.now) }
 {
     ensure_len(file, at, 5)?;
-    if &file[at..at + 4] != b"FRHP".as_slice() {
+    if !has_signature(file, at, b"FRHP") {
         return Err(FormatError::InvalidFractalHeapSignature);
     }
     let version = file[at + 4];

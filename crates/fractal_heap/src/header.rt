@@ -1,5 +1,6 @@
 //! The header's fields, and parsing them from a file.
-ghost use Rattle.std.specs.Prelude.{◌≡◌, IfOk};
+ghost use Rattle.std.specs.Prelude.{◌≡◌, ◌≤◌, length, IfOk};
+ghost use Rattle.fields.specs.LittleEndian.{put};
 ghost use Rattle.fractal_heap.specs.Header.{header_at};
 
 use crate::frame::{check_start, check_sum};
@@ -7,7 +8,12 @@ use crate::header_fields::reader::Reader;
 use reading::DoublingTable;
 use refusals::FormatError;
 
-/// The header of a fractal heap: what the Rust crate keeps of it, under its names. After each is the format's name.
+/// How many fields a header has between version and checksum.
+pub const FIELD_COUNT: usize = 23;
+
+/// The header of a fractal heap: every field between version and checksum of one without filters, in header order. Of
+/// the Rust crate's fields and those that it steps over each has the name that its source gives it; after each is the
+/// format's name. What is called undefined has all bits set.
 #[derive(Clone, Copy, Debug, PartialEq, Eq)]
 pub struct FractalHeapHeader {
     /// How many bytes an ID of this heap has: Heap ID Length.
@@ -15,13 +21,38 @@ pub struct FractalHeapHeader {
     /// How many bytes the filter information takes that a header with filters has before its checksum; 0 where the heap
     /// has no filters: I/O Filters' Encoded Length.
     pub io_filter_encoded_length: u16,
+    /// Bits: that of value 1 is set where the IDs of huge objects have wrapped round, that of value 2 where direct blocks
+    /// have a checksum; the others are reserved: Flags.
+    pub flags: u8,
     /// The most bytes that a managed object may have, a longer one being huge: Maximum Size of Managed Objects.
     pub max_managed_object_size: u32,
-    /// The address of the tree by which huge objects are found, in bytes from the file's base: v2 B-tree Address of
-    /// Huge Objects.
+    /// The number that the next huge object is found by: Next Huge Object ID.
+    pub next_huge_object_id: u64,
+    /// The address of the tree by which huge objects are found, in bytes from the file's base, undefined where there is
+    /// none: v2 B-tree Address of Huge Objects.
     pub btree_huge_objects_address: u64,
+    /// How many bytes of the managed blocks are free: Amount of Free Space in Managed Blocks.
+    pub free_space_managed_blocks: u64,
+    /// The address of what keeps account of the free space, in bytes from the file's base, undefined where there is
+    /// nothing: Address of Managed Block Free Space Manager.
+    pub managed_block_free_space_manager_address: u64,
+    /// How many bytes of the heap space the root's rows span: Amount of Managed Space in Heap.
+    pub managed_space_in_heap: u64,
+    /// How many bytes of it have blocks in the file: Amount of Allocated Managed Space in Heap.
+    pub allocated_managed_space_in_heap: u64,
+    /// The heap offset, in bytes, at which the next direct block is to be placed: Offset of Direct Block Allocation
+    /// Iterator in Managed Space.
+    pub direct_block_allocation_iterator_offset: u64,
     /// How many managed objects the heap holds: Number of Managed Objects in Heap.
     pub managed_objects_count: u64,
+    /// How many bytes the huge objects have together: Size of Huge Objects in Heap.
+    pub huge_objects_size: u64,
+    /// How many huge objects the heap holds: Number of Huge Objects in Heap.
+    pub huge_objects_count: u64,
+    /// How many bytes the tiny objects have together: Size of Tiny Objects in Heap.
+    pub tiny_objects_size: u64,
+    /// How many tiny objects the heap holds: Number of Tiny Objects in Heap.
+    pub tiny_objects_count: u64,
     /// The numbers that say how large each block is, and where in the heap space: Table Width to Maximum Heap Size.
     /// They are one value, and four fields in the Rust crate, since what reads blocks needs these and nothing else of a
     /// header.
@@ -36,11 +67,24 @@ pub struct FractalHeapHeader {
     pub current_rows_in_root_indirect_block: u16,
 }
 
+// Puts numbers into the first places of a list.
+#[inline(always)]
+#[tactic(auto, unfolding(fields::specs::LittleEndian::put))]
+fn put_front(list: &mut [u64], numbers: &[u64])
+    requires { length numbers.now ≤ length list.old }
+    ensures { list.new ≡ put list.old 0 numbers.now }
+{
+    list[..numbers.len()].copy_from_slice(numbers);
+}
+
 impl FractalHeapHeader {
-    ghost use Rattle.fractal_heap.specs.Header.{header_numbers};
+    ghost use Rattle.fractal_heap.specs.Header.{header_numbers, field_count};
+    ghost use Rattle.fractal_heap.specs.Listed.{listed};
     ghost use Rattle.fractal_heap.specs.ReadLaws.{HeaderFits};
 
     /// The header at `offset` of the file, whose addresses have `offset_size` bytes and whose lengths `length_size`.
+    // Inlined, so that a caller reads no field that it does not use.
+    #[inline(always)]
     pub fn parse(
         file: &[u8],
         offset: usize,
@@ -65,25 +109,49 @@ impl FractalHeapHeader {
         Ok(FractalHeapHeader {
             heap_id_length: front.heap_id_length,
             io_filter_encoded_length: front.io_filter_encoded_length,
+            flags: front.flags,
             max_managed_object_size: front.max_managed_object_size,
+            next_huge_object_id: objects.next_huge_object_id,
             btree_huge_objects_address: objects.btree_huge_objects_address,
+            free_space_managed_blocks: objects.free_space_managed_blocks,
+            managed_block_free_space_manager_address: objects.managed_block_free_space_manager_address,
+            managed_space_in_heap: objects.managed_space_in_heap,
+            allocated_managed_space_in_heap: objects.allocated_managed_space_in_heap,
+            direct_block_allocation_iterator_offset: objects.direct_block_allocation_iterator_offset,
             managed_objects_count: objects.managed_objects_count,
-            table,
+            huge_objects_size: table.huge_objects_size,
+            huge_objects_count: table.huge_objects_count,
+            tiny_objects_size: table.tiny_objects_size,
+            tiny_objects_count: table.tiny_objects_count,
+            table: table.table,
             start_root_rows: root.start_root_rows,
             root_block_address: root.root_block_address,
             current_rows_in_root_indirect_block: root.current_rows_in_root_indirect_block,
         })
     }
 
-    /// The twelve fields as numbers, in the order of the Rust crate's struct, which has the number of objects last.
-    pub fn numbers(self) -> [u64; 12]
+    /// The fields as numbers, in header order.
+    #[inline(always)]
+    pub fn numbers(self) -> [u64; FIELD_COUNT]
         ensures { result ≡ header_numbers self }
     {
         [
             u64::from(self.heap_id_length),
             u64::from(self.io_filter_encoded_length),
+            u64::from(self.flags),
             u64::from(self.max_managed_object_size),
+            self.next_huge_object_id,
             self.btree_huge_objects_address,
+            self.free_space_managed_blocks,
+            self.managed_block_free_space_manager_address,
+            self.managed_space_in_heap,
+            self.allocated_managed_space_in_heap,
+            self.direct_block_allocation_iterator_offset,
+            self.managed_objects_count,
+            self.huge_objects_size,
+            self.huge_objects_count,
+            self.tiny_objects_size,
+            self.tiny_objects_count,
             u64::from(self.table.table_width),
             self.table.starting_block_size,
             self.table.max_direct_block_size,
@@ -91,7 +159,15 @@ impl FractalHeapHeader {
             u64::from(self.start_root_rows),
             self.root_block_address,
             u64::from(self.current_rows_in_root_indirect_block),
-            self.managed_objects_count,
         ]
+    }
+
+    /// Puts the fields into the first places of a list.
+    #[inline(always)]
+    pub fn put_numbers(self, list: &mut [u64])
+        requires { field_count ≤ length list.old }
+        ensures { list.new ≡ listed list.old self }
+    {
+        put_front(list, &self.numbers());
     }
 }

@@ -7,6 +7,7 @@ pub mod reader;
 ghost use Rattle.std.specs.Prelude.{◌≡◌, ◌+◌, ◌≤◌, length};
 
 use crate::header_fields::reader::Reader;
+use fields::ensure_len;
 use reading::DoublingTable;
 use refusals::FormatError;
 
@@ -15,14 +16,31 @@ use refusals::FormatError;
 pub struct FrontFields {
     pub heap_id_length: u16,
     pub io_filter_encoded_length: u16,
+    pub flags: u8,
     pub max_managed_object_size: u32,
 }
 
-/// The huge objects' tree, and how many managed objects there are.
+/// The huge objects' IDs and tree, the managed space, and how many managed objects there are.
 #[derive(Clone, Copy, Debug, PartialEq, Eq)]
 pub struct ObjectFields {
+    pub next_huge_object_id: u64,
     pub btree_huge_objects_address: u64,
+    pub free_space_managed_blocks: u64,
+    pub managed_block_free_space_manager_address: u64,
+    pub managed_space_in_heap: u64,
+    pub allocated_managed_space_in_heap: u64,
+    pub direct_block_allocation_iterator_offset: u64,
     pub managed_objects_count: u64,
+}
+
+/// The sizes and numbers of huge and of tiny objects, and the doubling table.
+#[derive(Clone, Copy, Debug, PartialEq, Eq)]
+pub struct TableFields {
+    pub huge_objects_size: u64,
+    pub huge_objects_count: u64,
+    pub tiny_objects_size: u64,
+    pub tiny_objects_count: u64,
+    pub table: DoublingTable,
 }
 
 /// The root block, and how many rows it has.
@@ -49,17 +67,19 @@ impl Reader<'_> {
     {
         let (heap_id_length, pos) = self.u16(pos)?;
         let (io_filter_encoded_length, pos) = self.u16(pos)?;
-        let pos = self.skip(pos, 1)?; // Flags
+        let (flags, pos) = self.u8(pos)?;
         let (max_managed_object_size, pos) = self.u32(pos)?;
         let front = FrontFields {
             heap_id_length,
             io_filter_encoded_length,
+            flags,
             max_managed_object_size,
         };
         Ok((front, pos))
     }
 
-    /// From Next Huge Object ID to Number of Managed Objects in Heap.
+    /// From Next Huge Object ID to Number of Managed Objects in Heap. What the original steps over is read when the test
+    /// of its width has passed, which a field behind it has.
     #[inline(always)]
     pub fn objects(&self, pos: usize) -> Result<(ObjectFields, usize), FormatError>
         ensures value { result
@@ -72,40 +92,61 @@ impl Reader<'_> {
     {
         let os = usize::from(self.offset_size);
         let ls = usize::from(self.length_size);
-        let pos = self.skip(pos, ls)?; // Next Huge Object ID
-        let (btree_huge_objects_address, pos) = self.offset(pos)?;
-        // free space, its manager, managed space, allocated space, allocation iterator
-        let pos = self.skip(pos, 4 * ls + os)?;
-        let (managed_objects_count, pos) = self.length(pos)?;
+        ensure_len(self.file, pos, ls)?;
+        let (btree_huge_objects_address, five) = self.offset(pos + ls)?;
+        ensure_len(self.file, five, 4 * ls + os)?;
+        let (managed_objects_count, end) = self.length(five + 4 * ls + os)?;
+        let (next_huge_object_id, _) = self.taken(pos, self.length_size);
+        let (free_space_managed_blocks, pos) = self.taken(five, self.length_size);
+        let (managed_block_free_space_manager_address, pos) = self.taken(pos, self.offset_size);
+        let (managed_space_in_heap, pos) = self.taken(pos, self.length_size);
+        let (allocated_managed_space_in_heap, pos) = self.taken(pos, self.length_size);
+        let (direct_block_allocation_iterator_offset, _) = self.taken(pos, self.length_size);
         let objects = ObjectFields {
+            next_huge_object_id,
             btree_huge_objects_address,
+            free_space_managed_blocks,
+            managed_block_free_space_manager_address,
+            managed_space_in_heap,
+            allocated_managed_space_in_heap,
+            direct_block_allocation_iterator_offset,
             managed_objects_count,
         };
-        Ok((objects, pos))
+        Ok((objects, end))
     }
 
     /// From Size of Huge Objects in Heap to Maximum Heap Size. The first four lengths are stepped over untested, as in
-    /// the original.
+    /// the original, and read when the tests behind them have passed.
     #[inline(always)]
-    pub fn table(&self, pos: usize) -> Result<(DoublingTable, usize), FormatError>
+    pub fn table(&self, pos: usize) -> Result<(TableFields, usize), FormatError>
         requires { pos ≤ length self.now.file.now }
         ensures value { result ≡ table_fields self.now.file.now pos self.now.length_size }
         ensures size { IfOk result (λ group. group.1 ≡ pos + table_size self.now.length_size) }
         ensures there { IfOk result (λ group. group.1 ≤ length self.now.file.now) }
     {
-        // sizes and numbers of huge and of tiny objects
+        let four = pos;
         let pos = pos + 4 * usize::from(self.length_size);
         let (table_width, pos) = self.u16(pos)?;
         let (starting_block_size, pos) = self.length(pos)?;
         let (max_direct_block_size, pos) = self.length(pos)?;
-        let (max_heap_size, pos) = self.u16(pos)?;
-        let table = DoublingTable {
-            table_width,
-            starting_block_size,
-            max_direct_block_size,
-            max_heap_size,
+        let (max_heap_size, end) = self.u16(pos)?;
+        let (huge_objects_size, pos) = self.taken(four, self.length_size);
+        let (huge_objects_count, pos) = self.taken(pos, self.length_size);
+        let (tiny_objects_size, pos) = self.taken(pos, self.length_size);
+        let (tiny_objects_count, _) = self.taken(pos, self.length_size);
+        let fields = TableFields {
+            huge_objects_size,
+            huge_objects_count,
+            tiny_objects_size,
+            tiny_objects_count,
+            table: DoublingTable {
+                table_width,
+                starting_block_size,
+                max_direct_block_size,
+                max_heap_size,
+            },
         };
-        Ok((table, pos))
+        Ok((fields, end))
     }
 
     /// From Starting # of Rows in Root Indirect Block to Current # of Rows in Root Indirect Block.

@@ -5,9 +5,8 @@ ghost use Rattle.ids.specs.Decoded.{decoded_id};
 ghost use Rattle.fractal_heap.specs.Read.{managed_at};
 
 use crate::header::FractalHeapHeader;
-use fields::place::Place;
-use ids::decode::ManagedId;
-use ids::decode::types::HeapIdType;
+use fields::Place;
+use ids::{HeapIdType, ManagedId};
 use reading::Search;
 use refusals::FormatError;
 

@@ -41,7 +41,6 @@ module _ (slot : List ℕ) (a n : ℕ) where
 -- two values that are answered with 0, in a slot that has room for them
 named : (slot : List ℕ) (a n : ℕ) → 16 ≤ length slot → a < 2 ^ 64 → n < 2 ^ 64
     → NamesPair (slot_number slot (answer 0 a n)) (slot_bytes slot (answer 0 a n)) a n
-unfolding slot_number slot_bytes
 named slot a n room l m =
     let long : nat_lt (length slot) 16 ≡ false = grind (arith, nat_tests, room) in
     rw long (record { answers_zero = refl; names_offset = first slot a n l; names_length = second slot a n m })

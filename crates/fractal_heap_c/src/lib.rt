@@ -1,10 +1,13 @@
-//! What the loader calls: the checksum, the decoding of a managed ID, and reading; in `open_plans` a plan that stays open.
-//! Decoding and reading parse the header at `at` first. Each returns the refusal's number, 0 where there is none, and puts the answer's two values into the
-//! first 16 bytes of the slot; a shorter slot gives 13 before all else. `put_answer` tests the slot, after parsing
-//! and answering, so what is handed back for a short slot is 13 whatever the file is.
+//! What the loader calls: the checksum, the decoding of a managed ID, and reading; in `headers` a header's fields, told and
+//! written, in `open_plans` a plan that stays open, in `written_ids` the ID of what was planned. Decoding and reading parse
+//! the header at `at` first. Each returns the refusal's number, 0 where there is none, and puts the answer's two values into
+//! the first 16 bytes of the slot; a shorter slot gives 13 before all else. In decoding and reading `put_answer` tests it,
+//! after parsing and answering, so what is handed back for a short slot is 13 whatever the file is.
 #![tactic(auto)]
 
+pub mod headers;
 pub mod open_plans;
+pub mod written_ids;
 
 ghost use Rattle.std.specs.Prelude.{◌≡◌, ◌≤◌, ℕ, length, Ok, ◌+◌, IfOk};
 ghost use Rattle.checksum.specs.Lookup3.{hashlittle};
@@ -15,19 +18,18 @@ ghost use Rattle.fields.specs.Places.{place_report};
 ghost use Rattle.fractal_heap.specs.declared.header.FractalHeapHeader.{FractalHeapHeader};
 ghost use Rattle.fractal_heap.specs.Header.{header_at};
 ghost use Rattle.fractal_heap.specs.Read.{id_by, object_by};
+ghost use Rattle.heap_kept.specs.FromBytes.{ForWritten};
 ghost use Rattle.heap_kept.specs.Kept.{ForKept};
-ghost use Rattle.table.specs.Table.{fixed};
 ghost use Rattle.fractal_heap_c.specs.InSlot.{NamesPlace, NamesPair};
-ghost use Rattle.fractal_heap_c.specs.WrittenIds.{IsWrittenId};
+ghost use Rattle.fractal_heap_c.specs.WrittenIds.{DecodesOurIds, IsWrittenId};
 
 use checksum::jenkins_lookup3;
+use fields::Place;
 use fields::convert::to_usize;
-use fields::place::Place;
 use fields::slot::put_answer;
-use fractal_heap::header::FractalHeapHeader;
-use ids::decode::ManagedId;
-use refusals::FormatError;
-use refusals::answer::Reported;
+use fractal_heap::FractalHeapHeader;
+use ids::ManagedId;
+use refusals::{FormatError, Reported};
 
 /// The checksum of HDF5's metadata: lookup3 of the bytes, with initial value 0.
 #[unsafe(no_mangle)]
@@ -82,7 +84,7 @@ pub extern "C" fn fractal_heap_decode_managed_id(
         (report_of id_report (id_by file.now at offset_size length_size id.now)) }
     ensures kept { (header : FractalHeapHeader)
         → header_at file.now at offset_size length_size ≡ Ok header
-        → header.table.max_heap_size ≡ fixed.heap_bits
+        → DecodesOurIds header
         → (offset len : ℕ) → IsWrittenId id.now offset len
         → 16 ≤ length slot.old → NamesPair result slot.new offset len }
 {
@@ -95,7 +97,7 @@ pub extern "C" fn fractal_heap_decode_managed_id(
 /// Position in the file and length of a managed object.
 ///
 /// Of a heap that our writer wrote, and by an ID that it gave, early or at the end, the file has the object's bytes
-/// there.
+/// there, whoever wrote its header: `kept` says so where the header parses, `from_bytes` where its bytes stand.
 #[unsafe(no_mangle)]
 pub extern "C" fn fractal_heap_read_managed_object(
     file: &[u8],
@@ -116,6 +118,9 @@ pub extern "C" fn fractal_heap_read_managed_object(
     ensures kept { (header : FractalHeapHeader)
         → header_at file.now at offset_size length_size ≡ Ok header
         → ForKept header file.now offset_size id.now
+        (λ bytes. 16 ≤ length slot.old → NamesPlace result slot.new file.now bytes) }
+    // The same where the file holds the header's bytes, as the header writer leaves them.
+    ensures from_bytes { ForWritten file.now at offset_size length_size id.now
         (λ bytes. 16 ≤ length slot.old → NamesPlace result slot.new file.now bytes) }
 {
     put_answer(slot, read(file, at, offset_size, length_size, id).answer())

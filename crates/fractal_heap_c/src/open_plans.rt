@@ -10,8 +10,8 @@ ghost use Rattle.open_plan.specs.Additions.{addition};
 ghost use Rattle.open_plan.specs.Open.{IsPlanOf, Extends, RefusedAsPlanned};
 ghost use Rattle.fractal_heap_c.specs.Opened.{opening_report, addition_report};
 
+use fields::Width;
 use fields::slot::put_answer;
-use fields::width::Width;
 use open_plan::OpenPlan;
 use plan::report::put_planned;
 use refusals::{Answer, Reported, SLICE_TOO_SHORT};
@@ -28,7 +28,6 @@ pub struct OpenedPlan {
 /// Opens the plan of no objects, for addresses of `offset_size` bytes: 2 is the refusal of a size that is none. The plan
 /// is handed back by value, so that no place has to be lent that holds none yet. Where it is refused, or the slot has
 /// fewer than 16 bytes (13), what stands in its place is a plan of no objects for addresses of eight bytes.
-#[tactic(auto, unfolding(fields::specs::Slot::slot_number, fields::specs::Slot::slot_bytes))]
 #[unsafe(no_mangle)]
 pub extern "C" fn fractal_heap_open_plan(offset_size: u8, slot: &mut [u8]) -> OpenedPlan
     ensures number { result.number ≡ slot_number slot.old (opening_report offset_size) }
@@ -60,7 +59,7 @@ pub extern "C" fn fractal_heap_open_plan(offset_size: u8, slot: &mut [u8]) -> Op
 /// Adds an object of `size` bytes: its heap offset is the first value. A size above the largest is refused by 11, one
 /// that no slot is left for by 12, both with the number of accepted objects as the index; then the plan stays as it is,
 /// and a smaller size may follow. With a slot of fewer than 16 bytes nothing is added (13).
-#[tactic(auto, using(crate::proofs::Refusing::refused_not_zero), unfolding(fields::specs::Slot::slot_number, fields::specs::Slot::slot_bytes))]
+#[tactic(auto, using(crate::proofs::Refusing::refused_not_zero))]
 #[unsafe(no_mangle)]
 pub extern "C" fn fractal_heap_plan_add(plan: &mut OpenPlan, size: u64, slot: &mut [u8]) -> u32
     ensures number { result ≡ slot_number slot.old (addition_report (addition

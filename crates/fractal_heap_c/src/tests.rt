@@ -1,20 +1,20 @@
 //! What a caller gets by `fractal_heap_read_managed_object` and `fractal_heap_decode_managed_id`, said from their
-//! clauses `kept` alone, and so read from a file.
+//! clauses `kept` and `from_bytes` alone, and so read from a file.
 ghost use Rattle.std.specs.Prelude.{◌≡◌, ℕ, Ok, Some, IsSomeAnd};
 ghost use Rattle.fractal_heap.specs.declared.header.FractalHeapHeader.{FractalHeapHeader};
 ghost use Rattle.fractal_heap.specs.Header.{header_at};
+ghost use Rattle.heap_kept.specs.FromBytes.{ForWritten};
 ghost use Rattle.heap_kept.specs.Kept.{ForKept};
-ghost use Rattle.table.specs.Table.{fixed};
-ghost use Rattle.fractal_heap_c.specs.WrittenIds.{IsWrittenId};
+ghost use Rattle.fractal_heap_c.specs.WrittenIds.{DecodesOurIds, IsWrittenId};
 
 use super::*;
 use crate::open_plans::{
     OpenedPlan, fractal_heap_open_plan, fractal_heap_plan_add, fractal_heap_plan_totals,
 };
+use crate::written_ids::fractal_heap_write_managed_id;
 use fields::has_room;
 use fields::little_endian::read_u64_le;
 use fractal_heap_write::serialize;
-use ids::write::write_managed_id;
 use region_blocks::Site;
 use std::test::Fail;
 
@@ -26,9 +26,11 @@ fn object_bytes<'a>(
     length_size: u8,
     id: &[u8],
 ) -> Option<&'a [u8]>
-    ensures { (header : FractalHeapHeader)
+    ensures kept { (header : FractalHeapHeader)
         → header_at file.now at offset_size length_size ≡ Ok header
         → ForKept header file.now offset_size id.now
+        (λ bytes. IsSomeAnd result (λ found. found.now ≡ bytes)) }
+    ensures from_bytes { ForWritten file.now at offset_size length_size id.now
         (λ bytes. IsSomeAnd result (λ found. found.now ≡ bytes)) }
 {
     let mut slot = [0u8; 16];
@@ -52,7 +54,7 @@ fn object_bytes<'a>(
 fn id_pair(file: &[u8], at: u64, offset_size: u8, length_size: u8, id: &[u8]) -> Option<(u64, u64)>
     ensures { (header : FractalHeapHeader)
         → header_at file.now at offset_size length_size ≡ Ok header
-        → header.table.max_heap_size ≡ fixed.heap_bits
+        → DecodesOurIds header
         → (offset len : ℕ) → IsWrittenId id.now offset len → result ≡ Some (offset, len) }
 {
     let mut slot = [0u8; 16];
@@ -95,12 +97,14 @@ fn an_object_is_found(rt: HostRuntime) -> Result<(), Fail> {
     front.copy_from_slice(&header(146, 1));
     let (offsets, blocks) = (&mut [0; 2], &mut [0; 2]);
     serialize(&[1_002, 1], &objects, site, offsets, blocks, region)?;
-    let mut id = [0u8; 8];
-    write_managed_id(1_046, 1, &mut id)?;
+    let (mut id, mut slot) = ([0u8; 8], [0u8; 16]);
+    let written = fractal_heap_write_managed_id(1_046, 1, &mut id, &mut slot);
+    assert_eq!(rt; written, 0);
     assert_eq!(rt; id_pair(&file, 0, 8, 8, &id), Some((1_046, 1)));
     let found = object_bytes(&file, 0, 8, 8, &id).ok_or("the second object")?;
     assert_eq!(rt; found, [7].as_slice());
-    write_managed_id(22, 1_002, &mut id)?;
+    let written = fractal_heap_write_managed_id(22, 1_002, &mut id, &mut slot);
+    assert_eq!(rt; written, 0);
     let found = object_bytes(&file, 0, 8, 8, &id).ok_or("the first object")?;
     assert_eq!(rt; found, &objects[..1_002]);
     Ok(())
@@ -109,6 +113,28 @@ fn an_object_is_found(rt: HostRuntime) -> Result<(), Fail> {
 // The two values of a slot.
 fn values(slot: &[u8; 16]) -> (u64, u64) {
     (read_u64_le(slot, 0), read_u64_le(slot, 8))
+}
+
+// The worked ID of 1,003 bytes at 8,214, and the refusals: 16 before 13, of which the slot says nothing.
+#[test]
+fn an_id_is_written(rt: HostRuntime) -> Result<(), Fail> {
+    let (mut id, mut slot) = ([9; 9], [9; 16]);
+    let written = fractal_heap_write_managed_id(8_214, 1_003, &mut id, &mut slot);
+    assert_eq!(rt; written, 0);
+    assert_eq!(rt; id, [0x00, 0x16, 0x20, 0x00, 0x00, 0x00, 0xEB, 0x03, 9]);
+    assert_eq!(rt; values(&slot), (0, 0));
+    let before = id;
+    let end = 1 << 40;
+    let written = fractal_heap_write_managed_id(end, 0, &mut id[..7], &mut slot);
+    assert_eq!(rt; written, 16);
+    assert_eq!(rt; values(&slot), (end, 0));
+    let written = fractal_heap_write_managed_id(22, 1, &mut id[..7], &mut slot);
+    assert_eq!(rt; written, 13);
+    assert_eq!(rt; values(&slot), (end, 0));
+    let written = fractal_heap_write_managed_id(22, 1, &mut id, &mut slot[..15]);
+    assert_eq!(rt; written, 13);
+    assert_eq!(rt; id, before);
+    Ok(())
 }
 
 // The worked heap of 1,002 and 1 bytes, one by one, with refused sizes between them.

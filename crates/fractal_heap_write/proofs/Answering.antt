@@ -1,15 +1,17 @@
 -- The writer's answer, case by case, and what its tests let pass.
 use Rattle.std.proofs.Common.{ℕ, ◌*◌, ◌^◌, ◌≤◌, ◌<◌, ◌≡◌, true, List, arith, pow_mono, pow_pos}
-use Rattle.std.proofs.Common.{Result, Ok}
+use Rattle.std.proofs.Common.{Result, Ok, Err}
 use Rattle.std.proofs.lemmas.Grind.{common_steps}
 use Rattle.std.proofs.lemmas.Bool.Decides.{nat_tests}
 use Rattle.refusals.specs.declared.FormatError.{FormatError}
+use Rattle.refusals.specs.declared.FormatError.TheVariants.{InvalidOffsetSize}
 use Rattle.fields.specs.Widths.{legal}
 use Rattle.fields.proofs.Widths.{legal-small}
 use Rattle.fields.specs.Undefined.{undefined_address}
 use Rattle.numbers.specs.Sums.{sum}
 use Rattle.plan.specs.declared.ManagedPlan.{ManagedPlan}
 use Rattle.plan.specs.Answer.{planned_for}
+use Rattle.plan.specs.Checks.{input_checked}
 use Rattle.plan.proofs.Answering.{accepted}
 use Rattle.plan.proofs.Laying.{used-sum, still-ok, ran-ok, ran-laid}
 use Rattle.fractal_heap_write.specs.Checks.{Fit}
@@ -46,3 +48,10 @@ planned_sum xs o b w p e =
     let L = ran-laid w xs G.state G.ran in
     let I = still-ok (ran-ok w) L in
     omega (arith, used-sum L, I.heap, I.taken, I.spent)
+
+-- another width than 2, 4 and 8 is refused first
+pub width-refused : (xs : List ℕ) (o b w : ℕ) → (legal w ≡ true → ⊥) → planned_for xs o b w ≡ Err (InvalidOffsetSize w)
+unfolding planned_for input_checked
+width-refused xs o b w h = grind (arith, common_steps)
+
+pub ruleset planning = (planned_sum, width-refused)

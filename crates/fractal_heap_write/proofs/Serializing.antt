@@ -7,7 +7,7 @@ use Rattle.fields.specs.LittleEndian.{put}
 use Rattle.fields.proofs.LittleEndian.{put_front}
 use Rattle.fields.proofs.Widths.{legal-small}
 use Rattle.numbers.specs.Sums.{sum}
-use Rattle.table.specs.Table.{fixed, row_offset}
+use Rattle.table.specs.Table.{fixed, row_offset, max_rows}
 use Rattle.table.specs.Sizes.{max_managed}
 use Rattle.planner.specs.Steps.{plan_starts}
 use Rattle.planner.specs.Requires.{Small, Runs}
@@ -26,7 +26,7 @@ use Rattle.fractal_heap_write.specs.Answer.{Accepted}
 use Rattle.fractal_heap_write.proofs.Answering.{below-undefined}
 
 -- as many rows as the heap space has
-rows_few : (n : ℕ) → row_offset fixed (suc n) ≤ 2 ^ 40 → suc n ≤ 29
+rows_few : (n : ℕ) → row_offset fixed (suc n) ≤ 2 ^ fixed.heap_bits → suc n ≤ max_rows fixed
 unfolding row_offset
 rows_few n l =
     elim (cases_lt 28 n) [
@@ -69,7 +69,7 @@ module _ {xs : List ℕ} {lent : Lent} {site : Site} {p : ManagedPlan} (A : Acce
   space_within = let z = indirect-bytes xs lent.offset_places lent.block_places site.offset_size p A.planned 0 in
       omega arith
 
-  few : p.root_rows ≤ 29
+  few : p.root_rows ≤ max_rows fixed
   few = ⊎_elim
       (λ (B : Bare site.offset_size xs p went.state). omega (arith, B.rows))
       (λ (R : Rowed site.offset_size xs p went.state). omega (arith, R.rows, rows_few R.n R.heap))
@@ -108,11 +108,11 @@ module _ {xs : List ℕ} {lent : Lent} {site : Site} {p : ManagedPlan} (A : Acce
         let u = below-undefined w (a + p.region_size) passes.width A.fit.end in
         record {
           narrow = legal-small w passes.width;
-          few = few;
+          rows_of_root = few;
           room = omega arith;
-          behind = omega arith;
-          addresses = omega arith;
-          direct =
+          directs_in_region = omega arith;
+          addresses_fit = omega arith;
+          next_fits =
               λ l. (let m =
               (indirect-planned xs lent.offset_places lent.block_places w p A.planned l h a (a + size)).next in
               omega arith);
@@ -130,7 +130,7 @@ module _ {xs : List ℕ} {lent : Lent} {site : Site} {p : ManagedPlan} (A : Acce
           rooted = rooted;
           starts-are = refl;
           size_is = omega arith;
-          ahead = omega arith;
+          indirects_fill = omega arith;
           small = sizes-small;
           runs = runs;
           joined = sym j;

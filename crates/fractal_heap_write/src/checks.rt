@@ -7,8 +7,7 @@ ghost use Rattle.fractal_heap_write.specs.Answer.{Accepted, serialized_for};
 ghost use Rattle.fractal_heap_write.specs.Checks.{bytes_checked, header_address_checked, region_address_checked};
 
 use fields::convert::undefined_address;
-use fields::width::Width;
-use fields::{has_room, offset_width};
+use fields::{Width, has_room, offset_width};
 use plan::checks::check_places;
 use plan::{ManagedPlan, planned_for};
 use refusals::FormatError;
@@ -35,7 +34,7 @@ fn sum_sizes(sizes: &[u64]) -> u64
 // Tests that as many bytes of objects are given as their sizes need: else 14.
 fn check_bytes(needed: u64, given: u64) -> Result<(), FormatError>
     ensures value { result ≡ bytes_checked needed given }
-    ensures same { OnOk result (needed ≡ given) }
+    ensures all_given { OnOk result (needed ≡ given) }
 {
     if needed != given {
         return Err(FormatError::ObjectBytesMismatch { sum: needed, given });
@@ -58,7 +57,7 @@ fn check_header_address(address: u64, width: Width) -> Result<(), FormatError>
 // wrap.
 fn check_region_address(address: u64, size: u64, width: Width) -> Result<(), FormatError>
     ensures value { result ≡ region_address_checked (byte_count width) address size }
-    ensures end { OnOk result (address + size ≤ undefined_address (byte_count width)) }
+    ensures end_defined { OnOk result (address + size ≤ undefined_address (byte_count width)) }
 {
     let undefined = undefined_address(width);
     if !has_room(undefined as usize, address as usize, size as usize) {
@@ -70,7 +69,7 @@ fn check_region_address(address: u64, size: u64, width: Width) -> Result<(), For
 /// The plan of objects of these sizes, if all tests pass for what is lent and the site of the region: first those of
 /// planning (2, 13 for the offsets, 13 for the blocks, 11, 12), then 14, 13 for the region, 15 for the header, 15 for
 /// the region.
-#[tactic(auto, unfolding(plan::specs::Answer::planned_for, plan::specs::Checks::input_checked), using(crate::proofs::Answering::planned_sum))]
+#[tactic(auto, using(crate::proofs::Answering::planning))]
 pub fn serialized_for(sizes: &[u64], lent: Lent, site: Site) -> Result<ManagedPlan, FormatError>
     ensures answer { result ≡ serialized_for sizes.now lent site }
     ensures accepted { IfOk result (λ plan. Accepted sizes.now lent site plan) }

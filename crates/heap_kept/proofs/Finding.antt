@@ -10,7 +10,7 @@ use Rattle.table.specs.Sizes.{offset_bytes}
 use Rattle.table.specs.Slots.{slot_at}
 use Rattle.table_laws.proofs.Format.{SlotOf, direct-local}
 use Rattle.plan.specs.Plans.{sizes_at}
-use Rattle.region_indirects.specs.Walk.{Walked, direct, all_slots, block}
+use Rattle.region_indirects.specs.Walk.{Walked, all_slots, block}
 use Rattle.region_indirects.proofs.Walking.{slot-entry}
 use Rattle.region_write.proofs.Starts.{Placed, more, before, from, before-yes, before-no, from-placed, before-later}
 use Rattle.region_write.proofs.Starts.{from-later, sizes-append}
@@ -95,7 +95,6 @@ module _ (t : Table) (g : t.start_bits ≤ t.direct_bits) (wd : t.width_bits + t
       taken : {ss : List ℕ} {pos next : ℕ} (e : ℕ) → Way t w header n r at pos next ss
           → IsToCome t b a bs at ss next → b < at + z → Stands F s w pos e (in_slot t w header n r at ss pos next)
           → Settled d then Wanted s w target r e at
-      unfolding direct
       taken e (empty none _ q) S u H rs = absurd (coming-some (at + z) S u none)
       taken {next = next} e (placed {s = s₁} {ss = ss} dr is size R q) S u H rs =
           let o = own-slot t g wd B C b (slot_at t b).size (coming-slot S) dr S.not_passed u in

@@ -210,7 +210,7 @@ module _ {c : Call} {p : ManagedPlan} (W : WriterAccepts c p) where
 
         -- a root of no rows is the one block
         pub by_bare : p.root_rows ≡ 0 → root_at h F t len w ≡ direct_at F place_of start t len
-        unfolding root_walk sizes_at
+        unfolding sizes_at
         by_bare z =
             let B = bare-planned xs o b w p planned z in
             let r = B.region in
@@ -278,7 +278,6 @@ module _ {c : Call} {p : ManagedPlan} (W : WriterAccepts c p) where
 
           by-walk : (x : Result Place FormatError)
               → walk_from (numbers_of fixed) F w t len 64 root p.root_rows 0 ≡ x → root_at h F t len w ≡ x
-          unfolding root_walk
           by-walk x q =
               let e = root_is in
               let u = root_below in

@@ -1,17 +1,17 @@
 -- Written indirect blocks in a file: their slots one by one, their signature, and where their entries are.
-use Rattle.std.proofs.Common.{◌≡◌, ℕ, suc, ◌+◌, ◌-◌, ◌*◌, ◌/◌, ◌^◌, ◌<◌, ◌≤◌, List, [], ◌∷◌, ◌++◌, length, drop}
+use Rattle.std.proofs.Common.{◌≡◌, ℕ, suc, ◌+◌, ◌-◌, ◌*◌, ◌/◌, ◌^◌, ◌<◌, ◌≤◌, List, [], ◌∷◌, ◌++◌, length, take, drop, true}
 use Rattle.std.proofs.Common.{Option, Result, refl, sym, ap, ◌∙◌, subst, arith, add-zero, length-append}
 use Rattle.std.proofs.lemmas.Grind.{common_steps}
-use Rattle.fields.specs.LittleEndian.{le, value}
+use Rattle.std.specs.Prelude.{bytes_eq}
+use Rattle.fields.specs.LittleEndian.{le}
 use Rattle.fields.specs.Fields.{len_ensured}
-use Rattle.fields.proofs.LittleEndian.{length-le}
 use Rattle.checksum.specs.Lookup3.{hashlittle}
 use Rattle.table.specs.Table.{Table}
 use Rattle.table.specs.Sizes.{offset_bytes}
 use Rattle.fields.specs.Signatures.{indirect_signature}
 use Rattle.region_blocks.specs.Blocks.{block_head, indirect_block}
 use Rattle.region_blocks.proofs.Lengths.{indirect-head-length, indirect-length}
-use Rattle.region_indirects.specs.Walk.{Walked, both, finished, slot, smaller, all_slots, block}
+use Rattle.region_indirects.specs.Walk.{Walked, both, slot, smaller, all_slots, block}
 use Rattle.reading.specs.declared.rows.DoublingTable.{DoublingTable}
 use Rattle.reading.specs.declared.children.HeapChild.{HeapChild}
 use Rattle.fields.specs.declared.place.Place.{Place}
@@ -22,7 +22,7 @@ use Rattle.numbers.specs.Numbers.{saturated}
 use Rattle.reading.specs.Blocks.{slot_rows, child_in_slots, entries_place, child_in, child_at}
 use Rattle.reading.specs.Walk.{direct_at, by_child, walk_from}
 use Rattle.heap_kept.specs.Walking.{HasBytes}
-use Rattle.heap_kept.proofs.Holding.{has_left, has_right, has-drop, has-number}
+use Rattle.heap_kept.proofs.Holding.{has_left, has_right, has-drop}
 
 -- what is written of the slot at the heap offset `at`, in row r of a block of n rows
 abbrev pub in_slot : Table → ℕ → ℕ → ℕ → ℕ → ℕ → List ℕ → ℕ → ℕ → Walked
@@ -36,7 +36,6 @@ pub record Stands (F s : List ℕ) (w pos e : ℕ) (o : Walked) : Type 0 where
 
 module _ {F s : List ℕ} {w pos e : ℕ} (c o : Walked) where
   pub stands-first : Stands F s w pos e (both c o) → Stands F s w pos e c
-  unfolding both
   stands-first S =
       let n = length-append c.bytes o.bytes in
       let l = S.below in
@@ -47,7 +46,6 @@ module _ {F s : List ℕ} {w pos e : ℕ} (c o : Walked) where
       }
 
   pub stands-next : length c.entries ≡ w → Stands F s w pos e (both c o) → Stands F s w (pos + length c.bytes) (e + w) o
-  unfolding both
   stands-next k S =
       let n = length-append c.bytes o.bytes in
       let l = S.below in
@@ -61,12 +59,12 @@ module _ (t : Table) (w header n at : ℕ) (ss : List ℕ) (pos next : ℕ) wher
   pub block-bytes : (block t w header n at ss pos next).bytes
       ≡ (all_slots t w header n at ss pos next).bytes ++ indirect_block t w header at
       (all_slots t w header n at ss pos next).entries
-  unfolding block finished
+  unfolding block
   block-bytes = refl
 
   pub block-entry : (block t w header n at ss pos next).entries
       ≡ le w (pos + length (all_slots t w header n at ss pos next).bytes)
-  unfolding block finished
+  unfolding block
   block-entry = refl
 
   -- the block itself stands below what it ends below
@@ -91,8 +89,8 @@ module _ (t : Table) (w header : ℕ) (F : List ℕ) (p at : ℕ) (es : List ℕ
       let behind = has_right F p (block_head t w indirect_signature header at) es head-has in
       has-drop F p (5 + w + offset_bytes t) es (rw (indirect-head-length t w header at) at behind)
 
-  sign-has : HasBytes (drop p F) 0 (le 4 0x42494846)
-  unfolding block_head le
+  sign-has : HasBytes (drop p F) 0 indirect_signature
+  unfolding block_head
   sign-has =
       has-drop F p 0 indirect_signature (subst (λ (y : ℕ). HasBytes F y indirect_signature) (sym (add-zero p))
       (has_left F p indirect_signature ((0 ∷ []) ++ (le w header ++ le (offset_bytes t) at))
@@ -134,13 +132,12 @@ pub walk-scans : (t : Table) (w header : ℕ) (d : DoublingTable) → d.max_heap
     → walk_from d F w target len (suc depth) p n at
     ≡ onward d F w target len depth
     (child_in_slots d (drop p F) w target (slot_rows d n 0) (5 + w + offset_bytes t) at)
-unfolding walk_from child_at child_in value len_ensured entries_place offset_bytes
+unfolding walk_from offset_bytes
 walk-scans t w header d bits F target len p n at depth es H =
     let r = H.in_file in
     let l = indirect-length t w header at es in
     let S = sign-has t w header F p at es H in
     let k = S.in_file in
-    let m = length-le 4 0x42494846 in
-    let signed = has-number (drop p F) 4 0 0x42494846 (omega arith) S in
+    let signed : bytes_eq (take 4 (drop p F)) indirect_signature ≡ true = rw S.bytes_there refl in
     let behind = ap (λ (k : ℕ). 5 + w + (k + 7) / 8) bits in
     grind (arith, common_steps)

@@ -26,7 +26,7 @@ use Rattle.fractal_heap.specs.declared.header.FractalHeapHeader.{FractalHeapHead
 use Rattle.fractal_heap.specs.Read.{root_at, managed_at}
 use Rattle.ids.specs.Written.{managed_id}
 use Rattle.heap_kept.proofs.Holding.{has_part}
-use Rattle.heap_kept.specs.HeapKept.{Call, WriterAccepts, HoldsRegion, IsHeaderOf, offset_of, ComesBack, part_of}
+use Rattle.heap_kept.specs.HeapKept.{Call, WriterAccepts, HoldsRegion, IsHeaderOf, offset_of, object_id, ComesBack, part_of}
 use Rattle.heap_kept.specs.HeapKept.{HeapKept, EarlyIdsHold}
 use Rattle.ids.proofs.ReadBack.{decodes}
 use Rattle.heap_kept.proofs.Ids.{id-passes}
@@ -48,7 +48,6 @@ by-id {h = h} T F w o x lo hi =
 -- len bytes in a block that the file holds
 pub in_block : (F : List ℕ) (a b t len : ℕ) → a + (t - b) ≤ 2 ^ 64 - 1 → a + (t - b) + len ≤ length F
     → direct_at F a b t len ≡ Ok (record { position = a + (t - b); length = len })
-unfolding direct_at len_ensured
 in_block F a b t len u v = grind (arith, nat_tests)
 
 -- ---- an object
@@ -164,28 +163,31 @@ part-early xs js k i l m =
     ∙ ap (take (slice_index xs i)) (drop-take s r js)
     ∙ take-take (slice_index xs i) r (drop s js) (omega arith)
 
--- an ID given when there were the first objects alone is the object's ID among all, and reads the same bytes there
+module _ {c : Call} {p : ManagedPlan} (W : WriterAccepts c p) (early i : ℕ) (l : i < early) (m : i < length c.sizes) where
+  size-stays : slice_index (take early c.sizes) i ≡ slice_index c.sizes i
+  size-stays = get_or-take early c.sizes i 0 l
+
+  offset-stays : offset_of c.site.offset_size (take early c.sizes) i ≡ offset_of c.site.offset_size c.sizes i
+  offset-stays =
+      let w : ℕ = c.site.offset_size in
+      let k = length (take early c.sizes) in
+      let F = front-part c.sizes c.offset_places c.block_places w p (planned W) early k (max 1 k) (omega arith)
+      (omega arith) in
+      ap (λ (v : List ℕ). slice_index v i) F.same_offsets ∙ get_or-take early (plan_offsets fixed w c.sizes) i 0 l
+
+  -- an ID given when there were the first objects alone is the object's ID among all
+  pub early-id-stays :
+      object_id c.site.offset_size (take early c.sizes) i ≡ object_id c.site.offset_size c.sizes i
+  early-id-stays = ap₂ (managed_id fixed) offset-stays size-stays
+
+-- and reads the same bytes there
 pub early-id-holds : EarlyIdsHold
 early-id-holds c p W file H h T early i l m s =
+    let w : ℕ = c.site.offset_size in
+    let xs : List ℕ = c.sizes in
     record {
-      id_stays = ap₂ (managed_id fixed) offset-stays size_stays;
+      id_stays = early-id-stays W early i l m;
       comes_back = subst (ComesBack file h w (offset_of w (take early xs) i) (slice_index (take early xs) i))
           (sym (part-early xs c.objects early i l m))
-          (rw (offset-stays, size_stays) (nonempty-back W H T m s));
+          (rw (offset-stays W early i l m, size-stays W early i l m) (nonempty-back W H T m s));
     }
-  where
-    xs : List ℕ
-    xs = c.sizes
-
-    w : ℕ
-    w = c.site.offset_size
-
-    size_stays : slice_index (take early xs) i ≡ slice_index xs i
-    size_stays = get_or-take early xs i 0 l
-
-    offset-stays : offset_of w (take early xs) i ≡ offset_of w xs i
-    offset-stays =
-        let k = length (take early xs) in
-        let F = front-part xs c.offset_places c.block_places w p (planned W) early k (max 1 k) (omega arith)
-        (omega arith) in
-        ap (λ (v : List ℕ). slice_index v i) F.same_offsets ∙ get_or-take early (plan_offsets fixed w xs) i 0 l

@@ -1,11 +1,12 @@
-//! The bytes of an object, by the ID that it was given: `fetch` is lent the file, a header and the ID, and never sees
-//! what was written.
+//! The bytes of an object, by the ID that it was given: `fetch` is lent the file, a header and the ID, and `fetch_at` the
+//! header's place in the file for the header; neither sees what was written.
 ghost use Rattle.std.specs.Prelude.{◌≡◌, ◌+◌, ◌≤◌, ◌++◌, length, take, drop, Ok, IfOk, OnOk, OnErr};
 ghost use Rattle.fields.specs.declared.place.Place.{Place};
-ghost use Rattle.fractal_heap.specs.Read.{managed_at};
+ghost use Rattle.fractal_heap.specs.Read.{managed_at, object_by};
+ghost use Rattle.heap_kept.specs.FromBytes.{ForWritten};
 ghost use Rattle.heap_kept.specs.Kept.{ForKept, IsFetched, fetched};
 
-use fractal_heap::header::FractalHeapHeader;
+use fractal_heap::FractalHeapHeader;
 use refusals::FormatError;
 
 /// Copies the bytes of the managed object that an ID names into the front of `found`, and answers how many they are.
@@ -44,4 +45,35 @@ pub fn fetch(
     }
     found[..count].copy_from_slice(&file[start..start + count]);
     Ok(count)
+}
+
+/// The same by the header at `at` of the file, whose addresses have `offset_size` bytes and whose lengths `length_size`:
+/// it is parsed, and refused as `parse` refuses. What `fetch` answers follows.
+///
+/// Of a file that holds a header and a region of ours, as they were written, and by an ID that was given, early or at
+/// the end, these are the object's bytes: nothing else of the heap is at hand, neither its header's fields nor its
+/// objects.
+pub fn fetch_at(
+    file: &[u8],
+    at: usize,
+    offset_size: u8,
+    length_size: u8,
+    id: &[u8],
+    found: &mut [u8],
+) -> Result<usize, FormatError>
+    ensures kept { ForWritten file.now at offset_size length_size id.now
+        (λ bytes. length bytes ≤ length found.old → IsFetched result found.old found.new bytes) }
+
+    ensures in_file { IfOk (object_by file.now at offset_size length_size id.now offset_size)
+        (λ place. place.position + place.length ≤ length file.now) }
+    ensures answer { result
+        ≡ fetched (object_by file.now at offset_size length_size id.now offset_size) (length found.old) }
+    ensures copied { (place : Place)
+        → object_by file.now at offset_size length_size id.now offset_size ≡ Ok place
+        → OnOk result (found.new ≡ take place.length (drop place.position file.now)
+        ++ drop place.length found.old) }
+    ensures untouched { OnErr result (found.new ≡ found.old) }
+{
+    let header = FractalHeapHeader::parse(file, at, offset_size, length_size)?;
+    fetch(&header, file, id, offset_size, found)
 }

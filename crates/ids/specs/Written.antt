@@ -6,6 +6,10 @@ use Rattle.fields.specs.LittleEndian.{le}
 use Rattle.table.specs.Table.{Table}
 use Rattle.table.specs.Sizes.{offset_bytes}
 
--- the bytes of an ID: Offset in as many as the heap's bits need, Length in two
+-- how many bytes Length takes
+abbrev pub length_bytes : ℕ
+length_bytes = 2
+
+-- the bytes of an ID: Offset in as many as the heap's bits need, then Length
 abbrev pub managed_id : Table → ℕ → ℕ → List ℕ
-managed_id t offset len = le 1 0 ++ (le (offset_bytes t) offset ++ le 2 len)
+managed_id t offset len = le 1 0 ++ (le (offset_bytes t) offset ++ le length_bytes len)

@@ -7,8 +7,7 @@ ghost use Rattle.ids.specs.Decoded.{split_id, decoded_id};
 
 use crate::decode::types::type_of;
 use fields::little_endian::read_u64_le;
-use refusals::FormatError;
-use refusals::answer::{Answer, Reported};
+use refusals::{Answer, FormatError, Reported};
 
 /// Where a managed object lies in the heap space, and how many bytes it has.
 #[derive(Clone, Copy, Debug, PartialEq, Eq)]
@@ -55,14 +54,19 @@ fn split_id(max_heap_size: u16, bytes: usize, number: u64) -> ManagedId
     }
 }
 
-// The number after the first byte of an ID that has fewer than eight bytes.
+// The number after the first byte of an ID that has fewer than eight bytes, from its last byte down. A copy of its bytes
+// for `from_le_bytes` would be a call, and slow down all that this is inlined into.
 fn short_number(id: &[u8]) -> u64
     requires { (0 < length id.now) × (length id.now < 8) }
     ensures { result ≡ le_at id.now 1 8 }
 {
-    let mut bytes = [0u8; 8];
-    bytes[..id.len() - 1].copy_from_slice(&id[1..]);
-    read_u64_le(&bytes, 0)
+    let mut number: u64 = 0;
+    let mut i = id.len();
+    while i > 1 {
+        i -= 1;
+        number = number * 256 + u64::from(id[i]);
+    }
+    number
 }
 
 // The first eight bytes after byte 0, as one number; IDs of eight bytes, seven after byte 0, are usual.

@@ -3,8 +3,7 @@ ghost use Rattle.std.specs.Prelude.{◌≡◌, ◌+◌, ◌≤◌, length, IfOk,
 ghost use Rattle.fields.specs.Fields.{len_ensured};
 ghost use Rattle.ids.specs.Tiny.{tiny_in, tiny_at};
 
-use fields::ensure_len;
-use fields::place::Place;
+use fields::{Place, ensure_len};
 use refusals::FormatError;
 
 // Tests that `len` bytes stand at `start` of an ID, by their end alone: of two 16-bit numbers it never overflows.

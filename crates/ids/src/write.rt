@@ -11,23 +11,39 @@ ghost use Rattle.ids.specs.Written.{managed_id};
 
 use crate::write::checks::check_id;
 use refusals::FormatError;
+use table::{BLOCK_OFFSET_BYTES, MAX_HEAP_SPACE};
+
+/// Bytes of Length in an ID: as many as the largest object needs, which is shorter than the largest direct block.
+const LENGTH_BYTES: u64 = 2;
+
+/// Lengths below this one have room there.
+const LENGTH_SPACE: u64 = 1 << (8 * LENGTH_BYTES);
+
+/// Bytes of an ID: Version and Type in one, Offset in as many as a heap offset has in blocks, Length.
+const ID_LENGTH: usize = (1 + BLOCK_OFFSET_BYTES + LENGTH_BYTES) as usize;
+
+/// What Offset counts for in the number that an ID is: it stands behind one byte.
+const OFFSET_UNIT: u64 = 1 << 8;
+
+/// What Length counts for there: it stands behind Offset.
+const LENGTH_UNIT: u64 = OFFSET_UNIT << (8 * BLOCK_OFFSET_BYTES);
 
 // The ID as one number: version and type, both 0, are its lowest byte, then come offset and length.
 #[tactic(auto, using(crate::proofs::Ids::id_in_one))]
 fn whole_id(offset: u64, size: u64) -> u64
-    requires offset_bytes { offset < 2 ^ 40 }
-    requires size_bytes { size < 2 ^ 16 }
+    requires offset_in_heap { offset < MAX_HEAP_SPACE }
+    requires size_bytes { size < LENGTH_SPACE }
     ensures { le 8 result ≡ managed_id fixed offset size }
 {
-    offset * 0x100 + size * 0x1_0000_0000_0000
+    offset * OFFSET_UNIT + size * LENGTH_UNIT
 }
 
 // The eight bytes of an ID, written at once.
 fn put_eight(id: &mut [u8], number: u64)
-    requires { 8 ≤ length id.old }
+    requires { ID_LENGTH ≤ length id.old }
     ensures { id.new ≡ put id.old 0 (le 8 number) }
 {
-    id[..8].copy_from_slice(&number.to_le_bytes());
+    id[..ID_LENGTH].copy_from_slice(&number.to_le_bytes());
 }
 
 /// Writes the ID of the object of `size` bytes at the heap offset `offset` into the first eight bytes of `id`. An

@@ -1,8 +1,13 @@
 -- The exponent of the largest power of two that is at most a number.
-use Rattle.std.proofs.Common.{ℕ, ◌-◌, ◌^◌, ◌≤◌, ◌<◌, ◌≡◌, arith}
+use Rattle.std.proofs.Common.{ℕ, ◌-◌, ◌^◌, ◌≤◌, ◌<◌, ◌≡◌, refl, arith}
 use Rattle.std.proofs.lemmas.Nat.{leading_top}
 use Rattle.std.specs.Int.Count.{count_leading_zeros, leading_of_zero}
 use Rattle.numbers.specs.Numbers.{log2, TopExponent}
+
+-- as the code reckons it
+pub log2_is : (v : ℕ) → 63 - count_leading_zeros 64 v ≡ log2 v
+unfolding log2
+log2_is v = refl
 
 pub log2-le : (v : ℕ) → log2 v ≤ 63
 unfolding log2
@@ -20,4 +25,4 @@ log2_law x p h =
     let e : 63 - count_leading_zeros 64 x ≡ t.0 = omega (arith, t.1) in
     record { reached = rw e t.2; below_next = rw e t.3 }
 
-pub ruleset exponents = (log2_none, log2_law)
+pub ruleset exponents = (log2_is, log2_none, log2_law)

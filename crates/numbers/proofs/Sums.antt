@@ -1,7 +1,6 @@
 -- Sums of lists and of their front parts.
-use Rattle.std.proofs.Common.{ℕ, ◌+◌, ◌-◌, ◌≤◌, ◌<◌, ◌≡◌, sym, ap, ◌∙◌, List, [], ◌∷◌, ◌++◌, length, take, drop}
-use Rattle.std.proofs.Common.{take-suc}
-use Rattle.std.proofs.Common.{take-add, add-one, arith}
+use Rattle.std.proofs.Common.{ℕ, ◌+◌, ◌-◌, ◌≤◌, ◌<◌, ◌≡◌, ap, ◌∙◌, List, [], ◌∷◌, ◌++◌, length, take, drop}
+use Rattle.std.proofs.Common.{take-suc, take-add, add-one, arith}
 use Rattle.std.specs.Prelude.{slice_index}
 use Rattle.numbers.specs.Sums.{sum}
 

@@ -5,13 +5,16 @@
 ghost use Rattle.std.specs.Prelude.{◌≡◌, ◌*◌, ◌^◌, ◌<◌};
 ghost use Rattle.numbers.specs.Numbers.{saturated, log2, TopExponent};
 
-/// The product, or 2^64 - 1 where it is larger. A size below 2^48 takes no division: with a width it stays below 2^64.
+/// A size below it, 2^48, times any width stays below 2^64.
+const SMALL_SIZE: u64 = 0x1_0000_0000_0000;
+
+/// The product, or 2^64 - 1 where it is larger. A small size takes no division.
 #[tactic(auto, using(crate::proofs::Saturating::products))]
 pub fn saturating_mul(size: u64, width: u16) -> u64
     ensures { result ≡ saturated (size * width) }
 {
     let times = width as u64;
-    if size < 0x1_0000_0000_0000 {
+    if size < SMALL_SIZE {
         return size * times;
     }
     if times <= u64::MAX / size {
@@ -35,10 +38,10 @@ pub fn saturating_shl(size: u64, bits: u64) -> u64
 }
 
 /// The exponent of the largest power of two that is at most `v`; 0 of 0.
-#[tactic(auto, using(crate::proofs::Log2::exponents), unfolding(crate::specs::Numbers::log2))]
+#[tactic(auto, using(crate::proofs::Log2::exponents))]
 pub fn log2_floor(v: u64) -> u64
     ensures value { result ≡ log2 v }
-    ensures top { 0 < v → TopExponent v result }
+    ensures largest_power { 0 < v → TopExponent v result }
 {
     if v == 0 {
         return 0;

@@ -1,7 +1,8 @@
 -- An open plan is that of the accepted sizes in one list.
-use Rattle.std.proofs.Common.{◌≡◌, ℕ, ◌+◌, ◌<◌, ◌≤◌, max, true, List, [], ◌∷◌, ◌++◌, length, take, slice_index}
-use Rattle.std.proofs.Common.{Some, None, Ok, Err, Result, refl, sym, ap, ◌∙◌, subst, arith, length-append, append_assoc, append-nil}
+use Rattle.std.proofs.Common.{◌≡◌, ℕ, ◌+◌, ◌-◌, ◌^◌, ◌<◌, ◌≤◌, max, true, List, [], ◌∷◌, ◌++◌, length, take, slice_index}
+use Rattle.std.proofs.Common.{Option, Some, None, Ok, Err, Result, inl, inr, refl, sym, ap, ◌∙◌, subst, arith, length-append, append_assoc, append-nil}
 use Rattle.std.proofs.Math.Seq.{take-append-add, get_or-append_seam}
+use Rattle.std.proofs.lemmas.Bool.{cases_lt}
 use Rattle.std.proofs.lemmas.Bool.Decides.{nat_tests}
 use Rattle.std.proofs.lemmas.List.{get_or-take}
 use Rattle.fields.specs.Widths.{legal}
@@ -20,7 +21,7 @@ use Rattle.plan.proofs.Answering.{accepted, answers}
 use Rattle.plan.proofs.Tally.{tallied}
 use Rattle.plan.proofs.Front.{front-part}
 use Rattle.open_plan.specs.Open.{IsPlanOf, Extends}
-use Rattle.open_plan.specs.Additions.{addition, accepted_sizes, given_offsets, state_after, AdditionsPlanned}
+use Rattle.open_plan.specs.Additions.{placed_at, addition, accepted_sizes, given_offsets, state_after, plan_then, NextAsPlanned, AdditionsPlanned}
 use Rattle.open_plan.proofs.OneMore.{passes-snoc, too-large-snoc, run-snoc, run-ends, offsets-snoc}
 
 -- before the first object
@@ -99,13 +100,59 @@ module _ (w : ℕ) (xs : List ℕ) (x po pb : ℕ) (l : legal w ≡ true) (lo : 
         (unfold run in run-ends fixed w x xs (initial fixed w) s 0 n (let c = P.objects_counted in omega arith)
         P.state_planned none)
 
+-- ---- the answer to a size, by what it is
+
+module _ (w : ℕ) (s : State) (n x : ℕ) where
+  answer-large : max_managed fixed w < x → addition w s n x ≡ Err (ObjectTooLarge n x)
+  answer-large big = grind (arith, nat_tests)
+
+  answer-full : x ≤ max_managed fixed w → n ≡ 2 ^ 64 - 1 → addition w s n x ≡ Err (HeapSpaceExhausted n)
+  answer-full small many = grind (arith, nat_tests)
+
+  answer-step : x ≤ max_managed fixed w → n < 2 ^ 64 - 1 → addition w s n x ≡ placed_at n (step_of fixed w s x)
+  answer-step small few = grind (arith, nat_tests)
+
+-- so planning the sizes and this one in one list answers
+module _ {w : ℕ} {s : State} {n : ℕ} {xs : List ℕ} (P : IsPlanOf w s n xs) (x : ℕ) where
+  next-planned : legal w ≡ true → length xs < 2 ^ 64 - 1 → (po pb : ℕ) → length xs < po → length xs < pb
+      → planned_for (xs ++ (x ∷ [])) po pb w ≡ plan_then w (addition w s n x)
+  next-planned l few po pb lo lb =
+      elim (cases_lt (max_managed fixed w) x) [
+        | inl big ↦ rw (answer-large w s n x big) (too-large w xs x po pb l lo lb P big)
+        | inr small ↦
+            rw (answer-step w s n x small (let c = P.objects_counted in omega arith))
+            (by-step small (step_of fixed w s x) refl)
+      ]
+    where
+      by-step : x ≤ max_managed fixed w → (r : Option (State × ℕ)) → step_of fixed w s x ≡ r
+          → planned_for (xs ++ (x ∷ [])) po pb w ≡ plan_then w (placed_at n r)
+      by-step small (Some (s', o)) q =
+          let many : length (xs ++ (x ∷ [])) ≡ length xs + 1 = length-append xs (x ∷ []) in
+          planned-totals (one-more P small q) l po pb (omega arith) (omega arith)
+      by-step small None q = no-slot w xs x po pb l lo lb P small q
+
+  next-as-planned : NextAsPlanned w xs x (addition w s n x)
+  next-as-planned =
+      let counted = P.objects_counted in
+      record {
+        as_planned = next-planned;
+        full = λ many small. let e : n ≡ 2 ^ 64 - 1 = omega arith in
+            answer-full w s n x small e ∙ ap (λ (i : ℕ). Err (HeapSpaceExhausted i)) e;
+        full_too_large = λ many big. let e : n ≡ 2 ^ 64 - 1 = omega arith in
+            answer-large w s n x big ∙ ap (λ (i : ℕ). Err (ObjectTooLarge i x)) e;
+      }
+
 -- ---- additions one after another
 
 module _ (w : ℕ) (s : State) (n x : ℕ) where
   module _ (s' : State) (o : ℕ) (q : addition w s n x ≡ Ok (s', o)) where
     -- what is accepted was small enough, and placed
-    small-placed : (x ≤ max_managed fixed w) × (step_of fixed w s x ≡ Some (s', o))
+    pub small-placed : (x ≤ max_managed fixed w) × (step_of fixed w s x ≡ Some (s', o))
     small-placed = (grind (arith, nat_tests), grind (arith, nat_tests))
+
+    -- and there was a number for it
+    countable : n + 1 ≤ 2 ^ 64 - 1
+    countable = grind (arith, nat_tests)
 
     module _ (asked : List ℕ) where
       sizes-more : accepted_sizes w s n (x ∷ asked) ≡ x ∷ accepted_sizes w s' (n + 1) asked
@@ -135,22 +182,24 @@ module _ (w : ℕ) (s : State) (n x : ℕ) where
 
 -- from the plan of the sizes xs on the plan is that of them and the accepted ones, ys, and so are the heap offsets
 record Came (w : ℕ) (s : State) (n : ℕ) (xs asked ys : List ℕ) : Type 0 where
+  are_counted : length ys ≤ 2 ^ 64 - 1
   is_plan : IsPlanOf w (state_after w s n asked) (length ys) ys
   offsets_are : plan_offsets fixed w xs ++ given_offsets w s n asked ≡ plan_offsets fixed w ys
 
 came : (w : ℕ) (asked : List ℕ) (s : State) (n : ℕ) (xs ys : List ℕ) → IsPlanOf w s n xs
-    → ys ≡ xs ++ accepted_sizes w s n asked → Came w s n xs asked ys
+    → n ≤ 2 ^ 64 - 1 → ys ≡ xs ++ accepted_sizes w s n asked → Came w s n xs asked ys
 unfolding accepted_sizes given_offsets state_after
-came w [] s n xs ys P e =
+came w [] s n xs ys P few e =
     rw (e ∙ append-nil xs)
     (record {
+      are_counted = let c = P.objects_counted in omega arith;
       is_plan = record { objects_counted = refl; sizes_pass = P.sizes_pass; state_planned = P.state_planned };
       offsets_are = append-nil (plan_offsets fixed w xs);
     })
-came w (x ∷ asked) s n xs ys P e = by (addition w s n x) refl (came w asked)
+came w (x ∷ asked) s n xs ys P few e = by (addition w s n x) refl (came w asked)
   where
     by : (r : Result (State × ℕ) FormatError) → addition w s n x ≡ r
-        → ((s' : State) (n' : ℕ) (xs' ys' : List ℕ) → IsPlanOf w s' n' xs' → ys' ≡ xs' ++ accepted_sizes w s' n' asked
+        → ((s' : State) (n' : ℕ) (xs' ys' : List ℕ) → IsPlanOf w s' n' xs' → n' ≤ 2 ^ 64 - 1 → ys' ≡ xs' ++ accepted_sizes w s' n' asked
         → Came w s' n' xs' asked ys')
         → Came w s n xs (x ∷ asked) ys
     by (Ok (s', o)) q later =
@@ -158,8 +207,9 @@ came w (x ∷ asked) s n xs ys P e = by (addition w s n x) refl (came w asked)
         let rest = accepted_sizes w s' (n + 1) asked in
         let whole : ys ≡ (xs ++ (x ∷ [])) ++ rest =
         e ∙ ap (λ (l : List ℕ). xs ++ l) (sizes-more w s n x s' o q asked) ∙ sym (append_assoc xs (x ∷ []) rest) in
-        let C = later s' (n + 1) (xs ++ (x ∷ [])) ys (one-more P small placed) whole in
+        let C = later s' (n + 1) (xs ++ (x ∷ [])) ys (one-more P small placed) (countable w s n x s' o q) whole in
         record {
+          are_counted = C.are_counted;
           is_plan = subst (λ (y : State). IsPlanOf w y (length ys) ys) (sym (state-more w s n x s' o q asked)) C.is_plan;
           offsets_are =
               ap (λ (l : List ℕ). plan_offsets fixed w xs ++ l) (given-more w s n x s' o q asked)
@@ -168,14 +218,29 @@ came w (x ∷ asked) s n xs ys P e = by (addition w s n x) refl (came w asked)
               ∙ C.offsets_are;
         }
     by (Err f) q later =
-        let C = later s n xs ys P (e ∙ ap (λ (l : List ℕ). xs ++ l) (sizes-same w s n x f q asked)) in
+        let C = later s n xs ys P few (e ∙ ap (λ (l : List ℕ). xs ++ l) (sizes-same w s n x f q asked)) in
         record {
+          are_counted = C.are_counted;
           is_plan = subst (λ (y : State). IsPlanOf w y (length ys) ys) (sym (state-same w s n x f q asked)) C.is_plan;
           offsets_are = ap (λ (l : List ℕ). plan_offsets fixed w xs ++ l) (given-same w s n x f q asked) ∙ C.offsets_are;
         }
 
+-- from the plan of no objects on
+came-first : (w : ℕ) (asked : List ℕ)
+    → Came w (initial fixed w) 0 [] asked (accepted_sizes w (initial fixed w) 0 asked)
+came-first w asked =
+    came w asked (initial fixed w) 0 [] (accepted_sizes w (initial fixed w) 0 asked) (of-none w) (omega arith) refl
+
 pub additions-planned : AdditionsPlanned
 unfolding plan_offsets offsets_from
 additions-planned w asked =
-    let C = came w asked (initial fixed w) 0 [] (accepted_sizes w (initial fixed w) 0 asked) (of-none w) refl in
-    record { accepted = accepted_sizes w (initial fixed w) 0 asked; are_accepted = refl; is_plan = C.is_plan; offsets_are = C.offsets_are }
+    let C = came-first w asked in
+    record {
+      accepted = accepted_sizes w (initial fixed w) 0 asked;
+      are_accepted = refl;
+      are_counted = C.are_counted;
+      is_plan = C.is_plan;
+      offsets_are = C.offsets_are;
+      totals_are = planned-totals C.is_plan;
+      each = λ before size after e. next-as-planned (came-first w before).is_plan size;
+    }

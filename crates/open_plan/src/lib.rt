@@ -11,14 +11,14 @@ ghost use Rattle.plan.specs.End.{end_state};
 ghost use Rattle.open_plan.specs.Additions.{addition, AdditionsPlanned};
 ghost use Rattle.open_plan.specs.Open.{IsPlanOf, Extends, RefusedAsPlanned};
 
-use fields::offset_width;
-use fields::width::Width;
+use fields::{Width, offset_width};
 use plan::ManagedPlan;
 use planner::Planner;
 use refusals::FormatError;
 use table::block_sizes::max_managed_object;
 
-/// A plan that objects are added to one by one. It is always the plan of the accepted sizes, in their order.
+/// A plan that objects are added to one by one. As opening and additions leave it, it is the plan of the accepted sizes,
+/// in their order; its fields are public for C alone.
 //
 // `planner` is the plan under way; its block's end stands for a cursor. The count is what the planner does not keep: it
 // is the index by which a refusal names the object.

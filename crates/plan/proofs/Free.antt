@@ -1,5 +1,6 @@
 -- Free space is the number of heap offsets in the bodies of the managed space's direct slots and in no object.
-use Rattle.std.proofs.Common.{◌≡◌, ℕ, zero, suc, ◌+◌, ◌-◌, ◌^◌, ◌<◌, ◌≤◌, Bool, true, false, not, ◌&&◌, ◌||◌, ◌↔◌, List, [], ◌∷◌, nat_lt, nat_le, Ok, refl, ◌∙◌, ap₂, ⊎_elim, arith}
+use Rattle.std.proofs.Common.{◌≡◌, ℕ, zero, suc, ◌+◌, ◌-◌, ◌^◌, ◌<◌, ◌≤◌, Bool, true, false, not, ◌&&◌, ◌||◌, ◌↔◌, List}
+use Rattle.std.proofs.Common.{[], ◌∷◌, nat_lt, nat_le, Ok, refl, ◌∙◌, ap₂, ⊎_elim, arith}
 use Rattle.std.proofs.lemmas.Bool.Decides.{nat_tests}
 use Rattle.fields.proofs.Widths.{legal-small}
 use Rattle.table.specs.Table.{Table, fixed, row_offset}

@@ -12,11 +12,11 @@ use Rattle.plan.proofs.Root.{root-rows-fewest, no-root-rows, one-block}
 module _ (xs : List ℕ) (o b w : ℕ) (p : ManagedPlan) (e : planned_for xs o b w ≡ Ok p) where
   pub plan-kept : PlanKept xs w p
   plan-kept = record {
-    front-parts = front-part xs o b w p e;
-    no-shared-byte = no-shared-byte xs o b w p e;
-    in-a-body = in-one-body xs o b w p e;
-    no-header-touched = no-header-touched xs o b w p e;
-    free-space = free-is-count xs o b w p e;
+    front_parts = front-part xs o b w p e;
+    no_shared_byte = no-shared-byte xs o b w p e;
+    in_a_body = in-one-body xs o b w p e;
+    no_header_touched = no-header-touched xs o b w p e;
+    free_space = free-is-count xs o b w p e;
   }
 
   pub root-fits : RootFits xs w p

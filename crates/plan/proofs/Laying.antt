@@ -1,10 +1,12 @@
 -- Planning that goes through, object by object: where each goes, and what follows for all of them.
-use Rattle.std.proofs.Common.{◌≡◌, ℕ, zero, suc, ◌+◌, ◌<◌, ◌≤◌, ◌⊎◌, List, [], ◌∷◌, length, slice_index, Some, None, Ok, Option, sym, refl, ◌∙◌, subst, inl, ⊎_elim, arith}
+use Rattle.std.proofs.Common.{◌≡◌, ℕ, zero, suc, ◌+◌, ◌<◌, ◌≤◌, ◌⊎◌, List, [], ◌∷◌, length, slice_index, Some, None, Ok}
+use Rattle.std.proofs.Common.{Option, sym, refl, ◌∙◌, subst, inl, ⊎_elim, arith}
 use Rattle.table.specs.Table.{Table, fixed}
 use Rattle.table.specs.Sizes.{direct_header}
 use Rattle.numbers.specs.Sums.{sum}
 use Rattle.planner.specs.declared.State.{State}
-use Rattle.planner.specs.Steps.{initial, block_end, step_of, run_from, offsets_from, starts_from, run, plan_offsets, plan_starts}
+use Rattle.planner.specs.Steps.{initial, block_end, step_of, run_from, offsets_from, starts_from, run, plan_offsets}
+use Rattle.planner.specs.Steps.{plan_starts}
 use Rattle.planner.proofs.Stepping.{Sane, Placing, Same, New, step-placed, ok-initial}
 use Rattle.planner.proofs.Running.{run-stops, run-goes, offsets-go, starts-go-same, starts-go-new}
 use Rattle.table_laws.proofs.Format.{SlotOf}

@@ -1,5 +1,6 @@
 -- The objects of a plan fit into the bodies of the root's slots: so no total falls below zero.
-use Rattle.std.proofs.Common.{◌≡◌, ℕ, suc, ◌+◌, ◌-◌, ◌^◌, ◌<◌, ◌≤◌, Bool, ◌⊎◌, List, [], ◌∷◌, Some, Ok, refl, ap, ◌∙◌, subst, inl, inr, arith, eq-eqb, ne_eqb}
+use Rattle.std.proofs.Common.{◌≡◌, ℕ, suc, ◌+◌, ◌-◌, ◌^◌, ◌<◌, ◌≤◌, Bool, ◌⊎◌, List, [], ◌∷◌, Some, Ok, refl, ap, ◌∙◌}
+use Rattle.std.proofs.Common.{subst, inl, inr, arith, eq-eqb, ne_eqb}
 use Rattle.std.proofs.lemmas.Bool.{cases_eq}
 use Rattle.std.proofs.Math.Logic.{∥∥₁_elim}
 use Rattle.std.proofs.Props.{props}
@@ -94,12 +95,10 @@ pub record Reach (e : ℕ) : Type 0 where
 
 -- the one block of the starting size at 0
 pub no_rows : (e : ℕ) → e ≡ 1024 → rows_of_root fixed e ≡ 0
-unfolding rows_of_root
 no_rows e q = grind (arith, nat_tests)
 
 -- any other end: the row of its last byte is the last
 pub rows_of_end : (e : ℕ) → (e ≡ 1024 → ⊥) → 0 < e → e ≤ 2 ^ 40 → rows_of_root fixed e ≡ suc (row_of fixed (e - 1))
-unfolding rows_of_root
 rows_of_end e n p l = grind (arith, nat_tests, covers e p l)
 
 pub reach : (e : ℕ) → 0 < e → e ≤ 2 ^ 40 → (e ≡ 1024 → ⊥) → Reach e

@@ -1,28 +1,26 @@
--- The end of a plan: the state after the last object, and the root's rows (HDF5 File Format
--- Specification 3.0, III.G, 'Fractal Heap Header': Current # of Rows in Root Indirect Block). That
--- they are the fewest is our rule.
-use Rattle.std.specs.Prelude.{ℕ, ◌^◌, ◌==◌, if◌then◌else◌, unwrap_or}
-use Rattle.table.specs.Table.{Table, covering}
+-- The end of a plan: the state after the last object, and the root's rows (HDF5 File Format Specification 3.0, III.G,
+-- 'Fractal Heap Header': Current # of Rows in Root Indirect Block). That they are the fewest is our rule.
+use Rattle.std.specs.Prelude.{ℕ, ◌==◌, if◌then◌else◌, unwrap_or}
+use Rattle.table.specs.Table.{Table, starting_size, covering}
 use Rattle.table.specs.Sizes.{direct_header}
 use Rattle.planner.specs.declared.State.{State}
 
 -- without objects there is one block of the starting size, at 0
-abbrev pub one_block : Table → ℕ → State
-one_block t w = record {
+abbrev pub one_block : (table : Table) (offset_size : ℕ) → State
+one_block table offset_size = record {
   start = 0;
-  size = 2 ^ t.start_bits;
-  fill = direct_header t w;
+  size = starting_size table;
+  fill = direct_header table offset_size;
   count = 1;
-  allocated = 2 ^ t.start_bits;
+  allocated = starting_size table;
   used = 0;
   indirect = 0;
 }
 
--- the state s after a run, or that one
-unfoldable pub end_state : Table → ℕ → State → State
-end_state t w s = if s.count == 0 then one_block t w else s
+-- the state after a run, or that one
+unfoldable pub end_state : (table : Table) (offset_size : ℕ) (state : State) → State
+end_state table offset_size state = if state.count == 0 then one_block table offset_size else state
 
--- the fewest rows that reach e, the last block's end; none where that block is the one of the
--- starting size at 0
-unfoldable pub rows_of_root : Table → ℕ → ℕ
-rows_of_root t e = if e == 2 ^ t.start_bits then 0 else unwrap_or (covering t e) 0
+-- the fewest rows that reach the last block's end; none where that block is the one of the starting size at 0
+abbrev pub rows_of_root : (table : Table) (end : ℕ) → ℕ
+rows_of_root table end = if end == starting_size table then 0 else unwrap_or (covering table end) 0

@@ -1,8 +1,9 @@
 -- What the theorems say of a plan. The objects have these sizes, in bytes, and addresses
 -- offset_size bytes.
-use Rattle.std.specs.Prelude.{ℕ, ◌+◌, ◌≤◌, ◌<◌, ◌≡◌, ◌↔◌, max, Bool, true, List, [], ◌∷◌, ◌++◌, length, take, slice_index, Ok, Err}
+use Rattle.std.specs.Prelude.{ℕ, ◌+◌, ◌≤◌, ◌<◌, ◌≡◌, ◌↔◌, max, Bool, true, List, [], ◌∷◌, ◌++◌, length, take}
+use Rattle.std.specs.Prelude.{slice_index, Ok, Err}
 use Rattle.refusals.specs.declared.FormatError.TheVariants.{HeapSpaceExhausted}
-use Rattle.table.specs.Table.{Table, fixed, row_offset}
+use Rattle.table.specs.Table.{Table, fixed, starting_size, row_offset, max_rows}
 use Rattle.table.specs.Slots.{Direct, slot_at}
 use Rattle.table.specs.Sizes.{direct_header}
 use Rattle.planner.specs.declared.State.{State}
@@ -13,11 +14,11 @@ use Rattle.plan.specs.Answer.{planned_for}
 use Rattle.table_laws.specs.Count.{count, InBody}
 
 -- the heap offset at which planning puts the i-th object
-abbrev pub object_start : ℕ → List ℕ → ℕ → ℕ
+abbrev pub object_start : (offset_size : ℕ) (sizes : List ℕ) (i : ℕ) → ℕ
 object_start offset_size sizes i = slice_index (plan_offsets fixed offset_size sizes) i
 
 -- the heap offset at which the n-th placed block begins
-abbrev pub block_start : ℕ → List ℕ → ℕ → ℕ
+abbrev pub block_start : (offset_size : ℕ) (sizes : List ℕ) (n : ℕ) → ℕ
 block_start offset_size sizes n = slice_index (plan_starts fixed offset_size sizes) n
 
 -- the heap offset x is a byte of the i-th of the objects at these heap offsets: one of as many as
@@ -28,7 +29,7 @@ pub record InObject (offsets sizes : List ℕ) (i x : ℕ) : Type 0 where
   pub not_behind : x < slice_index offsets i + slice_index sizes i
 
 -- and at those where planning puts them
-abbrev pub InPlannedObject : ℕ → List ℕ → ℕ → ℕ → Type 0
+abbrev pub InPlannedObject : (offset_size : ℕ) (sizes : List ℕ) (i x : ℕ) → Type 0
 InPlannedObject offset_size sizes i x = InObject (plan_offsets fixed offset_size sizes) sizes i x
 
 -- the first k of the sizes are accepted in lists of so many places, with the same offsets; where
@@ -47,7 +48,7 @@ pub record InPlacedBlock (offset_size : ℕ) (sizes : List ℕ) (i : ℕ) : Type
   pub n : ℕ
   pub placed : n < length (plan_starts fixed offset_size sizes)
   pub size : ℕ
-  pub slot : Direct fixed 29 (block_start offset_size sizes n) size
+  pub slot : Direct fixed (max_rows fixed) (block_start offset_size sizes n) size
   pub past_header : block_start offset_size sizes n + direct_header fixed offset_size
       ≤ object_start offset_size sizes i
   pub ends_inside : object_start offset_size sizes i + slice_index sizes i
@@ -55,12 +56,12 @@ pub record InPlacedBlock (offset_size : ℕ) (sizes : List ℕ) (i : ℕ) : Type
 
 -- the heap offset x lies in the body of a direct slot of the managed space of a heap with so many
 -- root rows, past its header, and in no object
-pub record FreeByte (t : Table) (header rows : ℕ) (offsets sizes : List ℕ) (x : ℕ) : Type 0 where
-  pub in_body : InBody t header rows x
+pub record FreeByte (table : Table) (header rows : ℕ) (offsets sizes : List ℕ) (x : ℕ) : Type 0 where
+  pub in_body : InBody table header rows x
   pub in_no_object : (i : ℕ) → InObject offsets sizes i x → ⊥
 
 -- x is a free byte of the plan of these sizes
-abbrev pub Free : ℕ → List ℕ → ManagedPlan → ℕ → Type 0
+abbrev pub Free : (offset_size : ℕ) (sizes : List ℕ) (plan : ManagedPlan) (x : ℕ) → Type 0
 Free offset_size sizes plan x =
     FreeByte fixed (direct_header fixed offset_size) plan.root_rows
     (plan_offsets fixed offset_size sizes) sizes x
@@ -79,19 +80,19 @@ pub record FreeCounted (offset_size : ℕ) (sizes : List ℕ) (plan : ManagedPla
 -- of a plan that is accepted
 pub record PlanKept (sizes : List ℕ) (offset_size : ℕ) (plan : ManagedPlan) : Type 0 where
   -- each front part plans, with the same offsets, in any lists that 13 lets pass
-  pub front-parts : (k offset_places block_places : ℕ) → length (take k sizes) ≤ offset_places
+  pub front_parts : (k offset_places block_places : ℕ) → length (take k sizes) ≤ offset_places
       → max 1 (length (take k sizes)) ≤ block_places
       → FrontPart sizes offset_size k offset_places block_places
   -- no heap offset is a byte of two objects
-  pub no-shared-byte : (i j x : ℕ) → InPlannedObject offset_size sizes i x
+  pub no_shared_byte : (i j x : ℕ) → InPlannedObject offset_size sizes i x
       → InPlannedObject offset_size sizes j x → i ≡ j
   -- each object lies in the body of a placed block
-  pub in-a-body : (i : ℕ) → i < length sizes → InPlacedBlock offset_size sizes i
+  pub in_a_body : (i : ℕ) → i < length sizes → InPlacedBlock offset_size sizes i
   -- none has a byte in a block header
-  pub no-header-touched : (i x : ℕ) → InPlannedObject offset_size sizes i x → (start size : ℕ)
-      → Direct fixed 29 start size → start ≤ x → x < start + direct_header fixed offset_size → ⊥
+  pub no_header_touched : (i x : ℕ) → InPlannedObject offset_size sizes i x → (start size : ℕ)
+      → Direct fixed (max_rows fixed) start size → start ≤ x → x < start + direct_header fixed offset_size → ⊥
   -- the free space is the number of heap offsets in bodies and in no object
-  pub free-space : FreeCounted offset_size sizes plan
+  pub free_space : FreeCounted offset_size sizes plan
 
 -- the lists of the whole let each front part pass
 abbrev pub FrontPartsFit : Type 0
@@ -107,7 +108,7 @@ pub record NoSlotFits (offset_size : ℕ) (sizes : List ℕ) (i : ℕ) : Type 0 
   pub state : State
   pub state_before : run fixed offset_size (take i sizes) ≡ Ok state
   pub not_in_block : state.size < state.fill + slice_index sizes i
-  pub not_in_later : (start size : ℕ) → Direct fixed 29 start size → block_end state ≤ start
+  pub not_in_later : (start size : ℕ) → Direct fixed (max_rows fixed) start size → block_end state ≤ start
       → size < direct_header fixed offset_size + slice_index sizes i
 
 -- the answer is 12 at the i-th object exactly if the tests before pass and no slot that is left
@@ -125,7 +126,7 @@ pub record FewestRows (offset_size : ℕ) (sizes : List ℕ) (plan : ManagedPlan
   pub n : ℕ
   pub is_last : length (plan_starts fixed offset_size sizes) ≡ n + 1
   pub size : ℕ
-  pub slot : Direct fixed 29 (block_start offset_size sizes n) size
+  pub slot : Direct fixed (max_rows fixed) (block_start offset_size sizes n) size
   pub iterator_at_end : plan.allocation_iterator ≡ block_start offset_size sizes n + size
   pub rows_reach : plan.allocation_iterator ≤ row_offset fixed plan.root_rows
   pub fewer_do_not : (m : ℕ) → m < plan.root_rows → row_offset fixed m < plan.allocation_iterator
@@ -133,8 +134,8 @@ pub record FewestRows (offset_size : ℕ) (sizes : List ℕ) (plan : ManagedPlan
 -- the root is the one placed block, of the starting size at 0
 pub record OneBlock (offset_size : ℕ) (sizes : List ℕ) (plan : ManagedPlan) : Type 0 where
   pub blocks : plan_starts fixed offset_size sizes ≡ 0 ∷ []
-  pub slot : Direct fixed 29 0 1024
-  pub managed : plan.managed_space ≡ 1024
+  pub slot : Direct fixed (max_rows fixed) 0 (starting_size fixed)
+  pub managed : plan.managed_space ≡ starting_size fixed
   pub iterator : plan.allocation_iterator ≡ 0
 
 -- a root of some rows has the fewest, one of none is the one placed block, and that block is such a
@@ -145,9 +146,9 @@ pub record RootFits (sizes : List ℕ) (offset_size : ℕ) (plan : ManagedPlan) 
   pub one_block_no_rows : plan_starts fixed offset_size sizes ≡ 0 ∷ [] → plan.root_rows ≡ 0
 
 -- the sizes of the direct slots at these starts together
-unfoldable pub sizes_at : Table → List ℕ → ℕ
-sizes_at t [] = 0
-sizes_at t (b ∷ bs) = (slot_at t b).size + sizes_at t bs
+unfoldable pub sizes_at : (table : Table) (starts : List ℕ) → ℕ
+sizes_at table [] = 0
+sizes_at table (start ∷ starts) = (slot_at table start).size + sizes_at table starts
 
 -- every object has an offset, and the plan says how many blocks are placed and how large they are
 -- together

@@ -6,13 +6,16 @@ use Rattle.fields.specs.LittleEndian.{put}
 use Rattle.plan.specs.declared.ManagedPlan.{ManagedPlan}
 
 -- the list of totals at the end: the plan's numbers in front, or the refusal's pair
-abbrev pub planned_totals : List ℕ → Result ManagedPlan FormatError → List ℕ
+abbrev pub planned_totals : (totals : List ℕ) (answer : Result ManagedPlan FormatError) → List ℕ
 planned_totals totals answer = put totals 0 (planned_values answer)
 
--- a list of totals shorter than 8 places gives 13 before all else
-abbrev pub plan_number : List ℕ → Result ManagedPlan FormatError → ℕ
-plan_number totals answer = if nat_lt (length totals) 8 then 13 else planned_number answer
+-- how many numbers a plan has
+abbrev pub number_count : ℕ
+number_count = 8
 
-abbrev pub plan_totals : List ℕ → Result ManagedPlan FormatError → List ℕ
-plan_totals totals answer =
-    if nat_lt (length totals) 8 then totals else planned_totals totals answer
+-- a list of totals that is too short for them gives 13 before all else
+abbrev pub plan_number : (totals : List ℕ) (answer : Result ManagedPlan FormatError) → ℕ
+plan_number totals answer = if nat_lt (length totals) number_count then 13 else planned_number answer
+
+abbrev pub plan_totals : (totals : List ℕ) (answer : Result ManagedPlan FormatError) → List ℕ
+plan_totals totals answer = if nat_lt (length totals) number_count then totals else planned_totals totals answer

@@ -3,7 +3,7 @@ ghost use Rattle.std.specs.Prelude.{◌≡◌, ◌≤◌, OnOk};
 ghost use Rattle.fields.specs.Widths.{byte_count};
 ghost use Rattle.plan.specs.Checks.{sizes_checked, places_checked, input_checked};
 
-use fields::width::Width;
+use fields::Width;
 use refusals::FormatError;
 use table::block_sizes::max_managed_object;
 

@@ -20,8 +20,7 @@ ghost use Rattle.plan.specs.Answer.{totals, planned_for, list_after};
 
 use crate::checks::check_input;
 use crate::ending::{close, root_rows};
-use fields::offset_width;
-use fields::width::Width;
+use fields::{Width, offset_width};
 use planner::{Counted, Planner, State, Written};
 use refusals::FormatError;
 use table::block_sizes::{direct_block_header, indirect_block_size};

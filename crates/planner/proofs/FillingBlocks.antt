@@ -1,5 +1,7 @@
 -- Objects that fit into the current block, taken at once: planning goes on from the state after them.
-use Rattle.std.proofs.Common.{◌≡◌, ℕ, ◌+◌, ◌<◌, ◌≤◌, Bool, true, false, List, [], ◌∷◌, ◌++◌, length, take, drop, slice_index, nat_le, refl, arith, leb-true, leb-false, length-drop, get_or-drop, drop-drop, take-add, take-append-drop}
+use Rattle.std.proofs.Common.{◌≡◌, ℕ, ◌+◌, ◌<◌, ◌≤◌, Bool, true, false, List, [], ◌∷◌, ◌++◌, length, take, drop}
+use Rattle.std.proofs.Common.{slice_index, nat_le, refl, arith, leb-true, leb-false, length-drop, get_or-drop}
+use Rattle.std.proofs.Common.{drop-drop, take-add, take-append-drop}
 use Rattle.std.proofs.lemmas.Bool.Decides.{nat_tests}
 use Rattle.std.proofs.lemmas.List.{drop_more, drop_all}
 use Rattle.table.specs.Table.{Table, fixed}

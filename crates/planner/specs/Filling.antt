@@ -4,16 +4,17 @@ use Rattle.planner.specs.Steps.{filled}
 use Rattle.planner.specs.declared.State.{State}
 
 -- the state after them
-unfoldable pub fill_state : State → List ℕ → State
-fill_state s [] = s
-fill_state s (x ∷ xs) =
-    elim (nat_le (s.fill + x) s.size) [ true ↦ fill_state (filled s x) xs | false ↦ s ]
+unfoldable pub fill_state : (state : State) (sizes : List ℕ) → State
+fill_state state [] = state
+fill_state state (size ∷ sizes) =
+    elim (nat_le (state.fill + size) state.size)
+    [ true ↦ fill_state (filled state size) sizes | false ↦ state ]
 
 -- their heap offsets
-unfoldable pub fill_offsets : State → List ℕ → List ℕ
-fill_offsets s [] = []
-fill_offsets s (x ∷ xs) =
-    elim (nat_le (s.fill + x) s.size) [
-      | true ↦ (s.start + s.fill) ∷ fill_offsets (filled s x) xs
+unfoldable pub fill_offsets : (state : State) (sizes : List ℕ) → List ℕ
+fill_offsets state [] = []
+fill_offsets state (size ∷ sizes) =
+    elim (nat_le (state.fill + size) state.size) [
+      | true ↦ (state.start + state.fill) ∷ fill_offsets (filled state size) sizes
       | false ↦ []
     ]

@@ -1,23 +1,25 @@
 -- What some functions ask of their arguments, so that their sums stay within 64 bits.
-use Rattle.std.specs.Prelude.{ℕ, ◌+◌, ◌-◌, ◌^◌, ◌≤◌, ◌<◌, ◌≡◌, List, length, slice_index, Ok}
-use Rattle.table.specs.Table.{fixed}
+use Rattle.std.specs.Prelude.{ℕ, ◌+◌, ◌-◌, ◌/◌, ◌^◌, ◌≤◌, ◌<◌, ◌≡◌, List, length, slice_index, Ok}
+use Rattle.table.specs.Table.{fixed, starting_size, heap_space}
+use Rattle.table.specs.Slots.{slot_end}
 use Rattle.table.specs.declared.Slot.{Slot}
 use Rattle.planner.specs.declared.State.{State}
 use Rattle.planner.specs.Steps.{block_end, run}
 
--- a state that planning can reach: its blocks lie in the heap
-pub record Bounded (s : State) : Type 0 where
-  pub ends_in_heap : block_end s ≤ 2 ^ 40
-  pub fill_small : s.fill ≤ 2 ^ 41
-  pub blocks_few : s.count ≤ 2 ^ 32
-  pub blocks_in_heap : s.allocated ≤ 2 ^ 40
-  pub objects_in_heap : s.used + (s.size - s.fill) ≤ 2 ^ 40
-  pub indirect_small : s.indirect ≤ 2 ^ 62
+-- a state that planning can reach: its blocks lie in the heap, each with the bytes of the smallest at least. Indirect
+-- blocks are told apart from 2 ^ 64 alone
+pub record Bounded (state : State) : Type 0 where
+  pub ends_in_heap : block_end state ≤ heap_space fixed
+  pub fill_small : state.fill ≤ heap_space fixed + heap_space fixed
+  pub blocks_few : state.count ≤ heap_space fixed / starting_size fixed
+  pub blocks_in_heap : state.allocated ≤ heap_space fixed
+  pub objects_in_heap : state.used + (state.size - state.fill) ≤ heap_space fixed
+  pub indirect_small : state.indirect ≤ 2 ^ 62
 
 -- a slot of the heap
 pub record InHeap (slot : Slot) : Type 0 where
   pub not_empty : 0 < slot.size
-  pub ends_in_heap : slot.start + slot.size ≤ 2 ^ 40
+  pub ends_in_heap : slot_end slot ≤ heap_space fixed
 
 -- no size is above the limit
 pub record Small (limit : ℕ) (sizes : List ℕ) : Type 0 where
@@ -29,5 +31,5 @@ pub record Runs (offset_size : ℕ) (sizes : List ℕ) : Type 0 where
   pub is : run fixed offset_size sizes ≡ Ok last
 
 -- a state after the objects of some list: what a plan under way keeps
-abbrev pub IsReached : ℕ → State → Type 0
-IsReached offset_size s = ∥ ((sizes : List ℕ) × (run fixed offset_size sizes ≡ Ok s)) ∥₁
+abbrev pub IsReached : (offset_size : ℕ) (state : State) → Type 0
+IsReached offset_size state = ∥ ((sizes : List ℕ) × (run fixed offset_size sizes ≡ Ok state)) ∥₁

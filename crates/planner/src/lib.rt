@@ -11,12 +11,13 @@ ghost use Rattle.table.specs.Sizes.{max_managed};
 ghost use Rattle.planner.specs.Steps.{initial, step_of, run_from, offsets_from, starts_from};
 ghost use Rattle.planner.specs.Filling.{fill_state, fill_offsets};
 ghost use Rattle.planner.specs.Requires.{Small, Bounded, IsReached};
-ghost use Rattle.planner.specs.Noting.{noted_from, HasRoom};
+ghost use Rattle.planner.specs.Listing.{listed_from, HasRoom};
 
-mod noting;
+mod listing;
 
 use crate::search::find_slot;
-pub use noting::{Counted, Noting, Written};
+pub use listing::{Counted, Listing, Written};
+use table::MAX_DIRECT_BLOCK_SIZE;
 use table::block_sizes::direct_block_header;
 use table::slot_places::entered_blocks;
 
@@ -74,7 +75,6 @@ impl Planner {
     }
 
     /// Adds an object of `size` bytes: its heap offset, or `None` where the heap space ends, and then nothing changes.
-    #[tactic(auto, using(crate::proofs::Stepping::size_fits))]
     pub fn place(&mut self, size: u64) -> Option<u64>
         requires { size ≤ max_managed fixed self.old.offset_size }
         ensures width { self.new.offset_size ≡ self.old.offset_size }
@@ -127,16 +127,16 @@ impl Planner {
         Some(slot.start + header)
     }
 
-    /// Adds the objects from the index `from` on that fit into the current block, and notes their heap offsets: the
+    /// Adds the objects from the index `from` on that fit into the current block, and lists their heap offsets: the
     /// index of the next.
-    pub fn fill<N: Noting>(&mut self, sizes: &[u64], from: usize, offsets: &mut [u64]) -> usize
+    pub fn fill<L: Listing>(&mut self, sizes: &[u64], from: usize, offsets: &mut [u64]) -> usize
         requires from_inside { from ≤ length sizes.now }
-        requires small { Small 65536 sizes.now }
-        requires room { HasRoom N.room (length offsets.old) (length sizes.now) }
+        requires small { Small MAX_DIRECT_BLOCK_SIZE sizes.now }
+        requires room { HasRoom L.room (length offsets.old) (length sizes.now) }
         ensures width { self.new.offset_size ≡ self.old.offset_size }
         ensures state { self.new.state ≡ fill_state self.old.state (drop from sizes.now) }
         ensures next { result ≡ from + length (fill_offsets self.old.state (drop from sizes.now)) }
-        ensures noted { offsets.new ≡ noted_from N.noted offsets.old from
+        ensures listed { offsets.new ≡ listed_from L.listed offsets.old from
             (fill_offsets self.old.state (drop from sizes.now)) }
     {
         let mut fill = self.state.fill;
@@ -146,7 +146,7 @@ impl Planner {
             if end > self.state.size {
                 break;
             }
-            N::note(offsets, next, self.state.start + fill);
+            L::list(offsets, next, self.state.start + fill);
             fill = end;
             next += 1;
         }
@@ -156,43 +156,43 @@ impl Planner {
     }
 
     /// Adds objects, a block at a time: one that has no room opens a block, and those after it that fit go there too.
-    /// Their heap offsets and the starts of the blocks that they open are noted. `Err` is the index of the object at
+    /// Their heap offsets and the starts of the blocks that they open are listed. `Err` is the index of the object at
     /// which the heap space ends, which the original does not report; the plan is then that of the objects before it.
     //
     // A step for each object made lists of small ones take over four times the original's time. That planning goes on
     // after the objects that fit as if they had been placed one by one is `fill` in proofs/FillingBlocks.antt.
-    pub fn extend<N: Noting>(
+    pub fn extend<L: Listing>(
         &mut self,
         sizes: &[u64],
         offsets: &mut [u64],
         blocks: &mut [u64],
     ) -> Result<(), u64>
         requires small { Small (max_managed fixed self.old.offset_size) sizes.now }
-        requires offsets_room { HasRoom N.room (length offsets.old) (length sizes.now) }
-        requires blocks_room { HasRoom N.room (length blocks.old)
+        requires offsets_room { HasRoom L.room (length offsets.old) (length sizes.now) }
+        requires blocks_room { HasRoom L.room (length blocks.old)
             (self.old.state.count + length sizes.now) }
         ensures width { self.new.offset_size ≡ self.old.offset_size }
-        ensures all { OnOk result
+        ensures all_placed { OnOk result
             (run_from fixed self.old.offset_size self.old.state sizes.now 0 ≡ Ok self.new.state) }
         ensures ends { IfErr result (λ index.
             run_from fixed self.old.offset_size self.old.state sizes.now 0 ≡ Err index) }
         ensures before_end { IfErr result (λ index.
             run_from fixed self.old.offset_size self.old.state (take index sizes.now) 0
             ≡ Ok self.new.state) }
-        ensures offsets_noted { offsets.new ≡ noted_from N.noted offsets.old 0
+        ensures offsets_listed { offsets.new ≡ listed_from L.listed offsets.old 0
             (offsets_from fixed self.old.offset_size self.old.state sizes.now) }
-        ensures blocks_noted { blocks.new ≡ noted_from N.noted blocks.old self.old.state.count
+        ensures blocks_listed { blocks.new ≡ listed_from L.listed blocks.old self.old.state.count
             (starts_from fixed self.old.offset_size self.old.state sizes.now) }
     {
-        let mut next = self.fill::<N>(sizes, 0, offsets);
+        let mut next = self.fill::<L>(sizes, 0, offsets);
         while next < sizes.len() {
             let block = self.state.count as usize;
             let Some(offset) = self.open(sizes[next]) else {
                 return Err(next as u64);
             };
-            N::note(offsets, next, offset);
-            N::note(blocks, block, self.state.start);
-            next = self.fill::<N>(sizes, next + 1, offsets);
+            L::list(offsets, next, offset);
+            L::list(blocks, block, self.state.start);
+            next = self.fill::<L>(sizes, next + 1, offsets);
         }
         Ok(())
     }

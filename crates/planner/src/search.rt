@@ -1,12 +1,12 @@
 //! The search for the next slot that is large enough. Functions with a `requires` serve our own crates and are no part
 //! of the interface.
-ghost use Rattle.std.specs.Prelude.{◌≡◌, ◌^◌, ◌≤◌, IfSome};
+ghost use Rattle.std.specs.Prelude.{◌≡◌, ◌≤◌, IfSome};
 ghost use Rattle.table.specs.Table.{fixed};
 ghost use Rattle.planner.specs.Steps.{open_at};
 ghost use Rattle.planner.specs.Requires.{InHeap};
 
 use table::slot_places::locate;
-use table::{MAX_HEAP_SPACE, Slot};
+use table::{MAX_DIRECT_BLOCK_SIZE, MAX_HEAP_SPACE, Slot};
 
 /// The first slot from the heap offset `cursor` on, where a slot begins, that has `need` bytes; `None` where the heap
 /// space has none.
@@ -16,8 +16,8 @@ use table::{MAX_HEAP_SPACE, Slot};
 // definition tries slot after slot; `jump` in proofs/Jumping.antt proves that both find the same. The mask is the next
 // multiple without a division.
 pub fn find_slot(cursor: u64, need: u64) -> Option<Slot>
-    requires cursor_in_heap { cursor ≤ 2 ^ 40 }
-    requires need_in_block { need ≤ 65536 }
+    requires cursor_in_heap { cursor ≤ MAX_HEAP_SPACE }
+    requires need_in_block { need ≤ MAX_DIRECT_BLOCK_SIZE }
     ensures first_large_enough { result ≡ open_at fixed need cursor }
     ensures in_heap { IfSome result InHeap }
 {

@@ -18,7 +18,6 @@ abbrev pub InFile : List ℕ → Result Place FormatError → Type 0
 InFile s r = IfOk r (λ place. place.position + place.length ≤ length s)
 
 pub direct_in_file : (s : List ℕ) (a start t len : ℕ) → InFile s (direct_at s a start t len)
-unfolding direct_at len_ensured
 direct_in_file s a start t len = grind (arith, common_steps)
 
 pub walk_in_file : (table : DoublingTable) (s : List ℕ) (w t len d a n start : ℕ)
@@ -36,5 +35,4 @@ walk_in_file table s w t len (suc d) a n start =
     by (Ok (Some (Indirect b m o))) f = f b m o
 
 pub root_in_file : (table : DoublingTable) (s : List ℕ) (a n t len w : ℕ) → InFile s (root_walk table s a n t len w)
-unfolding root_walk
 root_in_file table s a n t len w = grind (arith, direct_in_file, walk_in_file)

@@ -8,7 +8,6 @@ use Rattle.numbers.proofs.Log2.{log2-le}
 use Rattle.numbers.proofs.Saturating.{sat-mul, sat-double, sat-twice}
 
 pub rows_le : (t : DoublingTable) (size : ℕ) → (0 < size_to_rows t size) × (size_to_rows t size ≤ 64)
-unfolding size_to_rows
 rows_le t size = omega (arith, log2-le size)
 
 module _ (t : DoublingTable) where
@@ -17,7 +16,6 @@ module _ (t : DoublingTable) where
   first_row = t.starting_block_size * t.table_width
 
   pub block_size-is : (row : ℕ) → row - 1 < 64 → block_size t row ≡ saturated (t.starting_block_size * 2 ^ (row - 1))
-  unfolding block_size
   block_size-is row h = rw (lt-ltb _ _ h)
 
   -- what one row spans, its blocks cut before

@@ -53,12 +53,10 @@ row_begun table s w t n k m row p start e f = rw (e, f)
 
 -- an address that is there
 pub offset_read : (s : List ℕ) (p w : ℕ) → legal w ≡ true → p + w ≤ length s → offset_at s p w ≡ Ok (le_at s p w)
-unfolding len_ensured number_at offset_at
 offset_read s p w l room = rw l (grind (arith, common_steps))
 
 -- a slot that ends at or before the target does not hold it
 pub not_held : (a w start end t : ℕ) → end ≤ t → holds_offset a w start end t ≡ false
-unfolding holds_offset
 not_held a w start end t h = grind (arith, common_steps)
 
 -- slots whose entries are there, and which end at or before the target, are passed

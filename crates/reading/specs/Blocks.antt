@@ -3,9 +3,8 @@
 -- entries here, row by row. That an undefined address is a block that is not there the text does not say: the original.
 -- w is Size of Offsets, target the wanted heap offset. An address is a place in s, which is to begin at Base Address
 -- (II.A).
-use Rattle.std.specs.Prelude.{ℕ, zero, suc, ◌+◌, ◌/◌, ◌==◌, List, [], ◌∷◌, ◌++◌, replicate, Bool, not, ◌&&◌, nat_le}
-use Rattle.std.specs.Prelude.{nat_lt, drop, if◌then◌else◌, Option, Some, None, Result, Ok}
-use Rattle.fields.specs.LittleEndian.{value, le_at}
+use Rattle.std.specs.Prelude.{ℕ, zero, suc, ◌+◌, ◌/◌, List, [], ◌∷◌, ◌++◌, replicate, Bool, not, ◌&&◌, nat_le}
+use Rattle.std.specs.Prelude.{nat_lt, take, drop, bytes_eq, if◌then◌else◌, Option, Some, None, Result, Ok}
 use Rattle.numbers.specs.Numbers.{saturated}
 use Rattle.fields.specs.Signatures.{indirect_signature}
 use Rattle.fields.specs.Fields.{len_ensured, offset_at}
@@ -19,11 +18,11 @@ use Rattle.reading.specs.declared.children.HeapChild.{HeapChild}
 use Rattle.reading.specs.declared.children.HeapChild.TheVariants.{Direct, Indirect}
 
 -- a block at address a that spans the offsets from start to end is there and holds the target
-unfoldable pub holds_offset : ℕ → ℕ → ℕ → ℕ → ℕ → Bool
+abbrev pub holds_offset : ℕ → ℕ → ℕ → ℕ → ℕ → Bool
 holds_offset a w start end target = nat_le start target && (nat_lt target end && not (is_undefined_addr a w))
 
 -- the child in a slot of a row: the block at address a, which begins at heap offset start
-unfoldable pub child_of : DoublingTable → ℕ → ℕ → ℕ → HeapChild
+abbrev pub child_of : DoublingTable → ℕ → ℕ → ℕ → HeapChild
 child_of table row a start =
     if nat_lt row (direct_rows table)
     then Direct a (block_size table row) start
@@ -44,19 +43,19 @@ child_in_slots table s w target (row ∷ rows) p start = do
   if found then Ok (Some (child_of table row a start)) else child_in_slots table s w target rows (p + w) end
 
 -- where the entries of an indirect block begin: after Signature, Version, Heap Header Address, Block Offset
-unfoldable pub entries_place : DoublingTable → ℕ → ℕ
+abbrev pub entries_place : DoublingTable → ℕ → ℕ
 entries_place table w = 5 + w + (table.max_heap_size + 7) / 8
 
 -- the child in an indirect block of n rows, whose bytes s begins with: Signature FHIB, then the entries; no other field
 -- is heeded
-unfoldable pub child_in : DoublingTable → List ℕ → ℕ → ℕ → ℕ → ℕ → Result (Option HeapChild) FormatError
+abbrev pub child_in : DoublingTable → List ℕ → ℕ → ℕ → ℕ → ℕ → Result (Option HeapChild) FormatError
 child_in table s n start target w = do
   _ ← len_ensured s 0 4
-  _ ← required (le_at s 0 4 == value indirect_signature) InvalidFractalHeapSignature
+  _ ← required (bytes_eq (take 4 s) indirect_signature) InvalidFractalHeapSignature
   child_in_slots table s w target (slot_rows table n 0) (entries_place table w) start
 
 -- the same at address a of the file
-unfoldable pub child_at : DoublingTable → List ℕ → ℕ → ℕ → ℕ → ℕ → ℕ → Result (Option HeapChild) FormatError
+abbrev pub child_at : DoublingTable → List ℕ → ℕ → ℕ → ℕ → ℕ → ℕ → Result (Option HeapChild) FormatError
 child_at table s a n start target w = do
   _ ← len_ensured s a 4
   child_in table (drop a s) n start target w

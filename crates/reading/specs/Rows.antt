@@ -6,17 +6,17 @@ use Rattle.numbers.specs.Numbers.{saturated, log2}
 use Rattle.reading.specs.declared.rows.DoublingTable.{DoublingTable}
 
 -- the size of a block in a row: rows 0 and 1 have the starting size, each later row twice the one before
-unfoldable pub block_size : DoublingTable → ℕ → ℕ
+abbrev pub block_size : DoublingTable → ℕ → ℕ
 block_size table row =
     if nat_lt (row - 1) 64 then saturated (table.starting_block_size * 2 ^ (row - 1)) else 2 ^ 64 - 1
 
 -- how many rows hold direct blocks: the text's max_dblock_rows, with a difference below 0 cut to 0
-unfoldable pub direct_rows : DoublingTable → ℕ
+abbrev pub direct_rows : DoublingTable → ℕ
 direct_rows table = log2 table.max_direct_block_size - log2 table.starting_block_size + 2
 
 -- how many rows a block has that spans this many bytes: the text's nrows, but with the width's logarithm subtracted too
 -- (docs/DIFFERENCES.md)
-unfoldable pub size_to_rows : DoublingTable → ℕ → ℕ
+abbrev pub size_to_rows : DoublingTable → ℕ → ℕ
 size_to_rows table size =
     log2 size - (log2 table.starting_block_size + log2 table.table_width) + 1
 
@@ -27,7 +27,7 @@ heap_size table (suc r) = saturated (heap_size table r + saturated (block_size t
 
 -- how many bytes a slot of a row spans: a direct block's, or those of the nested block's rows, at least one; in the
 -- text the row's block size
-unfoldable pub slot_size : DoublingTable → ℕ → ℕ
+abbrev pub slot_size : DoublingTable → ℕ → ℕ
 slot_size table row =
     if nat_lt row (direct_rows table)
     then block_size table row

@@ -16,7 +16,7 @@ use Rattle.reading.specs.Blocks.{child_at}
 use Rattle.fields.specs.declared.place.Place.{Place}
 
 -- len bytes at target in the direct block at a that begins at heap offset start; none of its fields is heeded
-unfoldable pub direct_at : List ℕ → ℕ → ℕ → ℕ → ℕ → Result Place FormatError
+abbrev pub direct_at : List ℕ → ℕ → ℕ → ℕ → ℕ → Result Place FormatError
 direct_at s a start target len = do
   let distance = target - start
   _ ← required (nat_le distance (2 ^ 64 - 1 - a)) (OffsetOverflow a distance)
@@ -40,7 +40,7 @@ walk_from table s w target len (suc d) a n start = do
 
 -- len bytes at the heap offset target, from the root block of n rows at a on: no rows mean that the root is a direct
 -- block, at heap offset 0
-unfoldable pub root_walk : DoublingTable → List ℕ → ℕ → ℕ → ℕ → ℕ → ℕ → Result Place FormatError
+abbrev pub root_walk : DoublingTable → List ℕ → ℕ → ℕ → ℕ → ℕ → ℕ → Result Place FormatError
 root_walk table s a n target len w = do
   _ ← required (not (is_undefined_addr a w)) (UnexpectedEof 1 0)
   if n == 0 then direct_at s a 0 target len else walk_from table s w target len 64 a n 0

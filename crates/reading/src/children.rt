@@ -5,7 +5,7 @@ ghost use Rattle.reading.specs.Blocks.{holds_offset, child_of, slot_rows, child_
 use crate::Search;
 use crate::rows::DoublingTable;
 use fields::convert::{is_undefined_addr, to_usize};
-use fields::little_endian::read_u32_le;
+use fields::signature::has_signature;
 use fields::{ensure_len, is_width, read_offset};
 use numbers::saturating_mul;
 use refusals::FormatError;
@@ -27,7 +27,6 @@ pub enum HeapChild {
 }
 
 // The child in a slot of a row.
-#[tactic(auto, unfolding(crate::specs::Blocks::child_of))]
 fn child_of(table: &DoublingTable, row: u64, addr: u64, heap_offset: u64) -> HeapChild
     ensures { result ≡ child_of table.now row addr heap_offset }
 {
@@ -49,7 +48,6 @@ fn child_of(table: &DoublingTable, row: u64, addr: u64, heap_offset: u64) -> Hea
 }
 
 // Whether a block at `addr` that spans the offsets from `start` to `end` is there and holds the target.
-#[tactic(auto, unfolding(crate::specs::Blocks::holds_offset))]
 fn holds(addr: u64, offset_size: u8, start: u64, end: u64, target: u64) -> bool
     ensures { result ≡ holds_offset addr offset_size start end target }
 {
@@ -100,7 +98,6 @@ impl Search<'_> {
     /// The child that holds the target, of the block whose bytes these begin with: `nrows` rows, the first slot at the
     /// heap offset `start`. Filtered heaps, whose entries are longer, were refused before, and are not tested for
     /// again.
-    #[tactic(auto, unfolding(crate::specs::Blocks::child_in, crate::specs::Blocks::entries_place, fields::specs::LittleEndian::value))]
     pub fn find_child_for_offset(
         &self,
         block: &[u8],
@@ -111,7 +108,7 @@ impl Search<'_> {
             ≡ child_in self.now.table block.now nrows start self.now.target self.now.offset_size }
     {
         ensure_len(block, 0, 4)?;
-        if read_u32_le(block, 0) != 0x4249_4846 {
+        if !has_signature(block, 0, b"FHIB") {
             return Err(FormatError::InvalidFractalHeapSignature);
         }
         let offset_bytes = (usize::from(self.table.max_heap_size) + 7) / 8;
@@ -120,7 +117,7 @@ impl Search<'_> {
     }
 
     /// The same of the block at `addr` of the file.
-    #[tactic(auto, using(crate::proofs::Scanning::part_all), unfolding(crate::specs::Blocks::child_at))]
+    #[tactic(auto, using(crate::proofs::Scanning::part_all))]
     pub fn find_child_at(
         &self,
         addr: u64,

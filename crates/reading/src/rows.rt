@@ -23,7 +23,6 @@ pub struct DoublingTable {
 
 impl DoublingTable {
     /// The size of a block in a row: the starting block's in rows 0 and 1, then twice the row before.
-    #[tactic(auto, unfolding(crate::specs::Rows::block_size))]
     pub fn block_size_for_row(self, row: u64) -> u64
         ensures { result ≡ block_size self row }
     {
@@ -36,7 +35,6 @@ impl DoublingTable {
     }
 
     /// How many rows hold direct blocks. The field `start_root_rows` says nothing about it.
-    #[tactic(auto, unfolding(crate::specs::Rows::direct_rows))]
     pub fn max_direct_rows(self) -> u64
         ensures { result ≡ direct_rows self }
     {
@@ -46,7 +44,6 @@ impl DoublingTable {
     }
 
     /// How many rows a nested block has that spans `size` bytes.
-    #[tactic(auto, unfolding(crate::specs::Rows::size_to_rows))]
     pub fn size_to_rows(self, size: u64) -> u64
         ensures { result ≡ size_to_rows self size }
     {
@@ -68,7 +65,7 @@ impl DoublingTable {
     }
 
     /// What a slot of a row spans: a direct block, or the nested block there.
-    #[tactic(auto, using(crate::proofs::RowSizes::rows_le), unfolding(crate::specs::Rows::slot_size))]
+    #[tactic(auto, using(crate::proofs::RowSizes::rows_le))]
     pub fn slot_size(self, row: u64) -> u64
         ensures { result ≡ slot_size self row }
     {

@@ -5,14 +5,12 @@ ghost use Rattle.reading.specs.Walk.{direct_at, walk_from, root_walk};
 use crate::Search;
 use crate::children::HeapChild;
 use fields::convert::{is_undefined_addr, to_usize};
-use fields::ensure_len;
-use fields::place::Place;
+use fields::{Place, ensure_len};
 use refusals::FormatError;
 
 impl Search<'_> {
     // The object in the direct block at `addr` that begins at heap offset `start`. The target is never before it; the
     // difference is cut at 0, so that this need not be asked.
-    #[tactic(auto, unfolding(crate::specs::Walk::direct_at))]
     fn read_from_direct_block(&self, addr: u64, start: u64) -> Result<Place, FormatError>
         ensures value { result
             ≡ direct_at self.now.file.now addr start self.now.target self.now.len }
@@ -73,7 +71,6 @@ impl Search<'_> {
 
     /// The object, from the root block of `nrows` rows at `root` on. A direct root, which has no rows, is read without
     /// a look at the offset size.
-    #[tactic(auto, unfolding(crate::specs::Walk::root_walk))]
     pub fn read_from_root(&self, root: u64, nrows: u16) -> Result<Place, FormatError>
         ensures value { result ≡ root_walk self.now.table self.now.file.now root nrows
             self.now.target self.now.len self.now.offset_size }

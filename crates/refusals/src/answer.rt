@@ -89,6 +89,7 @@ impl Reported for FormatError {
             FormatError::HeaderAddressTooLarge(address) => (15, address, 0),
             FormatError::RegionAddressTooLarge { address, size } => (15, address, size),
             FormatError::HeapIdTooLarge { offset, length } => (16, offset, length),
+            FormatError::HeaderFieldTooLarge { place, value } => (17, place, value),
         };
         Answer {
             number,

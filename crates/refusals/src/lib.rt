@@ -43,4 +43,6 @@ pub enum FormatError {
     RegionAddressTooLarge { address: u64, size: u64 },
     #[error("no ID holds offset {offset} and length {length}: they must be below 2^40 and below 2^16")]
     HeapIdTooLarge { offset: u64, length: u64 },
+    #[error("the header's field at place {place}, counted from 0, is {value}, too large for its width")]
+    HeaderFieldTooLarge { place: u64, value: u64 },
 }

@@ -1,7 +1,7 @@
 //! An indirect block around its entries.
 ghost use Rattle.std.specs.Prelude.{◌≡◌, ◌+◌, ◌≤◌, length};
 ghost use Rattle.table.specs.Table.{fixed};
-ghost use Rattle.region_blocks.specs.Blocks.{indirect_block};
+ghost use Rattle.region_blocks.specs.Blocks.{head_size, indirect_block};
 ghost use Rattle.region_blocks.specs.Entries.{entries_in};
 
 use crate::{Site, write_head};
@@ -13,9 +13,9 @@ use checksum::jenkins_lookup3;
 #[tactic(auto, unfolding(crate::specs::Blocks::indirect_block), using(fields::proofs::Writing::le_four))]
 pub fn seal_indirect(block: &mut [u8], offset: u64, site: Site)
     requires narrow { site.offset_size ≤ 8 }
-    requires room { 14 + site.offset_size ≤ length block.old }
+    requires room { head_size fixed site.offset_size + 4 ≤ length block.old }
     ensures { block.new ≡ indirect_block fixed site.offset_size site.heap_header_address offset
-        (entries_in site.offset_size block.old) }
+        (entries_in fixed site.offset_size block.old) }
 {
     let (summed, seal) = block.split_at_mut(block.len() - 4);
     write_head(summed, b"FHIB", offset, site);

@@ -4,13 +4,12 @@
 pub mod direct;
 pub mod indirect;
 
-ghost use Rattle.std.specs.Prelude.{◌≡◌, ◌+◌, ◌++◌, ◌≤◌, ◌∷◌, [], length, drop};
-ghost use Rattle.fields.specs.LittleEndian.{le};
+ghost use Rattle.std.specs.Prelude.{◌≡◌, ◌+◌, ◌++◌, ◌≤◌, length, drop};
 ghost use Rattle.table.specs.Table.{fixed};
 ghost use Rattle.fields.specs.Writing.{Puts};
-ghost use Rattle.region_blocks.specs.Blocks.{block_head};
+ghost use Rattle.region_blocks.specs.Blocks.{block_head, head_size};
 
-use fields::stores::Writer;
+use fields::Writer;
 use table::BLOCK_OFFSET_BYTES;
 
 /// What all blocks of a region share: the width of addresses in bytes, and where the heap's header and the region
@@ -22,12 +21,21 @@ pub struct Site {
     pub region_address: u64,
 }
 
+/// The bytes of a block's head, with which both kinds begin: signature (4), version (1), heap header address, block
+/// offset.
+#[tactic(auto, unfolding(table::specs::Sizes::offset_bytes))]
+pub fn head_size(offset_size: u8) -> u64
+    ensures { result ≡ head_size fixed offset_size }
+{
+    4 + 1 + u64::from(offset_size) + BLOCK_OFFSET_BYTES
+}
+
 // How both kinds begin: signature, version 0, the heap header's address, the block's heap offset.
-#[tactic(auto, unfolding(crate::specs::Blocks::block_head, table::specs::Sizes::offset_bytes))]
+#[tactic(auto, unfolding(table::specs::Sizes::offset_bytes))]
 fn put_head(writer: &mut Writer<'_>, signature: &[u8; 4], offset: u64, site: Site)
     requires narrow { site.offset_size ≤ 8 }
-    requires room { writer.old.at + 10 + site.offset_size ≤ length writer.old.bytes.now }
-    ensures { Puts writer.old writer.new (10 + site.offset_size)
+    requires room { writer.old.at + head_size fixed site.offset_size ≤ length writer.old.bytes.now }
+    ensures { Puts writer.old writer.new (head_size fixed site.offset_size)
         (block_head fixed site.offset_size signature.now site.heap_header_address offset) }
 {
     writer.put(signature);
@@ -40,10 +48,10 @@ fn put_head(writer: &mut Writer<'_>, signature: &[u8; 4], offset: u64, site: Sit
 #[tactic(auto, using(crate::proofs::Writing::front_written))]
 fn write_head(block: &mut [u8], signature: &[u8; 4], offset: u64, site: Site)
     requires narrow { site.offset_size ≤ 8 }
-    requires room { 10 + site.offset_size ≤ length block.old }
+    requires room { head_size fixed site.offset_size ≤ length block.old }
     ensures { block.new
         ≡ block_head fixed site.offset_size signature.now site.heap_header_address offset
-        ++ drop (10 + site.offset_size) block.old }
+        ++ drop (head_size fixed site.offset_size) block.old }
 {
     put_head(&mut Writer::new(block), signature, offset, site);
 }

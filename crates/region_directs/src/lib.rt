@@ -2,12 +2,12 @@
 #![tactic(auto)]
 
 ghost use Rattle.std.specs.Prelude.{◌≡◌, ◌+◌, ◌≤◌, length};
+ghost use Rattle.fields.specs.LittleEndian.{put};
 ghost use Rattle.table.specs.Table.{fixed};
 ghost use Rattle.table.specs.Sizes.{max_managed, direct_header};
 ghost use Rattle.region_blocks.specs.Blocks.{direct_block};
 ghost use Rattle.numbers.specs.Sums.{sum};
 ghost use Rattle.planner.specs.Requires.{Small, Runs};
-ghost use Rattle.region_blocks.specs.Storing.{stored};
 ghost use Rattle.region_directs.specs.Directs.{directs_of, opened_of};
 
 use planner::{Counted, Planner};
@@ -16,12 +16,12 @@ use region_blocks::direct::write_direct_block;
 use table::STARTING_BLOCK_SIZE;
 
 // A direct block of `size` bytes at a place of the region.
-#[tactic(auto, using(region_blocks::proofs::Parts::direct_stored))]
+#[tactic(auto, using(region_blocks::proofs::Parts::direct_put))]
 fn write_at(region: &mut [u8], at: usize, offset: u64, size: usize, objects: &[u8], site: Site)
     requires narrow { site.offset_size ≤ 8 }
-    requires size_in_bounds { at + size ≤ length region.old }
-    requires objects_bound { direct_header fixed site.offset_size + length objects.now ≤ size }
-    ensures { region.new ≡ stored region.old at
+    requires block_in_region { at + size ≤ length region.old }
+    requires objects_fit { direct_header fixed site.offset_size + length objects.now ≤ size }
+    ensures { region.new ≡ put region.old at
         (direct_block fixed site.offset_size site.heap_header_address offset size objects.now) }
 {
     write_direct_block(&mut region[at..at + size], offset, objects, site);
@@ -34,10 +34,10 @@ fn write_placed(sizes: &[u64], objects: &[u8], region: &mut [u8], place: usize, 
     requires narrow { site.offset_size ≤ 8 }
     requires small { Small (max_managed fixed site.offset_size) sizes.now }
     requires runs { Runs site.offset_size sizes.now }
-    requires objects_len { length objects.now ≡ sum sizes.now }
-    requires sizes_in_bounds { place + length
+    requires objects_joined { length objects.now ≡ sum sizes.now }
+    requires blocks_in_region { place + length
         (opened_of site sizes.now objects.now) ≤ length region.old }
-    ensures { region.new ≡ stored region.old place (opened_of site sizes.now objects.now) }
+    ensures { region.new ≡ put region.old place (opened_of site sizes.now objects.now) }
 {
     let mut planner = Planner::new(site.offset_size);
     let mut next: usize = 0;
@@ -67,10 +67,10 @@ pub fn write_directs(sizes: &[u64], objects: &[u8], region: &mut [u8], place: us
     requires narrow { site.offset_size ≤ 8 }
     requires small { Small (max_managed fixed site.offset_size) sizes.now }
     requires runs { Runs site.offset_size sizes.now }
-    requires objects_len { length objects.now ≡ sum sizes.now }
-    requires sizes_in_bounds { place + length
+    requires objects_joined { length objects.now ≡ sum sizes.now }
+    requires blocks_in_region { place + length
         (directs_of site sizes.now objects.now) ≤ length region.old }
-    ensures { region.new ≡ stored region.old place (directs_of site sizes.now objects.now) }
+    ensures { region.new ≡ put region.old place (directs_of site sizes.now objects.now) }
 {
     if sizes.len() == 0 {
         write_at(

@@ -1,23 +1,26 @@
 -- Laws of the walk's definition: its equations, the width of a slot's entry, addresses that only grow, and the
 -- rows of the slots that are left.
-use Rattle.std.proofs.Common.{ℕ, zero, suc, ◌+◌, ◌-◌, ◌*◌, ◌^◌, ◌≤◌, ◌<◌, ◌≡◌, refl, true, false}
+use Rattle.std.proofs.Common.{ℕ, zero, suc, ◌+◌, ◌-◌, ◌*◌, ◌^◌, ◌≤◌, ◌<◌, ◌≡◌, refl, sym, ap, ◌∙◌, true, false}
 use Rattle.std.proofs.Common.{nat_le, nat_lt, List, [], ◌∷◌, ◌++◌, append_assoc, length, replicate}
-use Rattle.std.proofs.Common.{drop, slice_index, arith, length-append, add-zero, pow_mono, inl, inr}
+use Rattle.std.proofs.Common.{drop, slice_index, arith, length-append, add-zero, inl, inr}
+use Rattle.std.specs.Prelude.{sum_by}
+use Rattle.std.proofs.lemmas.List.Sums.{sum_by-append, sum_by-cons}
+use Rattle.std.proofs.lemmas.List.Folds.{sum_by-replicate}
 use Rattle.std.proofs.lemmas.List.{drop_more, drop_all, length-replicate, replicate-append-replicate}
 use Rattle.std.proofs.lemmas.Bool.{cases_lt}
 use Rattle.std.proofs.lemmas.Bool.Decides.{nat_tests}
 use Rattle.fields.proofs.LittleEndian.{length-le}
-use Rattle.fields.specs.Signatures.{indirect_signature}
-use Rattle.table.specs.Table.{Table, fixed, row_bits}
-use Rattle.table.specs.Sizes.{offset_bytes}
-use Rattle.region_blocks.specs.Blocks.{block_head, indirect_block}
-use Rattle.region_blocks.proofs.Lengths.{indirect-head-length, indirect-length}
+use Rattle.table.specs.Table.{Table, fixed, row_bits, row_offset}
+use Rattle.table.specs.Sizes.{indirect_size}
+use Rattle.table.proofs.Rows.{row, slot-rows}
+use Rattle.region_blocks.specs.Blocks.{indirect_block}
+use Rattle.region_blocks.proofs.Lengths.{indirect-length}
 use Rattle.region_indirects.specs.declared.cursor.Slots.{Slots}
 use Rattle.region_indirects.specs.Slots.{block_slots, next_rows, next_slots}
-use Rattle.region_indirects.specs.Walk.{Walked, WalkedFrom, begins_before, rows_of_slots, unplaced, direct, nothing}
+use Rattle.region_indirects.specs.Walk.{Walked, WalkedFrom, begins_before, rows_of_slots, unplaced, direct}
 use Rattle.region_indirects.specs.Walk.{both}
-use Rattle.region_indirects.specs.Walk.{slot, slots, finished, smaller, all_slots, block}
-use Rattle.region_indirects.specs.Requires.{rows_left}
+use Rattle.region_indirects.specs.Walk.{slot, slots, smaller, all_slots, block}
+use Rattle.region_indirects.specs.Requires.{rows_left, span_left}
 
 -- ---- the next placed block
 
@@ -80,12 +83,10 @@ before-less [] a b l e = refl
 before-less (s ∷ ss) a b l e = grind (arith, nat_tests)
 
 both-none : (ss : List ℕ) (next w : ℕ) (o : Walked) → both (unplaced (0 * w) ss next) o ≡ o
-unfolding both unplaced
 both-none ss next w o = let none : 0 * w ≡ 0 = omega arith in rw none
 
 both-more : (ss : List ℕ) (next w k : ℕ) (o : Walked)
     → both (unplaced w ss next) (both (unplaced (k * w) ss next) o) ≡ both (unplaced (suc k * w) ss next) o
-unfolding both unplaced
 both-more ss next w k o =
     let n : w + k * w ≡ suc k * w = omega arith in
     let one : replicate w 0xFF ++ replicate (k * w) 0xFF ≡ replicate (suc k * w) 0xFF =
@@ -98,9 +99,10 @@ module _ (t : Table) (w header : ℕ) (inner : ℕ → WalkedFrom) where
       → begins_before ss (at + k * 2 ^ row_bits t r) ≡ false
       → slots t w header inner (replicate k r ++ rs) at ss pos next
       ≡ both (unplaced (k * w) ss next) (slots t w header inner rs (at + k * 2 ^ row_bits t r) ss pos next)
-  unfolding slots unplaced
+  unfolding slots
   slots-passed zero r rs at ss pos next b =
-      let here : at + 0 * 2 ^ row_bits t r ≡ at = omega arith in rw (here, both-none ss next w)
+      let here : at + 0 * 2 ^ row_bits t r ≡ at = omega arith in
+      rw (here, both-none ss next w (slots t w header inner rs at ss pos next))
   slots-passed (suc k) r rs at ss pos next b =
       let z : ℕ = 2 ^ row_bits t r in
       let on : at + z + k * z ≡ at + suc k * z = omega arith in
@@ -122,12 +124,12 @@ module _ (t : Table) (w header : ℕ) where
 
   slot-sound : (inner : ℕ → WalkedFrom) → AllSound inner → (r at : ℕ) (ss : List ℕ) (pos next : ℕ)
       → Sound w 1 next (slot t w header inner r at ss pos next)
-  unfolding slot unplaced direct
+  unfolding slot
   slot-sound inner h r at ss pos next = grind (arith, h, length-le, length-replicate {A = ℕ})
 
   slots-sound : (inner : ℕ → WalkedFrom) → AllSound inner → (rs : List ℕ) (at : ℕ) (ss : List ℕ) (pos next : ℕ)
       → Sound w (length rs) next (slots t w header inner rs at ss pos next)
-  unfolding slots both nothing
+  unfolding slots
   slots-sound inner h [] at ss pos next = grind arith
   slots-sound inner h (r ∷ rs) at ss pos next =
       let c : Walked = slot t w header inner r at ss pos next in
@@ -136,7 +138,7 @@ module _ (t : Table) (w header : ℕ) where
       grind (arith, length-append {A = ℕ})
 
   smaller-sound : (n : ℕ) → AllSound (smaller t w header n)
-  unfolding smaller unplaced finished
+  unfolding smaller
   smaller-sound zero j at ss pos next = grind (arith, length-replicate {A = ℕ})
   smaller-sound (suc n) j at ss pos next =
       let slots = slots-sound (smaller t w header n) (smaller-sound n) (rows_of_slots t n 0) at ss pos next in
@@ -165,14 +167,16 @@ module _ (t : Table) (w header : ℕ) where
       let sound = slots-sound (smaller t w header n) (smaller-sound n) (rows_of_slots t n 0) at ss pos next in
       rw (length-rows n 0) at sound.wide
 
--- at the fixed table a heap offset has five bytes
-pub head-length : (w header at : ℕ) → length (block_head fixed w indirect_signature header at) ≡ 10 + w
-unfolding offset_bytes
-head-length w header at = omega (arith, indirect-head-length fixed w header at)
-
-pub block-length : (w header at : ℕ) (es : List ℕ) → length (indirect_block fixed w header at es) ≡ 14 + w + length es
-unfolding offset_bytes
-block-length w header at es = omega (arith, indirect-length fixed w header at es)
+  -- a block stands after those in its slots
+  pub block-length : (n at : ℕ) (ss : List ℕ) (pos next : ℕ)
+      → length (block t w header n at ss pos next).bytes
+      ≡ length (all_slots t w header n at ss pos next).bytes + indirect_size t w n
+  unfolding block indirect_size
+  block-length n at ss pos next =
+      let inner : Walked = all_slots t w header n at ss pos next in
+      let own = indirect-length t w header at inner.entries in
+      let entries = block-entries n at ss pos next in
+      length-append inner.bytes (indirect_block t w header at inner.entries) ∙ omega arith
 
 -- ---- the rows of the slots that are left
 
@@ -187,7 +191,7 @@ rows_all (suc n) off = grind (arith, nat_tests)
 
 -- the rows from one on, where a row begins
 rows-from : (n row off : ℕ)
-    → rows_of_slots fixed (n - row) row ≡ rows_left n (record { row = row; left = 4; offset = off })
+    → rows_of_slots fixed (n - row) row ≡ rows_left n (record { row = row; left = 2 ^ fixed.width_bits; offset = off })
 unfolding rows_left rows_of_slots
 rows-from n row off =
     elim (cases_lt row n) [
@@ -216,6 +220,62 @@ pub rows_next : (n : ℕ) (s : Slots) (size : ℕ) → s.row < n → 0 < s.left
     → rows_left n s ≡ s.row ∷ rows_left n (next_slots s size)
 rows_next n s size h l = rows-next-at n s.row s.left s.offset size h l
 
+-- ---- how many bytes slots have
+
+-- a slot of row r
+abbrev slot_size : Table → ℕ → ℕ
+slot_size t r = 2 ^ row_bits t r
+
+-- the slots of m rows reach from the first one's start to where the row behind them would begin
+rows-span : (t : Table) (m r : ℕ) → row_offset t r + sum_by (slot_size t) (rows_of_slots t m r) ≡ row_offset t (r + m)
+unfolding rows_of_slots
+rows-span t zero r = let here : r + 0 ≡ r = omega arith in rw here (omega arith)
+rows-span t (suc m) r =
+    let more : r + suc m ≡ suc r + m = omega arith in
+    let parts = sum_by-append (slot_size t) (replicate (2 ^ t.width_bits) r) (rows_of_slots t m (suc r)) in
+    rw more (omega (
+      arith,
+      parts,
+      sum_by-replicate (slot_size t) (2 ^ t.width_bits) r,
+      (row t r).ends,
+      rows-span t m (suc r),
+    ))
+
+pub span_block : (n off : ℕ) → span_left n (block_slots off) ≡ row_offset fixed n
+unfolding row_offset
+span_block n off =
+    let here : 0 + n ≡ n = omega arith in
+    let all = rw here at (rows-span fixed n 0) in
+    rw (rows_all n off) (omega (arith, all))
+
+module _ (n : ℕ) (s : Slots) {size : ℕ} (h : s.row < n) (e : size ≡ 2 ^ row_bits fixed s.row) where
+  -- the rest of a row, and the rows after it
+  pub span_row : (off : ℕ) → span_left n s ≡ s.left * size + span_left n (next_rows s off)
+  span_row off =
+      let parts = sum_by-append (slot_size fixed) (replicate s.left s.row) (rows_left n (next_rows s off)) in
+      let slots = sum_by-replicate (slot_size fixed) s.left s.row ∙ ap (λ z. s.left * z) (sym e) in
+      rw (rows_row n s off h) (parts ∙ ap (λ k. k + span_left n (next_rows s off)) slots)
+
+  -- one slot, and those after it
+  pub span_next : 0 < s.left → span_left n s ≡ size + span_left n (next_slots s size)
+  span_next l =
+      let behind : List ℕ = rows_left n (next_slots s size) in
+      rw (rows_next n s size h l)
+      (sum_by-cons (slot_size fixed) s.row behind ∙ ap (λ z. z + span_left n (next_slots s size)) (sym e))
+
+  pub row_ends : {s' : Slots} {end : ℕ} → s' ≡ next_rows s (s.offset + s.left * size) → s.offset + span_left n s ≤ end
+      → s'.offset + span_left n s' ≤ end
+  row_ends on h = rw on (omega (arith, span_row (s.offset + s.left * size), h))
+
+  pub slot_ends : {s' : Slots} {end : ℕ} → 0 < s.left → s' ≡ next_slots s size → s.offset + span_left n s ≤ end
+      → s'.offset + span_left n s' ≤ end
+  slot_ends l on h = rw on (omega (arith, span_next l, h))
+
+-- an indirect slot of row r is a block of r - 2 rows
+pub block_span : (row : ℕ) → nat_le (row_bits fixed row) fixed.direct_bits ≡ false
+    → row_offset fixed (row - 2) ≡ 2 ^ row_bits fixed row
+block_span row d = sym (slot-rows fixed row (omega arith) (omega arith) (grind (arith, nat_tests)))
+
 -- ---- the bounds of the walks
 
 -- slots by their numbers
@@ -241,16 +301,7 @@ pub next-slot : {n : ℕ} {s s' : Slots} {size : ℕ} → s.row < n → 0 < s.le
 next-slot {n} {s} {size = size} h l f e =
     let next : Next n s size (next_slots s size) = grind (arith, nat_tests) in rw e next
 
--- a slot of any of the 29 rows
-pub size_small : {row size : ℕ} → row < 29 → size ≡ 2 ^ row_bits fixed row → size ≤ 2 ^ 38
-unfolding row_bits
-size_small {row} h e = omega (arith, e, pow_mono {i = 10 + (row - 1)} {j = 38} (omega arith))
-
--- some slots of one of these rows, and the entries of some slots
-pub row_small : (left : ℕ) {row size : ℕ} → row < 29 → size ≡ 2 ^ row_bits fixed row → left * size ≤ left * 2 ^ 38
-row_small left {row} {size} h e = let l = size_small {row = row} {size = size} h e in grind arith
-
 -- an indirect slot's row
-pub row-high : {row : ℕ} → nat_le (row_bits fixed row) 16 ≡ false → 8 ≤ row
+pub row-high : {row : ℕ} → nat_le (row_bits fixed row) fixed.direct_bits ≡ false → 8 ≤ row
 unfolding row_bits
 row-high {row} d = grind (arith, nat_tests)

@@ -1,11 +1,9 @@
 -- What the walks ask of their arguments, so that they stay in the region and within 64 bits, and
 -- what they give.
 use Rattle.std.specs.Prelude.{ℕ, ◌+◌, ◌-◌, ◌^◌, ◌≤◌, ◌<◌, ◌≡◌, if◌then◌else◌, List, [], ◌++◌}
-use Rattle.std.specs.Prelude.{length, drop}
-use Rattle.std.specs.Prelude.{replicate, nat_lt, Option, Some, None}
-use Rattle.fields.specs.LittleEndian.{le}
-use Rattle.table.specs.Table.{fixed}
-use Rattle.region_blocks.specs.Storing.{stored}
+use Rattle.std.specs.Prelude.{length, drop, replicate, sum_by, nat_lt, Option, Some, None}
+use Rattle.fields.specs.LittleEndian.{le, put}
+use Rattle.table.specs.Table.{fixed, row_bits}
 use Rattle.region_indirects.specs.declared.cursor.Cursor.{Cursor}
 use Rattle.region_indirects.specs.declared.cursor.Slots.{Slots}
 use Rattle.region_indirects.specs.declared.Walk.{Walk}
@@ -17,6 +15,10 @@ unfoldable pub rows_left : ℕ → Slots → List ℕ
 rows_left n s =
     let next = s.row + 1 in
     if nat_lt s.row n then replicate s.left s.row ++ rows_of_slots fixed (n - next) next else []
+
+-- how many bytes these slots have together
+abbrev pub span_left : ℕ → Slots → ℕ
+span_left n s = sum_by (λ r. 2 ^ row_bits fixed r) (rows_left n s)
 
 -- the walks' outcomes, where the region's own bytes begin at the region's address
 
@@ -47,14 +49,14 @@ slot_of walk row at c =
 -- an outcome o of a walk from where `out` stands, and `more` bytes behind it, fit into the region
 pub record Fits (walk : Walk) (out : Output) (o : Walked) (more : ℕ) : Type 0 where
   pub narrow : walk.site.offset_size ≤ 8
-  pub known : out.cursor.index ≤ length walk.starts.now
+  pub index_in_starts : out.cursor.index ≤ length walk.starts.now
   pub room : out.cursor.place + length o.bytes + more ≤ length out.region.now
-  pub addresses : walk.site.region_address + length out.region.now < 2 ^ 64
-  pub direct : o.next < 2 ^ 64
+  pub addresses_fit : walk.site.region_address + length out.region.now < 2 ^ 64
+  pub next_fits : o.next < 2 ^ 64
 
 -- the cursor d stands where the outcome o of a walk from c on ends
 pub record Moved (walk : Walk) (c : Cursor) (o : Walked) (d : Cursor) : Type 0 where
-  pub known : d.index ≤ length walk.starts.now
+  pub index_in_starts : d.index ≤ length walk.starts.now
   pub rest : drop d.index walk.starts.now ≡ o.rest
   pub place : d.place ≡ c.place + length o.bytes
   pub next : d.next ≡ o.next
@@ -67,7 +69,7 @@ entry_bytes w None = replicate w 0xFF
 -- an outcome o was written from where `out` stood, and e is its entry
 pub record Wrote (walk : Walk) (out : Output) (o : Walked) (e : Option ℕ) (out' : Output)
     : Type 0 where
-  pub bytes : out'.region.now ≡ stored out.region.now out.cursor.place o.bytes
+  pub bytes : out'.region.now ≡ put out.region.now out.cursor.place o.bytes
   pub entry : entry_bytes walk.site.offset_size e ≡ o.entries
   pub moved : Moved walk out.cursor o out'.cursor
 
@@ -76,7 +78,7 @@ pub record Wrote (walk : Walk) (out : Output) (o : Walked) (e : Option ℕ) (out
 pub record WroteSlots (walk : Walk) (out : Output) (o : Walked) (from : ℕ) (out' : Output)
     : Type 0 where
   pub bytes : out'.region.now
-      ≡ stored (stored out.region.now out.cursor.place o.bytes) (out'.cursor.place + from) o.entries
+      ≡ put (put out.region.now out.cursor.place o.bytes) (out'.cursor.place + from) o.entries
   pub moved : Moved walk out.cursor o out'.cursor
 
 -- ---- of a block, some slots, and one

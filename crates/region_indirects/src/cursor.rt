@@ -1,8 +1,8 @@
 //! Where a walk over the slots of indirect blocks stands, and the slot that comes next.
-ghost use Rattle.std.specs.Prelude.{◌≡◌, ◌+◌, ◌^◌, ◌<◌, drop};
+ghost use Rattle.std.specs.Prelude.{◌≡◌, ◌+◌, ◌^◌, ◌<◌, ◌≤◌, drop};
 ghost use Rattle.region_indirects.specs.Walk.{begins_before};
 
-use table::TABLE_WIDTH;
+use table::{MAX_ROOT_ROWS, TABLE_WIDTH};
 
 /// The next placed direct block and its address, in the file and not from the region on, and the next free place in
 /// the region.
@@ -46,8 +46,8 @@ impl Slots {
 
     /// The slots behind the first one, which has `size` bytes.
     pub fn next(self, size: u64) -> Slots
-        requires row_fits { self.row < 30 }
-        requires some { 0 < self.left }
+        requires row_of_root { self.row ≤ MAX_ROOT_ROWS }
+        requires slot_left { 0 < self.left }
         requires end_fits { self.offset + size < 2 ^ 64 }
         ensures { result ≡ next_slots self size }
     {
@@ -64,7 +64,7 @@ impl Slots {
 
     /// The slots of the rows behind the first one, which ends at `row_end`.
     pub fn next_row(self, row_end: u64) -> Slots
-        requires { self.row < 30 }
+        requires { self.row ≤ MAX_ROOT_ROWS }
         ensures { result ≡ next_rows self row_end }
     {
         Slots {

@@ -5,14 +5,16 @@
 
 pub mod cursor;
 
-ghost use Rattle.std.specs.Prelude.{◌≡◌, ◌+◌, ◌-◌, ◌*◌, ◌^◌, ◌<◌, ◌≤◌, length};
+ghost use Rattle.std.specs.Prelude.{◌≡◌, ◌+◌, ◌^◌, ◌<◌, ◌≤◌, length};
+ghost use Rattle.table.specs.Table.{fixed, row_bits, row_offset};
 ghost use Rattle.region_indirects.specs.Requires.{entry_bytes, BlockFits, BlockWritten, SlotsFit, SlotsWritten};
-ghost use Rattle.region_indirects.specs.Requires.{SlotFits, SlotWritten};
+ghost use Rattle.region_indirects.specs.Requires.{SlotFits, SlotWritten, span_left};
 
 use crate::cursor::{Cursor, Slots, begins_before};
-use region_blocks::Site;
 use region_blocks::indirect::seal_indirect;
-use table::{TABLE_WIDTH, is_direct, row_block_size};
+use region_blocks::{Site, head_size};
+use table::block_sizes::indirect_block_size;
+use table::{MAX_HEAP_SPACE, MAX_ROOT_ROWS, TABLE_WIDTH, is_direct, row_block_size};
 
 /// What a walk goes by: where the placed direct blocks begin in the heap, and where all stands in the file.
 #[derive(Clone, Copy)]
@@ -67,15 +69,17 @@ impl Walk<'_> {
     /// is given.
     #[cycle(walk)]
     pub fn block(&self, out: &mut Output<'_>, rows: u64, offset: u64) -> u64
-        requires rows_bound { (rows ≤ 29) × (offset + rows * 2 ^ 45 + 2 ^ 45 ≤ 2 ^ 62) }
+        requires rows_of_root { rows ≤ MAX_ROOT_ROWS }
+        requires end_in_heap { offset + row_offset fixed rows ≤ MAX_HEAP_SPACE }
         requires fits { BlockFits self.now out.old rows offset }
         ensures same_reference { out.new.region.ghost_name ≡ out.old.region.ghost_name }
         ensures wrote { BlockWritten self.now out.old rows offset result out.new }
     {
-        let width = self.site.offset_size as usize;
-        self.slots(out, rows, Slots::all(offset), 10 + width);
+        let head = head_size(self.site.offset_size) as usize;
+        self.slots(out, rows, Slots::all(offset), head);
         let place = out.cursor.place;
-        let end = place + (14 + width + TABLE_WIDTH as usize * rows as usize * width);
+        let size = indirect_block_size(rows, self.site.offset_size);
+        let end = place + size as usize;
         seal_indirect(&mut out.region[place..end], offset, self.site);
         out.cursor.place = end;
         self.site.region_address + place as u64
@@ -86,8 +90,11 @@ impl Walk<'_> {
     // without this a region of one object of 2,026 bytes took 945 ns, with it 805.
     #[cycle(walk)]
     fn slots(&self, out: &mut Output<'_>, rows: u64, slots: Slots, at: usize)
-        requires rows_bound { (rows ≤ 29) × (slots.row ≤ rows) × (0 < slots.left) × (slots.left ≤ 4)
-            × (slots.offset + (4 * (rows - slots.row) + slots.left) * 2 ^ 38 + rows * 2 ^ 45 ≤ 2 ^ 62) }
+        requires rows_of_root { rows ≤ MAX_ROOT_ROWS }
+        requires row_in_block { slots.row ≤ rows }
+        requires slot_left { 0 < slots.left }
+        requires left_in_row { slots.left ≤ TABLE_WIDTH }
+        requires end_in_heap { slots.offset + span_left rows slots ≤ MAX_HEAP_SPACE }
         requires fits { SlotsFit self.now out.old rows slots at }
         ensures same_reference { out.new.region.ghost_name ≡ out.old.region.ghost_name }
         ensures wrote { SlotsWritten self.now out.old rows slots at out.new }
@@ -114,7 +121,8 @@ impl Walk<'_> {
     // One slot: without a block, with a direct one, or with a block that is walked in turn.
     #[cycle(walk)]
     fn slot(&self, out: &mut Output<'_>, row: u64, offset: u64) -> Option<u64>
-        requires row_bound { (row < 29) × (offset + row * 2 ^ 45 + 2 ^ 45 ≤ 2 ^ 62) }
+        requires row_of_root { row < MAX_ROOT_ROWS }
+        requires end_in_heap { offset + 2 ^ row_bits fixed row ≤ MAX_HEAP_SPACE }
         requires fits { SlotFits self.now out.old row offset }
         ensures same_reference { out.new.region.ghost_name ≡ out.old.region.ghost_name }
         ensures wrote { SlotWritten self.now out.old row offset result out.new }

@@ -9,12 +9,12 @@ use Rattle.table.specs.Sizes.{indirect_size}
 use Rattle.table.proofs.Rows.{row, row-of-is, heap-rows}
 use Rattle.table.proofs.Slots.{slot-some}
 use Rattle.plan.specs.Plans.{sizes_at}
-use Rattle.region_indirects.specs.Walk.{Walked, unplaced, direct, nothing, both, slot, slots, smaller, all_slots, block}
+use Rattle.region_indirects.specs.Walk.{Walked, both, slot, slots, smaller, all_slots, block}
+use Rattle.region_indirects.proofs.Walking.{block-length}
 use Rattle.region_write.proofs.Geometry.{cell-end, SlotAt, Ahead, done, slot_of, slot-end, all-ahead, BlockAt}
 use Rattle.region_write.proofs.Geometry.{inner-span, root-block, inner_block}
 use Rattle.region_write.proofs.Starts.{Placed, none, more, before, from, last_end, before-yes, before-none}
 use Rattle.region_write.proofs.Starts.{before-later, end-append, before-whole, from-none}
-use Rattle.region_write.proofs.Lengths.{block-length}
 use Rattle.region_write.proofs.Walking.{by-smaller, Way, empty, placed, deeper, way, cut-placed, slot-cut, block-cut}
 
 -- the bytes of the indirect blocks that direct blocks at ss open in the indirect block at `at`, f deep, where the
@@ -88,7 +88,6 @@ sized-none q b l = grind arith
 sized-both : {t : Table} {w f at e lo hi : ℕ} {c o : Walked} {ss : List ℕ} → lo ≤ hi → c.rest ≡ from lo ss
     → Sized t w f at e c ss lo
     → Sized t w f at (last_end t e (before lo ss)) o c.rest hi → Sized t w f at e (both c o) ss hi
-unfolding both
 sized-both {t} {w} {f} {at} {e} {lo} {hi} {ss = ss} l q C O =
     let front = before lo ss in
     let back = before hi (from lo ss) in
@@ -133,7 +132,7 @@ module _ (t : Table) (g : t.start_bits ≤ t.direct_bits) (wd : t.width_bits + t
       (B : BlockAt t n base) where
     slot-sized : {r at e : ℕ} {ss : List ℕ} (pos next : ℕ) → SlotAt t n base r at → Placed t at ss → e ≤ at
         → Sized t w f base e (slot t w header (smaller t w header n) r at ss pos next) ss (at + 2 ^ row_bits t r)
-    unfolding unplaced direct counted last_end
+    unfolding counted last_end
     slot-sized {r} {at} {e} pos next C P k = go f fuel (way t g wd w header B C P pos next) P
       where
         end : ℕ
@@ -159,7 +158,7 @@ module _ (t : Table) (g : t.start_bits ≤ t.direct_bits) (wd : t.width_bits + t
 
     slots-sized : {at e : ℕ} {rs ss : List ℕ} (pos next : ℕ) → Ahead t n base at rs → Placed t at ss → e ≤ at
         → Sized t w f base e (slots t w header (smaller t w header n) rs at ss pos next) ss (base + row_offset t n)
-    unfolding slots nothing
+    unfolding slots
     slots-sized pos next (done q) P k =
         sized-none refl (before-none (base + row_offset t n) (omega arith) P) (omega arith)
     slots-sized pos next (slot_of S A) P k =

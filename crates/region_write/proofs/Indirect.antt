@@ -68,7 +68,7 @@ bare-totals w p s is bare =
     ]
 
 -- a plan whose root has rows: they reach the last of its blocks
-pub record Rooted (w : ℕ) (xs : List ℕ) (p : ManagedPlan) : Type 0 where
+pub record RootRowed (w : ℕ) (xs : List ℕ) (p : ManagedPlan) : Type 0 where
   pub state : State
   pub totals-are : p ≡ row_totals fixed w state p.root_rows
   pub few : p.root_rows ≤ 29
@@ -93,7 +93,7 @@ module _ (w x : ℕ) (xs : List ℕ) (p : ManagedPlan) (s : State) (ran : run fi
       reach (block_end s) (omega arith) (still-ok (ran-ok w) laid-all).heap
       (λ z. omega (arith, no_rows (block_end s) z))
 
-  rooted-some : Rooted w (x ∷ xs) p
+  rooted-some : RootRowed w (x ∷ xs) p
   rooted-some =
       let are : p ≡ totals fixed w s = is ∙ ap (totals fixed w) is-closed in
       let q = are
@@ -110,7 +110,8 @@ module _ (w x : ℕ) (xs : List ℕ) (p : ManagedPlan) (s : State) (ran : run fi
         opened = laid-opened laid-all ∙ zero-add _;
       }
 
-pub rooted : (xs : List ℕ) (o b w : ℕ) (p : ManagedPlan) → planned_for xs o b w ≡ Ok p → 0 < p.root_rows → Rooted w xs p
+pub rooted : (xs : List ℕ) (o b w : ℕ) (p : ManagedPlan) → planned_for xs o b w ≡ Ok p → 0 < p.root_rows
+    → RootRowed w xs p
 rooted [] o b w p e l = absurd (let z = one-block [] o b w p e (starts_none w) in omega arith)
 rooted (x ∷ xs) o b w p e l = let G = (accepted (x ∷ xs) o b w p e).1 in
     rooted-some w x xs p G.state G.ran G.totals-is l

@@ -6,8 +6,8 @@ use Rattle.std.proofs.lemmas.Bool.Decides.{nat_tests}
 use Rattle.table.specs.Table.{Table, row_bits, row_offset}
 use Rattle.table.specs.Slots.{slot_at}
 use Rattle.plan.specs.Plans.{sizes_at}
-use Rattle.region_indirects.specs.Walk.{Walked, WalkedFrom, begins_before, unplaced, direct, nothing, both, slot}
-use Rattle.region_indirects.specs.Walk.{slots, finished, smaller, all_slots, block}
+use Rattle.region_indirects.specs.Walk.{Walked, WalkedFrom, begins_before, unplaced, direct, nothing, slot}
+use Rattle.region_indirects.specs.Walk.{slots, smaller, all_slots, block}
 use Rattle.region_indirects.proofs.Walking.{slot-unplaced, slot-direct, slot-inner, smaller-block}
 use Rattle.region_write.proofs.Geometry.{SlotAt, Ahead, done, slot_of, slot-end, all-ahead, BlockAt, inner-span}
 use Rattle.region_write.proofs.Geometry.{own-slot, inner_block}
@@ -87,7 +87,7 @@ pub cut-placed : {t : Table} {o : Walked} {ss : List ℕ} {at next end : ℕ} �
 cut-placed {t} {end = end} C P = subst (Placed t end) (sym C.rest-is) (from-placed end P)
 
 cut-nothing : {t : Table} {at : ℕ} {ss : List ℕ} (next : ℕ) → Placed t at ss → Cut t (nothing ss next) ss next at
-unfolding nothing sizes_at
+unfolding sizes_at
 cut-nothing {t} {at} {ss} next P =
     grind (arith, before-none at (le_refl at) P, from_all at (le_refl at) P)
 
@@ -112,7 +112,7 @@ module _ (t : Table) (g : t.start_bits ≤ t.direct_bits) (wd : t.width_bits + t
   module _ {n base : ℕ} (blocks : (j : ℕ) → j < n → CutBlock j) (B : BlockAt t n base) where
     slot-cut-from : {r at : ℕ} {ss : List ℕ} (pos next : ℕ) → SlotAt t n base r at → Placed t at ss
         → Cut t (slot t w header (smaller t w header n) r at ss pos next) ss next (at + 2 ^ row_bits t r)
-    unfolding unplaced direct sizes_at
+    unfolding sizes_at
     slot-cut-from {r} {at} pos next C P = go (way t g wd w header B C P pos next) P
       where
         end : ℕ
@@ -133,7 +133,7 @@ module _ (t : Table) (g : t.start_bits ≤ t.direct_bits) (wd : t.width_bits + t
 
     slots-cut-from : {at : ℕ} {rs ss : List ℕ} → Ahead t n base at rs → (pos next : ℕ) → Placed t at ss
         → Cut t (slots t w header (smaller t w header n) rs at ss pos next) ss next (base + row_offset t n)
-    unfolding slots both
+    unfolding slots
     slots-cut-from {at} {ss = ss} (done q) pos next P = subst (Cut t (nothing ss next) ss next) q (cut-nothing next P)
     slots-cut-from {at} {ss = ss} (slot_of {r = r} S A) pos next P =
         let C = slot-cut-from pos next S P in
@@ -141,7 +141,7 @@ module _ (t : Table) (g : t.start_bits ≤ t.direct_bits) (wd : t.width_bits + t
         record { rest-is = O.rest-is; next-is = O.next-is }
 
   block-cut-from : (n : ℕ) → ((j : ℕ) → j < n → CutBlock j) → CutBlock n
-  unfolding block all_slots finished
+  unfolding block all_slots
   block-cut-from n blocks at ss pos next B P = let C = slots-cut-from blocks B (all-ahead t n at) pos next P in
       record { rest-is = C.rest-is; next-is = C.next-is }
 

@@ -59,7 +59,7 @@ abbrev pub DirectsFill : Type 0
 DirectsFill =
     (w header : ℕ) (xs js : List ℕ) (s : State) → w ≤ 255 → run fixed w xs ≡ Ok s
     → length (directs fixed w header (plan_offsets fixed w xs) xs js (plan_starts fixed w xs))
-    ≡ (if s.count == 0 then 1024 else s.allocated)
+    ≡ (if s.count == 0 then 2 ^ fixed.start_bits else s.allocated)
 
 -- the direct slot of z bytes at c that holds the offset of an object has the object's bytes as far
 -- from its start as the offset is; they are the part of the joined bytes that begins at the sum of

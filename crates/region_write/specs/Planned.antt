@@ -1,5 +1,5 @@
 -- What the theorems say of a plan's region.
-use Rattle.std.specs.Prelude.{ℕ, ◌+◌, ◌≡◌, List, [], ◌∷◌, length}
+use Rattle.std.specs.Prelude.{ℕ, ◌+◌, ◌^◌, ◌≡◌, List, [], ◌∷◌, length}
 use Rattle.table.specs.Table.{fixed}
 use Rattle.table.specs.Sizes.{indirect_size}
 use Rattle.plan.specs.declared.ManagedPlan.{ManagedPlan}
@@ -32,6 +32,6 @@ pub record IndirectPlanned (w : ℕ) (xs : List ℕ) (p : ManagedPlan) (header f
 -- the region of a root without rows is the one block
 pub record BareRegion (w : ℕ) (xs : List ℕ) (p : ManagedPlan) : Type 0 where
   pub blocks : plan_starts fixed w xs ≡ 0 ∷ []
-  pub region : p.region_size ≡ 1024
-  pub allocated : p.allocated_space ≡ 1024
+  pub region : p.region_size ≡ 2 ^ fixed.start_bits
+  pub allocated : p.allocated_space ≡ 2 ^ fixed.start_bits
   pub place : p.root_place ≡ 0

@@ -9,7 +9,7 @@ use Rattle.std.proofs.lemmas.List.{take_min, drop_min}
 use Rattle.plan.specs.declared.ManagedPlan.{ManagedPlan}
 
 module _ (file new : List ℕ) (a start k : ℕ) (s : start ≡ min a (length file)) (e : k ≡ length file - start) where
-  part_put : (bs : List ℕ) → new ≡ put (take k (drop start file)) 0 bs
+  pub part_put : (bs : List ℕ) → new ≡ put (take k (drop start file)) 0 bs
       → take start file ++ (new ++ drop k (drop start file)) ≡ put file a bs
   unfolding put
   part_put bs n =

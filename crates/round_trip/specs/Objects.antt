@@ -1,5 +1,5 @@
 -- Headers of heaps with the fixed geometry, and an object read by the ID that the writer gives it.
-use Rattle.std.specs.Prelude.{ℕ, ◌+◌, List, Result}
+use Rattle.std.specs.Prelude.{ℕ, ◌+◌, ◌^◌, List, Result}
 use Rattle.refusals.specs.Steps.{◌>>=◌}
 use Rattle.refusals.specs.declared.FormatError.{FormatError}
 use Rattle.table.specs.Table.{fixed}
@@ -17,14 +17,25 @@ abbrev pub fixed_header : ℕ → ℕ → FractalHeapHeader
 fixed_header root_address root_rows = record {
   heap_id_length = 4097;
   io_filter_encoded_length = 0;
+  flags = 253;
   max_managed_object_size = 7;
+  next_huge_object_id = 11111;
   btree_huge_objects_address = 0x123456789ABCDEF;
+  free_space_managed_blocks = 22222;
+  managed_block_free_space_manager_address = 0xFEDCBA9876543210;
+  managed_space_in_heap = 33333;
+  allocated_managed_space_in_heap = 44444;
+  direct_block_allocation_iterator_offset = 55555;
   managed_objects_count = 77777;
+  huge_objects_size = 88888;
+  huge_objects_count = 99999;
+  tiny_objects_size = 111111;
+  tiny_objects_count = 222222;
   table = record {
-    table_width = 4;
-    starting_block_size = 1024;
-    max_direct_block_size = 65536;
-    max_heap_size = 40;
+    table_width = 2 ^ fixed.width_bits;
+    starting_block_size = 2 ^ fixed.start_bits;
+    max_direct_block_size = 2 ^ fixed.direct_bits;
+    max_heap_size = fixed.heap_bits;
   };
   start_root_rows = 999;
   root_block_address = root_address;

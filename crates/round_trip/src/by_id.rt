@@ -6,13 +6,14 @@ ghost use Rattle.plan.specs.Answer.{planned_for, list_after};
 ghost use Rattle.round_trip.specs.Objects.{fixed_header, header_of, object_at};
 ghost use Rattle.round_trip.specs.Early.{early_id};
 
-use fields::place::Place;
-use fractal_heap::header::FractalHeapHeader;
+use fields::Place;
+use fractal_heap::FractalHeapHeader;
 use ids::write::write_managed_id;
 use plan::ManagedPlan;
-use reading::rows::DoublingTable;
+use reading::DoublingTable;
 use refusals::FormatError;
 use region_blocks::Site;
+use table::{MAX_DIRECT_BLOCK_SIZE, MAX_HEAP_SIZE_BITS, STARTING_BLOCK_SIZE, TABLE_WIDTH};
 
 /// The header of a heap with the fixed geometry, for tests and as an example: a reader heeds the root, its rows and the
 /// geometry, and not the other numbers.
@@ -22,14 +23,25 @@ pub fn fixed_header(root: u64, rows: u16) -> FractalHeapHeader
     FractalHeapHeader {
         heap_id_length: 4_097,
         io_filter_encoded_length: 0,
+        flags: 253,
         max_managed_object_size: 7,
+        next_huge_object_id: 11_111,
         btree_huge_objects_address: 0x0123_4567_89AB_CDEF,
+        free_space_managed_blocks: 22_222,
+        managed_block_free_space_manager_address: 0xFEDC_BA98_7654_3210,
+        managed_space_in_heap: 33_333,
+        allocated_managed_space_in_heap: 44_444,
+        direct_block_allocation_iterator_offset: 55_555,
         managed_objects_count: 77_777,
+        huge_objects_size: 88_888,
+        huge_objects_count: 99_999,
+        tiny_objects_size: 111_111,
+        tiny_objects_count: 222_222,
         table: DoublingTable {
-            table_width: 4,
-            starting_block_size: 1_024,
-            max_direct_block_size: 65_536,
-            max_heap_size: 40,
+            table_width: TABLE_WIDTH as u16,
+            starting_block_size: STARTING_BLOCK_SIZE,
+            max_direct_block_size: MAX_DIRECT_BLOCK_SIZE,
+            max_heap_size: MAX_HEAP_SIZE_BITS as u16,
         },
         start_root_rows: 999,
         root_block_address: root,
@@ -39,8 +51,8 @@ pub fn fixed_header(root: u64, rows: u16) -> FractalHeapHeader
 
 /// The header of the heap of a plan.
 pub fn header_of(site: Site, plan: ManagedPlan) -> FractalHeapHeader
-    requires root { site.region_address + plan.root_place < 2 ^ 64 }
-    requires rows { plan.root_rows < 2 ^ 16 }
+    requires root_fits { site.region_address + plan.root_place < 2 ^ 64 }
+    requires rows_fit { plan.root_rows < 2 ^ 16 }
     ensures { result ≡ header_of site plan }
 {
     fixed_header(site.region_address + plan.root_place, plan.root_rows as u16)
@@ -48,7 +60,7 @@ pub fn header_of(site: Site, plan: ManagedPlan) -> FractalHeapHeader
 
 /// The ID of the `i`-th object while there are these sizes and no more: from their plan alone, which goes into the
 /// lists. Refused as planning refuses, and by 16 where the object has no ID.
-#[tactic(auto, using(crate::proofs::ReadBack::id_written), unfolding(table::specs::Sizes::offset_bytes))]
+#[tactic(auto, unfolding(table::specs::Sizes::offset_bytes))]
 pub fn early_id(
     sizes: &[u64],
     i: usize,
@@ -73,7 +85,7 @@ pub fn early_id(
 }
 
 /// Writes the ID of the object of `size` bytes at the heap offset `offset`, and reads by it.
-#[tactic(auto, using(crate::proofs::ReadBack::id_written), unfolding(table::specs::Sizes::offset_bytes))]
+#[tactic(auto, unfolding(table::specs::Sizes::offset_bytes))]
 pub fn read_object(
     file: &[u8],
     header: &FractalHeapHeader,

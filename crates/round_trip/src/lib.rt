@@ -1,10 +1,11 @@
 //! The whole way of a list of objects: its region is written into a part of a file, every nonempty object gets its ID
 //! and is read by it. `passing` lets anything happen to the file between writing and reading, so that what is read
 //! has to come from the file. Where nothing happens to it, `round_trip` counts all objects, and `write_and_fetch`
-//! hands out one whose bytes are the object's.
+//! hands out one whose bytes are the object's. `from_bytes` writes the header into the file, too, and fetches by its place.
 #![tactic(auto)]
 
 pub mod by_id;
+pub mod from_bytes;
 pub mod objects;
 pub mod passing;
 pub mod region;
@@ -56,8 +57,8 @@ pub fn write_and_fetch(
     i: usize,
     found: &mut [u8],
 ) -> Result<usize, FormatError>
-    requires index { i < early }
-    requires front { early ≤ length sizes.now }
+    requires among_early { i < early }
+    requires early_in_list { early ≤ length sizes.now }
     requires not_empty { 0 < slice_index sizes.now i }
     requires room { slice_index sizes.now i ≤ length found.old }
     ensures answer { result ≡ came_back

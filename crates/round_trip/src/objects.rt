@@ -4,7 +4,7 @@ ghost use Rattle.std.specs.Prelude.{◌≡◌};
 ghost use Rattle.round_trip.specs.Backs.{comes_back, returned_count};
 
 use crate::by_id::read_object;
-use fractal_heap::header::FractalHeapHeader;
+use fractal_heap::FractalHeapHeader;
 
 // Whether an object that is not empty is found by its ID, with these bytes.
 fn comes_back(

@@ -72,8 +72,8 @@ pub fn fetch_after<P: Passing>(
     i: usize,
     found: &mut [u8],
 ) -> Result<usize, FormatError>
-    requires index { i < early }
-    requires front { early ≤ length sizes.now }
+    requires among_early { i < early }
+    requires early_in_list { early ≤ length sizes.now }
     requires not_empty { 0 < slice_index sizes.now i }
 
     ensures answer { result

@@ -7,7 +7,7 @@ ghost use Rattle.std.specs.Prelude.{◌<◌, ◌≤◌};
 
 use plan::ManagedPlan;
 use plan::report::put_planned;
-use run_report::worked::{Listed, NO_WIDTH, WORKED};
+use run_report::worked::{FIRST_BLOCK, HEADER_BYTES, LARGEST_BLOCK, Listed, NO_WIDTH, WORKED};
 use run_report::{Answered, Heading, List, Lists, following};
 use std::io;
 
@@ -83,10 +83,10 @@ impl<'a> Case<'a> {
     }
 }
 
-// Too few places for offsets, for blocks, or for both; then places enough, and a size that is too large. Without objects
-// one block is needed.
+// Too few places for offsets, for blocks, or for both; then places enough, and a size that is too large. Without
+// objects one block is needed.
 fn short_lists(rt: &impl Print) -> io::Result<()> {
-    let sizes = [10, 65_536, 30];
+    let sizes = [10, LARGEST_BLOCK, 30];
     let cases = [
         Case::new("short offsets", &sizes, 8).with_places(2, 3),
         Case::new("no places", &sizes, 2).with_places(0, 3),
@@ -105,17 +105,17 @@ fn short_lists(rt: &impl Print) -> io::Result<()> {
 
 // A block of 1,024, .., 65,536 bytes.
 fn block(k: u64) -> u64
-    ensures least_block { 1024 ≤ result }
-    ensures largest_block { result ≤ 65536 }
+    ensures least_block { FIRST_BLOCK ≤ result }
+    ensures largest_block { result ≤ LARGEST_BLOCK }
 {
     match k {
-        0 => 1_024,
+        0 => FIRST_BLOCK,
         1 => 2_048,
         2 => 4_096,
         3 => 8_192,
         4 => 16_384,
         5 => 32_768,
-        _ => 65_536,
+        _ => LARGEST_BLOCK,
     }
 }
 
@@ -123,9 +123,9 @@ fn block(k: u64) -> u64
 fn edge(k: u64, d: u64, width: u8) -> u64
     requires { d < 5 }
 {
-    let header = 14 + u64::from(width);
+    let header = HEADER_BYTES + u64::from(width);
     let size = block(k) + d - 2 - header;
-    size.min(65_536 - header)
+    size.min(LARGEST_BLOCK - header)
 }
 
 // The kinds of pseudo-random sizes.
@@ -166,7 +166,7 @@ fn long(rt: &impl Print, width: u8) -> io::Result<()> {
     random(rt, "256 small", &mut many, Kind::Small, width)?;
     random(rt, "256 mixed", &mut many, Kind::Mixed, width)?;
     random(rt, "256 edges", &mut many, Kind::Edges, width)?;
-    let largest = [65_522 - u64::from(width); 250];
+    let largest = [LARGEST_BLOCK - HEADER_BYTES - u64::from(width); 250];
     Case::new("250 largest", &largest, width).run(rt)
 }
 

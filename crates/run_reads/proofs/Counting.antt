@@ -21,7 +21,7 @@ drop-behind (suc n) b bs some = let e : suc n - 1 ≡ n = omega arith in rw e
 
 -- a case, and those behind it
 cases_more : (s : List ℕ) → begins_case s ≡ true → cases_of s ≡ s ∷ cases_of (drop (case_size s) s)
-unfolding cases_behind begins_case
+unfolding cases_behind
 cases_more [] begins = absurd cc
 cases_more (b ∷ bs) begins =
     let rest : cases_behind (case_size (b ∷ bs) - 1) bs ≡ cases_of (drop (case_size (b ∷ bs)) (b ∷ bs)) =

@@ -1,3 +1,4 @@
+pub mod Head
 pub mod Cases
 pub mod Recorded
 pub mod Answered

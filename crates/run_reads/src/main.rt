@@ -6,7 +6,7 @@
 // A case, all numbers little-endian: kind (1 byte: 0 parse, 1 decode, 2 read, 3 tiny, 4 ID type), offset
 // size (1), length size (1), offset size of the read (1), heap ID length (2), bytes of the file (4), bytes
 // of the ID (4), the header's place (8), the refusal's number (4), n (1); then n words of 8 bytes, the
-// file, the ID. An accepted parse has twelve words, the header's fields; any other answer has two values.
+// file, the ID. An accepted parse has 23 words, the header's fields by the format; any other answer has two values.
 #![tactic(auto)]
 
 mod one_case;
@@ -16,20 +16,20 @@ ghost use Rattle.std.specs.List.{sum_by, count_by};
 ghost use Rattle.run_reads.specs.Cases.{case_size, cases_of};
 ghost use Rattle.run_reads.specs.Answered.{is_of, differs, asks, answers_otherwise};
 
-use crate::one_case::Case;
+use crate::one_case::{Case, DECODE, ID_TYPE, PARSE, READ, TINY};
 use std::fmt;
 use std::io::{self, Read};
 
 // A list of this many bytes is too long.
 const MOST: u64 = 1_048_576;
 
-// The kinds of cases: byte 0 of a case, and the kind's name.
+// The kinds of cases, with their names.
 const KINDS: [(u8, &str); 5] = [
-    (0, "parse"),
-    (1, "decode"),
-    (2, "read"),
-    (3, "tiny"),
-    (4, "id type"),
+    (PARSE, "parse"),
+    (DECODE, "decode"),
+    (READ, "read"),
+    (TINY, "tiny"),
+    (ID_TYPE, "id type"),
 ];
 
 // The cases of a kind, and those among them that are answered otherwise than recorded.

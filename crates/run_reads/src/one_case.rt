@@ -1,5 +1,6 @@
 //! One case of the list: what is asked, and whether the answer is the recorded one.
-ghost use Rattle.std.specs.Prelude.{◌≡◌, ◌+◌, ◌*◌, ◌≤◌, length, drop, is_some, IfSome};
+ghost use Rattle.std.specs.Prelude.{◌≡◌, ◌≤◌, length, drop, is_some, IfSome};
+ghost use Rattle.run_reads.specs.Head.{words_place, word_place};
 ghost use Rattle.run_reads.specs.Recorded.{has_words, is_recorded, is_answer, is_parsed};
 
 use fields::convert::to_usize;
@@ -8,14 +9,56 @@ use fractal_heap::{FractalHeapHeader, ManagedId, Place};
 use ids::tiny::read_tiny_object;
 use refusals::{Answer, FormatError, Reported};
 
-// Whether these words stand in a head, one after another behind its 27 bytes.
-#[tactic(auto, using(crate::proofs::Words::words_next, crate::proofs::Words::words_other))]
+// Where the parts of a head stand.
+const KIND: usize = 0;
+
+const OFFSET_SIZE: usize = 1;
+
+const LENGTH_SIZE: usize = 2;
+
+const READ_SIZE: usize = 3;
+
+const ID_LENGTH: usize = 4;
+
+const FILE_BYTES: usize = 6;
+
+const ID_BYTES: usize = 10;
+
+const HEADER_PLACE: usize = 14;
+
+const NUMBER: usize = 22;
+
+const WORD_COUNT: usize = 26;
+
+const WORDS: usize = 27;
+
+// Bytes of a word.
+const WORD_SIZE: usize = 8;
+
+// How many words are recorded of an answer, and of a header.
+const ANSWER_WORDS: u8 = 2;
+
+const HEADER_WORDS: u8 = 23;
+
+/// The kinds of cases, of which the last is that of an ID's type.
+pub const PARSE: u8 = 0;
+
+pub const DECODE: u8 = 1;
+
+pub const READ: u8 = 2;
+
+pub const TINY: u8 = 3;
+
+pub const ID_TYPE: u8 = 4;
+
+// Whether these words stand in a head, one after another.
+#[tactic(auto, using(crate::proofs::Words::comparing))]
 fn has_words(head: &[u8], words: &[u64]) -> bool
-    requires { length head.now ≡ 27 + 8 * length words.now }
-    ensures { result ≡ has_words head.now 27 words.now }
+    requires { length head.now ≡ word_place (length words.now) }
+    ensures { result ≡ has_words head.now WORDS words.now }
 {
     for i in 0..words.len() {
-        if words[i] != read_u64_le(head, 27 + 8 * i) {
+        if words[i] != read_u64_le(head, WORDS + WORD_SIZE * i) {
             return false;
         }
     }
@@ -26,10 +69,10 @@ fn has_words(head: &[u8], words: &[u64]) -> bool
 fn is_recorded(head: &[u8], number: u32, words: &[u64]) -> bool
     ensures { result ≡ is_recorded head.now number words.now }
 {
-    if head.len() != 27 + 8 * words.len() {
+    if head.len() != WORDS + WORD_SIZE * words.len() {
         return false;
     }
-    if number != read_u32_le(head, 22) {
+    if number != read_u32_le(head, NUMBER) {
         return false;
     }
     has_words(head, words)
@@ -41,7 +84,7 @@ pub struct Case<'a> {
     pub head: &'a [u8],
     pub file: &'a [u8],
     pub id: &'a [u8],
-    ghost long: { 27 ≤ length head.now },
+    ghost long: { words_place ≤ length head.now },
 }
 
 impl<'a> Case<'a> {
@@ -49,26 +92,25 @@ impl<'a> Case<'a> {
     ghost use Rattle.run_reads.specs.Answered.{header_of, id_of, object_of, answered_as_recorded};
 
     /// The case that a list begins with, and the list behind it; none where no whole case does.
-    #[tactic(auto, unfolding(crate::specs::Cases::begins_case))]
     pub fn first(list: &'a [u8]) -> Option<(Case<'a>, &'a [u8])>
         ensures found { is_some result ≡ begins_case list.now }
         ensures parts { IfSome result (λ found. IsCase found.0 list.now) }
         ensures behind { IfSome result (λ found. found.1.now ≡ drop (case_size list.now) list.now) }
         ensures in_list { IfSome result (λ found. case_size list.now ≤ length list.now) }
     {
-        if list.len() < 27 {
+        if list.len() < WORDS {
             return None;
         }
-        let n = list[26];
-        if list[0] > 4 {
+        let n = list[WORD_COUNT];
+        if list[KIND] > ID_TYPE {
             return None;
         }
-        if n != 2 && n != 12 {
+        if n != ANSWER_WORDS && n != HEADER_WORDS {
             return None;
         }
-        let head_bytes = 27 + 8 * usize::from(n);
-        let file_bytes = read_u32_le(list, 6) as usize;
-        let id_bytes = read_u32_le(list, 10) as usize;
+        let head_bytes = WORDS + WORD_SIZE * usize::from(n);
+        let file_bytes = read_u32_le(list, FILE_BYTES) as usize;
+        let id_bytes = read_u32_le(list, ID_BYTES) as usize;
         let size = head_bytes + file_bytes + id_bytes;
         if size <= list.len() {
             let (head, behind) = list.split_at(head_bytes);
@@ -86,7 +128,8 @@ impl<'a> Case<'a> {
         ensures { result ≡ header_of self.now.head.now self.now.file.now }
     {
         let head = self.head;
-        FractalHeapHeader::parse(self.file, to_usize(read_u64_le(head, 14)), head[1], head[2])
+        let place = to_usize(read_u64_le(head, HEADER_PLACE));
+        FractalHeapHeader::parse(self.file, place, head[OFFSET_SIZE], head[LENGTH_SIZE])
     }
 
     fn managed_id(&self) -> Result<ManagedId, FormatError>
@@ -99,7 +142,7 @@ impl<'a> Case<'a> {
         ensures { result ≡ object_of self.now.head.now self.now.file.now self.now.id.now }
     {
         self.header()?
-            .read_managed_object(self.file, self.id, self.head[3])
+            .read_managed_object(self.file, self.id, self.head[READ_SIZE])
     }
 
     // Whether this answer is the recorded one.
@@ -125,11 +168,14 @@ impl<'a> Case<'a> {
         ensures { result
             ≡ answered_as_recorded self.now.head.now self.now.file.now self.now.id.now }
     {
-        match self.head[0] {
-            0 => self.records_header(self.header()),
-            1 => self.records(self.managed_id().answer()),
-            2 => self.records(self.managed_object().answer()),
-            3 => self.records(read_tiny_object(read_u16_le(self.head, 4), self.id).answer()),
+        match self.head[KIND] {
+            PARSE => self.records_header(self.header()),
+            DECODE => self.records(self.managed_id().answer()),
+            READ => self.records(self.managed_object().answer()),
+            TINY => self.records(read_tiny_object(
+                read_u16_le(self.head, ID_LENGTH),
+                self.id,
+            ).answer()),
             _ => self.records(FractalHeapHeader::heap_id_type(self.id).answer()),
         }
     }

@@ -1,5 +1,6 @@
 //! What the programs print, as values that write themselves: bytes, lists and answers; and what several of them work
-//! on, lists of sizes and pseudo-random bytes. It serves the programs alone: what is printed is held to a recorded file.
+//! on, lists of sizes and pseudo-random bytes. It serves the programs alone: what is printed is held to a recorded
+//! file.
 #![tactic(auto)]
 
 pub mod worked;
@@ -114,13 +115,19 @@ impl<'a> fmt::Display for Answered<'a> {
     }
 }
 
-// The numbers of a list in their order, as one: s' = (31 s + number) mod 1,000,000,007.
+// A prime, below which the sums of lists stay.
+const MODULUS: u64 = 1_000_000_007;
+
+// What a sum is multiplied by before the next number of its list is added.
+const STEP: u64 = 31;
+
+// The numbers of a list in their order, as one: sum' = (STEP sum + number) mod MODULUS.
 fn sum_in_order(numbers: &[u64]) -> u64 {
-    let mut s: u64 = 0;
+    let mut sum: u64 = 0;
     for number in numbers {
-        s = (s * 31 + *number % 1_000_000_007) % 1_000_000_007;
+        sum = (sum * STEP + *number % MODULUS) % MODULUS;
     }
-    s
+    sum
 }
 
 /// How many bytes objects of these sizes have together, modulo 2^32.
@@ -134,12 +141,16 @@ pub fn joined(sizes: &[u64]) -> usize
     total as usize
 }
 
+/// The multiplier and the increment of the pseudo-random sequence.
+const MULTIPLIER: u32 = 1_103_515_245;
+
+const INCREMENT: u32 = 12_345;
+
 /// The number after `x` in the pseudo-random sequence.
-#[tactic(auto, unfolding(crate::specs::Sequence::next))]
 pub fn following(x: u32) -> u32
     ensures { result ≡ next x }
 {
-    x.wrapping_mul(1_103_515_245).wrapping_add(12_345)
+    x.wrapping_mul(MULTIPLIER).wrapping_add(INCREMENT)
 }
 
 /// Pseudo-random bytes: bits 16 to 23 of each number of the sequence, from 1 on.

@@ -1,19 +1,21 @@
 //! Goes the whole way of a heap: plans a list of sizes, writes the region into a file, and reads every object back by
-//! its written ID (`round_trip`), once more one by one (`write_and_fetch`, whose contract says that the bytes fetched are the
-//! object's). The file's other bytes are marks, or what an earlier list left there. It prints for each list what is given;
-//! the number of objects, how many nonempty ones come back with all their bytes, the lookup3 of the joined IDs and of the
-//! file; and for each empty object what reading answers. The file stdout beside src/ holds what the original answers.
+//! its written ID (`round_trip`), once more one by one (`write_and_fetch`, whose contract says that the bytes fetched
+//! are the object's). The file's other bytes are marks, or what an earlier list left there. It prints for each list
+//! what is given; the number of objects, how many nonempty ones come back with all their bytes, the lookup3 of the
+//! joined IDs and of the file; and for each empty object what reading answers. The file stdout beside src/ holds what
+//! the original answers.
 #![tactic(auto)]
 
 use Size::{Bytes, FullBlock, Largest};
 use checksum::jenkins_lookup3;
-use fractal_heap::header::FractalHeapHeader;
+use fractal_heap::FractalHeapHeader;
 use ids::write::write_managed_id;
 use plan::ManagedPlan;
 use refusals::{FormatError, Reported};
 use region_blocks::Site;
 use round_trip::by_id::{fixed_header, read_object};
 use round_trip::{round_trip, write_and_fetch};
+use run_report::worked::{FIRST_BLOCK, HEADER_BYTES, LARGEST_BLOCK};
 use run_report::{Answered, Heading, fill, following, joined};
 use std::alloc::{AllocError, Global};
 use std::{fmt, io};
@@ -27,7 +29,7 @@ const FILE: usize = 360_000;
 const OBJECTS: usize = 327_600;
 
 // Room for the largest object of a list.
-const LARGEST: usize = 65_536;
+const LARGEST: usize = LARGEST_BLOCK as usize;
 
 // Where the region begins in the file, and where the heap's header is said to be.
 const REGION: u64 = 4_321;
@@ -41,18 +43,17 @@ const WIDTHS: [u8; 3] = [8, 4, 2];
 #[derive(Clone, Copy)]
 enum Size {
     Bytes(u64),
-    FullBlock, // what a block of 1,024 bytes holds
-    Largest, // what a block of 65,536 bytes, the largest, holds
+    FullBlock, // what a first block holds
+    Largest, // what the largest block holds
 }
 
 impl Size {
     fn bytes(self, width: u8) -> u64 {
-        // a block begins with 14 bytes and an address
-        let header = 14 + u64::from(width);
+        let header = HEADER_BYTES + u64::from(width);
         match self {
             Bytes(bytes) => bytes,
-            FullBlock => 1_024 - header,
-            Largest => 65_536 - header,
+            FullBlock => FIRST_BLOCK - header,
+            Largest => LARGEST_BLOCK - header,
         }
     }
 }

@@ -39,15 +39,13 @@ module _ (t : Table) (h : ℕ) where
   row_capacity n = block_capacity t h n (capacities t h n)
 
   pub capacity-suc : (n : ℕ) → capacity t h (suc n) ≡ capacity t h n + 2 ^ t.width_bits * row_capacity n
-  unfolding capacity capacities sum
+  unfolding capacities sum
   capacity-suc n = grind (arith, sum-append (capacities t h n) (row_capacity n ∷ []))
 
   pub capacity-direct : (n : ℕ) → row_bits t n ≤ t.direct_bits → row_capacity n ≡ 2 ^ row_bits t n - h
-  unfolding block_capacity
   capacity-direct n l = grind (arith, nat_tests)
 
   pub capacity-indirect : (n : ℕ) → t.direct_bits < row_bits t n → row_capacity n ≡ capacity t h (n - t.width_bits)
-  unfolding block_capacity capacity
   capacity-indirect n l = grind (arith, nat_tests, take-capacities (n - t.width_bits) n)
 
   module _ (g : t.start_bits ≤ t.direct_bits) (w : t.width_bits + t.start_bits ≤ suc t.direct_bits) where
@@ -60,7 +58,7 @@ module _ (t : Table) (h : ℕ) where
         ]
 
     below-le : (n m : ℕ) → m ≤ n → capacity t h m ≤ row_offset t m
-    below-le zero m l = rw (let e : m ≡ 0 = omega arith in e) (unfold capacity capacities sum in omega arith)
+    below-le zero m l = rw (let e : m ≡ 0 = omega arith in e) (unfold capacities sum in omega arith)
     below-le (suc n) m l =
         elim (cases_lt n m) [
           | inl d ↦
@@ -83,7 +81,7 @@ capacity-small h n l =
     le_trans (capacity-le fixed h (omega arith) (omega arith) n) m
 
 sum-small : (h n : ℕ) → n ≤ 29 → 4 * sum (capacities fixed h n) ≤ 2 ^ 40
-sum-small h n l = unfold capacity in capacity-small h n l
+sum-small h n l = capacity-small h n l
 
 pub header-small : (w : ℕ) → w ≤ 255 → direct_header fixed w ≤ 1024
 unfolding direct_header offset_bytes
@@ -102,7 +100,7 @@ pub record Filling (h : ℕ) (l : List ℕ) (below r : ℕ) : Type 0 where
   pub sums : below ≡ sum (take (r - 2) l)
 
 two-rows : (h : ℕ) → (1024 - h) ∷ (1024 - h) ∷ [] ≡ capacities fixed h 2
-unfolding capacities block_capacity row_bits
+unfolding capacities row_bits
 two-rows h = refl
 
 pub filling-start : (h : ℕ) → Filling h (replicate 29 (1024 - h)) 0 2
@@ -121,7 +119,6 @@ module _ {h : ℕ} {l : List ℕ} {below r : ℕ} (I : Filling h l below r) wher
   module _ (u : r < 29) (v : ℕ)
       (p : v ≡ (if nat_le (row_bits fixed r) 16 then 2 ^ row_bits fixed r - h else 4 * below)) where
     value-is : v ≡ block_capacity fixed h r (capacities fixed h r)
-    unfolding block_capacity
     value-is = grind (arith, nat_tests, p, I.sums, ap sum front-part)
 
     front-is : take (r + 1) (set l r v) ≡ capacities fixed h (r + 1)

@@ -42,7 +42,6 @@ start-le x = omega (arith, shr_split x (row_bits fixed (row_of fixed x)))
 -- the row's start and the column's give the slot
 module _ (x : ℕ) {at : RowCol} (e : at ≡ place_of fixed x) where
   pub placed_row : x < 2 ^ 40 → at.row ≤ 29
-  unfolding place_of
   placed_row h = omega (arith, ap (λ (y : RowCol). y.row) e, row-29 x h)
 
   module _ {size : ℕ} (s : size ≡ 2 ^ row_bits fixed at.row) where
@@ -56,25 +55,21 @@ module _ (x : ℕ) {at : RowCol} (e : at ≡ place_of fixed x) where
     module _ {start : ℕ} (f : start ≡ row_offset fixed at.row) where
       pub placed_slot : ◌≡◌ {A = TableSlot} (record { row = at.row; start = start + at.col * size; size = size })
           (table_slot fixed x)
-      unfolding place_of table_slot
       placed_slot =
           let b = row_bits fixed (row_of fixed x) in
           let begins = slot-start-is fixed x in
           rw s (rw f (rw e (ap (λ (y : ℕ). record { row = row_of fixed x; start = y; size = 2 ^ b }) begins)))
 
       pub placed_below : start + at.col * size ≤ x
-      unfolding table_slot
       placed_below = omega (arith, ap (λ (y : TableSlot). y.start) placed_slot, start-le x)
 
 -- what the test of the slot's row tells
 pub direct-slot : (x : ℕ) {at : TableSlot} → at ≡ table_slot fixed x → true ≡ nat_le (row_bits fixed at.row) 16
     → row_bits fixed (row_of fixed x) ≤ 16
-unfolding table_slot
 direct-slot x e l = leb-true _ _ (rw e at (sym l))
 
 pub deep-slot : (x : ℕ) {at : TableSlot} → at ≡ table_slot fixed x → false ≡ nat_le (row_bits fixed at.row) 16
     → 16 < row_bits fixed (row_of fixed x)
-unfolding table_slot
 deep-slot x e l = leb-false _ _ (rw e at (sym l))
 
 -- below an indirect slot the rest of the offset is smaller than the slot, and so than what holds f bits
@@ -104,7 +99,6 @@ module _ (x : ℕ) (h : x < 2 ^ 40) (l : 16 < row_bits fixed (row_of fixed x)) w
 
 pub deep_start : (x : ℕ) {at : TableSlot} → at ≡ table_slot fixed x → x < 2 ^ 40
     → false ≡ nat_le (row_bits fixed at.row) 16 → 0 < at.start
-unfolding table_slot
 deep_start x e h l =
     rw e (omega (arith, start-ge x h (deep-slot x e l), pow_pos (row_bits fixed (row_of fixed x))))
 

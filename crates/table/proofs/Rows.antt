@@ -195,7 +195,6 @@ row_most x h = let l = row_lt fixed x 30 (unfold row_offset in omega arith) in o
 pub place_is : (x : ℕ) {r start size : ℕ}
     → r ≡ row_of fixed x → start ≡ row_offset fixed r → size ≡ 2 ^ row_bits fixed r
     → ◌≡◌ {A = RowCol} (record { row = r; col = (x - start) / size }) (place_of fixed x)
-unfolding place_of
 place_is x e f g = cc
 
 -- eight rows are direct

@@ -6,17 +6,18 @@ use Rattle.table.specs.Table.{Table, row_bits}
 
 -- a block of a row: a direct one holds what its header of so many bytes leaves, an indirect one what its own rows
 -- hold, whose capacities stand in front in the list below
-unfoldable pub block_capacity : (t : Table) (header row : ℕ) (below : List ℕ) → ℕ
-block_capacity t h r l =
-    if nat_le (row_bits t r) t.direct_bits
-    then 2 ^ row_bits t r - h
-    else 2 ^ t.width_bits * sum (take (r - t.width_bits) l)
+abbrev pub block_capacity : (table : Table) (header row : ℕ) (below : List ℕ) → ℕ
+block_capacity table header row below =
+    if nat_le (row_bits table row) table.direct_bits
+    then 2 ^ row_bits table row - header
+    else 2 ^ table.width_bits * sum (take (row - table.width_bits) below)
 
--- the capacities of a block of each of the rows before n
-unfoldable pub capacities : (t : Table) (header n : ℕ) → List ℕ
-capacities t h zero = []
-capacities t h (suc n) = capacities t h n ++ (block_capacity t h n (capacities t h n) ∷ [])
+-- the capacities of a block of each of so many rows
+unfoldable pub capacities : (table : Table) (header rows : ℕ) → List ℕ
+capacities table header zero = []
+capacities table header (suc rows) =
+    capacities table header rows ++ (block_capacity table header rows (capacities table header rows) ∷ [])
 
--- the rows before n together
-unfoldable pub capacity : (t : Table) (header n : ℕ) → ℕ
-capacity t h n = 2 ^ t.width_bits * sum (capacities t h n)
+-- so many rows together
+abbrev pub capacity : (table : Table) (header rows : ℕ) → ℕ
+capacity table header rows = 2 ^ table.width_bits * sum (capacities table header rows)

@@ -15,44 +15,54 @@ pub record Table : Type 0 where
 abbrev pub fixed : Table
 fixed = record { width_bits = 2; start_bits = 10; direct_bits = 16; heap_bits = 40 }
 
--- a block of row r has 2 ^ row_bits r bytes: rows 0 and 1 the starting size, each later row twice the one before
-unfoldable pub row_bits : (t : Table) (row : ℕ) → ℕ
-row_bits t r = t.start_bits + (r - 1)
+-- in bytes: a block of the first rows, and the heap space, below whose end all heap offsets lie
+abbrev pub starting_size : Table → ℕ
+starting_size table = 2 ^ table.start_bits
 
--- where row r begins, which is also what the rows before it span
-unfoldable pub row_offset : (t : Table) (row : ℕ) → ℕ
-row_offset t zero = 0
-row_offset t (suc r) = 2 ^ (t.start_bits + t.width_bits + r)
+abbrev pub heap_space : Table → ℕ
+heap_space table = 2 ^ table.heap_bits
 
--- the last of the rows 0 to n that begins at or before x
-unfoldable pub row_in : (t : Table) (n offset : ℕ) → ℕ
-row_in t zero x = 0
-row_in t (suc n) x = if nat_le (row_offset t (suc n)) x then suc n else row_in t n x
+-- a block of a row has 2 ^ row_bits bytes: rows 0 and 1 the starting size, each later row twice the one before
+unfoldable pub row_bits : (table : Table) (row : ℕ) → ℕ
+row_bits table row = table.start_bits + (row - 1)
+
+-- where a row begins, which is also what the rows before it span
+unfoldable pub row_offset : (table : Table) (row : ℕ) → ℕ
+row_offset table zero = 0
+row_offset table (suc before) = 2 ^ (table.start_bits + table.width_bits + before)
+
+-- the last of the rows from 0 to this one that begins at or before the offset
+unfoldable pub row_in : (table : Table) (row offset : ℕ) → ℕ
+row_in table zero offset = 0
+row_in table (suc before) offset =
+    if nat_le (row_offset table (suc before)) offset then suc before else row_in table before offset
 
 -- the row of an offset below the heap's size
-unfoldable pub row_of : (t : Table) (offset : ℕ) → ℕ
-row_of t x = row_in t t.heap_bits x
+unfoldable pub row_of : (table : Table) (offset : ℕ) → ℕ
+row_of table offset = row_in table table.heap_bits offset
 
 -- row and column of an offset
-unfoldable pub place_of : (t : Table) (offset : ℕ) → RowCol
-place_of t x = record { row = row_of t x; col = (x - row_offset t (row_of t x)) / 2 ^ row_bits t (row_of t x) }
+abbrev pub place_of : (table : Table) (offset : ℕ) → RowCol
+place_of table offset =
+    let row = row_of table offset in
+    record { row = row; col = (offset - row_offset table row) / 2 ^ row_bits table row }
 
 -- the most rows that a root has: as many as the heap space holds ('Fractal Heap Header': Starting # of Rows in Root
 -- Indirect Block, its value 0). The format does not give their number; it is our rule (docs/RULES.md)
-unfoldable pub max_rows : Table → ℕ
-max_rows t = t.heap_bits - (t.start_bits + t.width_bits) + 1
+abbrev pub max_rows : Table → ℕ
+max_rows table = table.heap_bits - (table.start_bits + table.width_bits) + 1
 
--- of so many row counts from n on the first whose rows span at least so many bytes
-unfoldable pub covering_in : (t : Table) (counts n span : ℕ) → Option ℕ
-covering_in t zero n span = None
-covering_in t (suc counts) n span =
-    if nat_le span (row_offset t n) then Some n else covering_in t counts (suc n) span
+-- of so many row counts from this one on the first whose rows span at least so many bytes
+unfoldable pub covering_in : (table : Table) (counts rows span : ℕ) → Option ℕ
+covering_in table zero rows span = None
+covering_in table (suc counts) rows span =
+    if nat_le span (row_offset table rows) then Some rows else covering_in table counts (suc rows) span
 
 -- the fewest rows of a root that span at least so many bytes, if the table has as many
-unfoldable pub covering : (t : Table) (span : ℕ) → Option ℕ
-covering t span = covering_in t (max_rows t) 1 span
+unfoldable pub covering : (table : Table) (span : ℕ) → Option ℕ
+covering table span = covering_in table (max_rows table) 1 span
 
 -- rows 0 and 1 alike, row 7 the last direct one, 29 rows at most
 rows-fixed : (row_bits fixed 0 ≡ 10) × (row_bits fixed 1 ≡ 10) × (row_bits fixed 7 ≡ 16) × (max_rows fixed ≡ 29)
-unfolding row_bits max_rows
+unfolding row_bits
 rows-fixed = (refl, refl, refl, refl)

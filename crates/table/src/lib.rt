@@ -12,7 +12,10 @@ ghost use Rattle.std.specs.Prelude.{◌≡◌, ◌^◌, ◌<◌, ◌≤◌, nat_
 ghost use Rattle.table.specs.Table.{fixed, row_bits, row_offset, row_of, place_of};
 
 /// Slots of a row (`H5O_FHEAP_MAN_WIDTH`). This and the next three numbers are those of every heap that HDF5 writes for
-/// links and attributes; all others here follow from them.
+/// attributes; two of those for links differ. All others here follow from them.
+//
+// The original's `START_ROOT_ROWS` is not here: it is the header's Starting # of Rows in Root Indirect Block, which no
+// reader goes by, and no function of ours writes a header.
 pub const TABLE_WIDTH: u64 = 4;
 
 /// Bytes of a block of the first two rows (`H5O_FHEAP_MAN_START_BLOCK_SIZE`).

@@ -15,7 +15,7 @@ use Rattle.table_laws.specs.Count.{InBody}
 
 -- the rows of the largest root span the heap
 pub heap-span : (t : Table) → t.start_bits + t.width_bits ≤ t.heap_bits → row_offset t (max_rows t) ≡ 2 ^ t.heap_bits
-unfolding row_offset max_rows
+unfolding row_offset
 heap-span t k =
     let a = t.start_bits + t.width_bits in
     ap (row_offset t) (let e : t.heap_bits - a + 1 ≡ suc (t.heap_bits - a) = omega arith in e)
@@ -232,7 +232,7 @@ module _ (t : Table) (g : t.start_bits ≤ t.direct_bits) (w : t.width_bits + t.
 -- ---- the fixed table, whose largest root has 29 rows
 
 pub fixed-slot : {s z : ℕ} → Direct fixed 29 s z → SlotOf fixed s z
-fixed-slot D = direct-start fixed (omega arith) (omega arith) (omega arith) (unfold max_rows in D)
+fixed-slot D = direct-start fixed (omega arith) (omega arith) (omega arith) D
 
 pub slot-fixed : {s z : ℕ} → SlotOf fixed s z → Direct fixed 29 s z
-slot-fixed S = unfold max_rows in start-direct fixed (omega arith) (omega arith) (omega arith) S
+slot-fixed S = start-direct fixed (omega arith) (omega arith) (omega arith) S

@@ -1,22 +1,16 @@
 //! Headers.
-ghost use Rattle.std.specs.Prelude.{◌≡◌, ◌++◌, ◌≤◌, length, drop};
+ghost use Rattle.std.specs.Prelude.{◌≡◌};
 ghost use Rattle.fractal_heap.specs.Header.{header_at};
-ghost use Rattle.tools_c.specs.HeaderTools.{header_number, header_list};
+ghost use Rattle.fractal_heap.specs.Listed.{header_number};
+ghost use Rattle.tools_c.specs.HeaderTools.{header_list};
 
 use fields::convert::to_usize;
-use fractal_heap::FractalHeapHeader;
+use fractal_heap::{FIELD_COUNT, FractalHeapHeader};
 use refusals::{Reported, SLICE_TOO_SHORT};
 
-// Puts the numbers at the front of a list.
-fn put_front(list: &mut [u64], numbers: &[u64])
-    requires { length numbers.now ≤ length list.old }
-    ensures { list.new ≡ numbers.now ++ drop (length numbers.now) list.old }
-{
-    list[..numbers.len()].copy_from_slice(numbers);
-}
-
-/// The header's twelve fields, or the refusal's pair, in the first places of a list of at least twelve; a shorter
+/// The header's fields in header order, or the refusal's pair, in the first places of a list of at least 23; a shorter
 /// one gives 13 and is left as it is.
+#[tactic(auto, unfolding(fields::specs::LittleEndian::put))]
 #[unsafe(no_mangle)]
 pub extern "C" fn tools_parse_header(
     file: &[u8],
@@ -30,17 +24,17 @@ pub extern "C" fn tools_parse_header(
     ensures fields_after { fields.new
         ≡ header_list fields.old (header_at file.now at offset_size length_size) }
 {
-    if fields.len() < 12 {
+    if fields.len() < FIELD_COUNT {
         return SLICE_TOO_SHORT;
     }
     match FractalHeapHeader::parse(file, to_usize(at), offset_size, length_size) {
         Ok(header) => {
-            put_front(fields, &header.numbers());
+            header.put_numbers(fields);
             0
         }
         Err(refusal) => {
             let answer = refusal.answer();
-            put_front(fields, &[answer.first, answer.second]);
+            fields[..2].copy_from_slice(&[answer.first, answer.second]);
             answer.number
         }
     }

@@ -12,10 +12,10 @@ ghost use Rattle.ids.specs.Tiny.{tiny_at};
 ghost use Rattle.tools_c.specs.ObjectTools.{each_number, each_list};
 
 use crate::objects::id_lists::read_each;
+use fields::Place;
 use fields::convert::to_usize;
-use fields::place::Place;
 use fields::slot::put_answer;
-use fractal_heap::header::FractalHeapHeader;
+use fractal_heap::FractalHeapHeader;
 use ids::tiny::read_tiny_object;
 use refusals::{FormatError, Reported, SLICE_TOO_SHORT};
 

@@ -10,7 +10,6 @@ use refusals::{Reported, SLICE_TOO_SHORT};
 
 /// Stores the low bytes of `value` as an address of `offset_size` bytes at `pos`: 2 where the size is none, 13 where
 /// `bytes` ends too early.
-#[tactic(auto, unfolding(fields::specs::Slot::slot_number, fields::specs::Slot::slot_bytes, fields::specs::Stores::store_ensured))]
 #[unsafe(no_mangle)]
 pub extern "C" fn tools_write_offset(
     bytes: &mut [u8],
@@ -34,7 +33,6 @@ pub extern "C" fn tools_write_offset(
 }
 
 /// Stores the undefined address of `offset_size` bytes at `pos`, with the refusals of `tools_write_offset`.
-#[tactic(auto, unfolding(fields::specs::Slot::slot_number, fields::specs::Slot::slot_bytes, fields::specs::Stores::store_ensured))]
 #[unsafe(no_mangle)]
 pub extern "C" fn tools_write_undef_offset(
     bytes: &mut [u8],

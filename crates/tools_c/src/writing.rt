@@ -9,9 +9,10 @@ ghost use Rattle.plan.specs.Plans.{PlanKept, RootFits, Tallied};
 ghost use Rattle.plan.specs.Report.{plan_number, plan_totals};
 ghost use Rattle.region_blocks.specs.Site.{site_of};
 ghost use Rattle.region_write.specs.Region.{region as region_of};
+ghost use Rattle.ids.specs.Checks.{written_id_report};
 ghost use Rattle.ids.specs.Decoded.{decoded_id};
 ghost use Rattle.ids.specs.Written.{managed_id};
-ghost use Rattle.tools_c.specs.WriteTools.{plan_answer, write_answer, written_id_report};
+ghost use Rattle.tools_c.specs.WriteTools.{plan_answer, write_answer};
 
 use fields::slot::put_answer;
 use fractal_heap_write::serialize;
@@ -113,7 +114,6 @@ pub extern "C" fn tools_serialize(
 
 /// Writes a managed ID, and puts a refusal's two values, or two zeros, into the first 16 bytes of `slot`; a shorter
 /// slot gives 13 before all else.
-#[tactic(auto, unfolding(fields::specs::Slot::slot_number, fields::specs::Slot::slot_bytes))]
 #[unsafe(no_mangle)]
 pub extern "C" fn tools_write_managed_id(
     offset: u64,

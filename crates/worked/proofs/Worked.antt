@@ -3,24 +3,22 @@ use Rattle.std.proofs.Common.{◌≡◌, ℕ, ◌^◌, ◌<◌, max, List, [], �
 use Rattle.std.proofs.Common.{subst₂, arith}
 use Rattle.std.proofs.Math.Decide.{ℕ_discrete}
 use Rattle.std.specs.Int.Count.{count_leading_zeros}
-use Rattle.fields.specs.Widths.{legal}
 use Rattle.numbers.specs.Numbers.{saturated, log2}
-use Rattle.checksum.specs.Words.{add32}
-use Rattle.checksum.specs.Lookup3.{run as mixed_groups, groups_of, begun, body, tail_of, ended, hashlittle}
-use Rattle.table.specs.Table.{fixed, row_bits, row_offset, row_in, row_of, max_rows, covering_in, covering}
+use Rattle.checksum.specs.Lookup3.{run as mixed_groups, hashlittle}
+use Rattle.table.specs.Table.{fixed, row_bits, row_offset, row_in, row_of, covering_in, covering}
 use Rattle.table.specs.Slots.{slot_start, slot_bits_in, slot_bits, slot_at, entered_bytes_in, entered_bytes}
 use Rattle.table.specs.Sizes.{offset_bytes, direct_header, max_managed, indirect_size}
 use Rattle.numbers.specs.Sums.{sum}
-use Rattle.table.specs.Capacity.{block_capacity, capacities, capacity}
+use Rattle.table.specs.Capacity.{capacities}
 use Rattle.planner.specs.Steps.{open_in, open_at, step_of, run_from, offsets_from, starts_from, run, plan_offsets}
 use Rattle.planner.specs.Steps.{plan_starts}
 use Rattle.plan.specs.declared.ManagedPlan.{ManagedPlan}
-use Rattle.plan.specs.End.{end_state, rows_of_root}
+use Rattle.plan.specs.End.{end_state}
 use Rattle.plan.specs.Answer.{totals, planned_for}
 use Rattle.plan.specs.Checks.{sizes_checked, input_checked}
 use Rattle.fields.specs.LittleEndian.{le, value, le_at}
-use Rattle.reading.specs.Rows.{block_size, direct_rows, size_to_rows, heap_size, slot_size}
-use Rattle.fields.specs.Fields.{len_ensured}
+use Rattle.reading.specs.Rows.{heap_size}
+use Rattle.fractal_heap.specs.Writing.{widths_checked}
 use Rattle.region_write.proofs.Indirect.{bare-planned}
 use Rattle.region_write.proofs.Region.{region-length, root-place}
 use Rattle.heap_kept.specs.HeapKept.{offset_of}
@@ -72,12 +70,11 @@ third-missed starts is =
     (omega arith)
 
 pub worked : All cases
-unfolding add32 mixed_groups groups_of begun body tail_of ended hashlittle legal saturated le value le_at
-    count_leading_zeros log2 block_size direct_rows size_to_rows heap_size slot_size len_ensured row_bits row_offset
-    row_in row_of max_rows covering_in covering slot_start slot_bits_in slot_bits slot_at entered_bytes_in
-    entered_bytes offset_bytes direct_header max_managed indirect_size sum block_capacity capacities capacity
-    open_in open_at step_of run_from offsets_from starts_from run plan_offsets plan_starts end_state rows_of_root
-    totals sizes_checked input_checked planned_for
+unfolding mixed_groups hashlittle saturated le value le_at count_leading_zeros log2
+    heap_size row_bits row_offset row_in row_of covering_in covering slot_start
+    slot_bits_in slot_bits slot_at entered_bytes_in entered_bytes offset_bytes direct_header max_managed
+    indirect_size sum capacities open_in open_at step_of run_from offsets_from starts_from run plan_offsets
+    plan_starts end_state totals sizes_checked input_checked planned_for widths_checked
 worked =
     both (refl, refl, refl, planned _ _ _ refl)
     (both (refl, refl, refl, planned _ _ _ refl)
@@ -101,4 +98,11 @@ worked =
     (both refl
     (both refl
     (both refl
-    refl)))))))))))))))))))))
+    (both refl
+    (both refl
+    (both refl
+    (both refl
+    (both refl
+    (both refl
+    (both refl
+    refl))))))))))))))))))))))))))))

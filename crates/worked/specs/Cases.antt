@@ -1,10 +1,10 @@
 -- The worked cases: sizes and what is planned and written for them, at addresses of w bytes in lists of just
 -- enough places; an empty object that is not found; IDs and what they say; the rows of the fixed table, as planning
--- and as the reader has them; checksums.
+-- and as the reader has them; checksums; headers to be written.
 use Rattle.std.specs.Prelude.{ℕ, ◌-◌, ◌^◌, ◌≤◌, ◌<◌, max, ◌≡◌, List, [], ◌∷◌, length, take, drop, slice_index}
 use Rattle.std.specs.Prelude.{Result, Ok, Err, Some}
 use Rattle.refusals.specs.declared.FormatError.{FormatError}
-use Rattle.refusals.specs.declared.FormatError.TheVariants.{UnexpectedEof, ObjectTooLarge}
+use Rattle.refusals.specs.declared.FormatError.TheVariants.{UnexpectedEof, ObjectTooLarge, UnsupportedFilteredHeapObject, SliceTooShort, HeaderFieldTooLarge}
 use Rattle.checksum.specs.Lookup3.{hashlittle}
 use Rattle.table.specs.Table.{fixed, row_bits, row_offset, covering}
 use Rattle.plan.specs.declared.ManagedPlan.{ManagedPlan}
@@ -21,6 +21,7 @@ use Rattle.ids.specs.Decoded.{decoded_id}
 use Rattle.ids.specs.Tiny.{tiny_at}
 use Rattle.fractal_heap.specs.declared.header.FractalHeapHeader.{FractalHeapHeader}
 use Rattle.fractal_heap.specs.Read.{managed_at}
+use Rattle.fractal_heap.specs.Writing.{header_checked}
 use Rattle.heap_kept.specs.HeapKept.{Call, WriterAccepts, HoldsRegion, IsHeaderOf, offset_of}
 
 -- the fixed geometry as a header has it
@@ -35,7 +36,8 @@ fixed_table = record {
 -- sizes with their offsets, block starts, plan and region; sizes that are refused; sizes with the index of an empty
 -- object that is not found; a span with the fewest root rows; a direct row; the rows of an indirect row's slots; an
 -- offset and a length with their managed ID; a managed ID at some heap bits, with offset and length; a tiny ID of a
--- heap with IDs of that length, and where its object is; bytes with their checksum
+-- heap with IDs of that length, and where its object is; bytes with their checksum; the numbers of a header with two
+-- widths and room, and what is answered of writing it
 pub data Case : Type 0 where
   plans : (offset_size : ℕ) (sizes offsets starts : List ℕ) (plan : ManagedPlan) → Case
   refuses : (offset_size : ℕ) (sizes : List ℕ) (refused : FormatError) → Case
@@ -47,6 +49,7 @@ pub data Case : Type 0 where
   decodes : (bits : ℕ) (id : List ℕ) (offset len : ℕ) → Case
   tiny : (id_length : ℕ) (id : List ℕ) (found : Result Place FormatError) → Case
   hashes : (bytes : List ℕ) (sum : ℕ) → Case
+  tests_header : (numbers : List ℕ) (offset_size length_size lent : ℕ) (answered : Result (Unit {0}) FormatError) → Case
 
 -- the region of a plan, whatever the addresses and the bytes of the objects: its size, and the root at its place
 pub record RegionIsPlanned (offset_size : ℕ) (sizes : List ℕ) (plan : ManagedPlan) : Type 0 where
@@ -116,6 +119,8 @@ Holds (decodes bits id offset len) =
     decoded_id bits id ≡ Ok (record { offset = offset; length = len })
 Holds (tiny id_length id found) = tiny_at id_length id ≡ found
 Holds (hashes bytes sum) = hashlittle bytes ≡ sum
+Holds (tests_header numbers offset_size length_size lent answered) =
+    header_checked numbers offset_size length_size lent ≡ answered
 
 -- the first case holds, and the rest
 pub record Both (P Q : Type 0) : Type 0 where
@@ -139,8 +144,26 @@ of count region rows place managed allocated free iterator = record {
   allocation_iterator = iterator;
 }
 
+-- the header of a plan at w = 8, in numbers; `undefined` is the undefined address
+abbrev pub heap_numbers : (undefined : ℕ) (plan : ManagedPlan) → List ℕ
+heap_numbers undefined plan =
+    8 ∷ 0 ∷ 2 ∷ 65514 ∷ 0 ∷ undefined ∷ plan.free_space ∷ undefined ∷ plan.managed_space ∷ plan.allocated_space
+    ∷ plan.allocation_iterator ∷ 1 ∷ 0 ∷ 0 ∷ 0 ∷ 0 ∷ 4 ∷ 1024 ∷ 65536 ∷ 40 ∷ 1 ∷ 2048 ∷ plan.root_rows ∷ []
+
+-- the numbers with others in their first two places
+abbrev pub beginning_with : (first second : ℕ) (numbers : List ℕ) → List ℕ
+beginning_with first second numbers = first ∷ second ∷ drop 2 numbers
+
+-- worked heaps 3 and 6
+abbrev pub third_heap : ManagedPlan
+third_heap = of 1 2166 3 0 16384 2048 15117 10240
+
+abbrev pub sixth_heap : ManagedPlan
+sixth_heap = of 1 65814 8 0 524288 65536 458070 327680
+
 -- the worked cases 1 to 10 (docs/RULES.md), after 5 an empty object in an indirect heap that answers 1, and the wrong
--- turn, 1,003 then 1; the whole heap space; IDs at 64 and more heap bits; the empty tiny ID, and one of 18 bytes
+-- turn, 1,003 then 1; the whole heap space; IDs at 64 and more heap bits; the empty tiny ID, and one of 18 bytes; the
+-- worked headers 11 to 16
 abbrev pub cases : List Case
 cases =
     plans 8 [] [] (0 ∷ []) (of 1 1024 0 0 1024 1024 1002 0)
@@ -172,4 +195,11 @@ cases =
     ∷ 0xAB ∷ 0xFA ∷ 0 ∷ 0 ∷ 0 ∷ 0 ∷ 0 ∷ 0 ∷ 0 ∷ [])
     (Err (UnexpectedEof 2394 18))
     ∷ tiny 8 (0x22 ∷ 7 ∷ 8 ∷ 9 ∷ []) (Ok (record { position = 1; length = 3 }))
+    ∷ tests_header (heap_numbers (2 ^ 64 - 1) sixth_heap) 8 2 146 (Err (HeaderFieldTooLarge 6 458070))
+    ∷ tests_header (heap_numbers (2 ^ 64 - 1) third_heap) 8 2 146 (Err (HeaderFieldTooLarge 18 65536))
+    ∷ tests_header (heap_numbers (2 ^ 64 - 1) third_heap) 4 8 146 (Err (HeaderFieldTooLarge 5 (2 ^ 64 - 1)))
+    ∷ tests_header (heap_numbers (2 ^ 32 - 1) third_heap) 4 8 134 (Ok tt)
+    ∷ tests_header (heap_numbers (2 ^ 64 - 1) third_heap) 8 8 145 (Err (SliceTooShort 146 145))
+    ∷ tests_header (beginning_with 65536 0 (heap_numbers (2 ^ 64 - 1) third_heap)) 8 8 0 (Err (HeaderFieldTooLarge 0 65536))
+    ∷ tests_header (beginning_with 65536 65536 (heap_numbers (2 ^ 64 - 1) third_heap)) 8 8 0 (Err UnsupportedFilteredHeapObject)
     ∷ []

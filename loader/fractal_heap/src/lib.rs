@@ -2,24 +2,17 @@
 //! Format Specification: on every input they end, read nothing outside of what they are lent, and answer or refuse by a
 //! definition (`docs/PROOFS.md` in the repository). This crate makes the C functions of the library `fractal_heap_c` safe
 //! to call. It also has the plan of a heap that is written, [`OpenPlan`]: it is advanced by one object at a time, and each
-//! has its ID at once.
+//! has its ID at once; and it writes a heap's header, [`Header::write`].
 //!
 //! ```
 //! use fractal_heap::{Error, Heap, Refusal};
-//! # // A heap by the format: its header at 0, and behind it its one block, with the object at heap offset 22.
-//! # fn put(bytes: &mut Vec<u8>, fields: &[(usize, u64)]) {
-//! #     for (width, number) in fields {
-//! #         bytes.extend(&number.to_le_bytes()[..*width]);
-//! #     }
-//! # }
-//! # let mut file = b"FRHP".to_vec();
-//! # put(&mut file, &[(1, 0), (2, 8), (2, 0), (1, 2), (4, 65_514), (8, 0), (8, u64::MAX), (8, 0), (8, u64::MAX)]);
-//! # put(&mut file, &[(8, 1024), (8, 1024), (8, 0), (8, 1), (8, 0), (8, 0), (8, 0), (8, 0)]);
-//! # put(&mut file, &[(2, 4), (8, 1024), (8, 65_536), (2, 40), (2, 1), (8, 146), (2, 0)]);
-//! # let sum = fractal_heap::checksum(&file);
-//! # put(&mut file, &[(4, sum.into())]);
+//! # // A heap of one object: its header at 0, and behind it its one block by the format.
+//! # let mut plan = fractal_heap::OpenPlan::open(8)?;
+//! # plan.add(28)?;
+//! # let mut file = vec![0; 146];
+//! # plan.header(146).write(8, 8, &mut file)?;
 //! # file.extend(b"FHDB");
-//! # put(&mut file, &[(1, 0), (8, 0), (5, 0), (4, 0)]);
+//! # file.extend([0; 18]); // version, the header's address, the heap offset, and a checksum that no reader tests
 //! # file.extend(b"gauge 7 was replaced at noon");
 //! # file.resize(146 + 1024, 0);
 //!
@@ -52,11 +45,13 @@
 //! or another folder, as it may be in cron or an editor, the build ends and asks for an absolute one.
 #![warn(missing_docs)]
 
+mod header;
 mod numbers;
 mod open_plan;
 mod refusal;
 mod superblock;
 
+pub use header::{Header, WrittenHeader};
 pub use numbers::{count, grouped};
 pub use open_plan::{Added, OpenPlan, Totals};
 pub use refusal::Refusal;
@@ -180,10 +175,7 @@ const ID_LENGTH_AT: u64 = 5;
 impl<'f> Heap<'f> {
     /// How many bytes each ID of the heap has, by a header that is sound.
     pub fn heap_id_length(&self) -> Result<u16, Refusal> {
-        // An ID of one byte, 0, is a managed object's: what is refused is the header.
-        self.decode_managed_id_of_any_length(&[0])?;
-        let length = self.stored_id_length();
-        Ok(length.expect("a header that is sound is in the file"))
+        Ok(self.header()?.heap_id_length)
     }
 
     /// Offset in the heap and length that a managed ID gives, which must have the length of the heap's IDs.

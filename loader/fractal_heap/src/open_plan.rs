@@ -1,10 +1,11 @@
 //! A heap's plan that is advanced by one object at a time.
-use crate::Refusal;
+use crate::{Header, Refusal};
 use fractal_heap_sys as sys;
 
 /// The plan of a heap whose objects come one by one, in the order in which they will be written: each has its heap
 /// offset and its ID at once, and the sizes need not be kept. It is at any time the plan of the sizes that were
-/// accepted so far, and an offset that was given stays the object's in every longer list; both are proved.
+/// accepted so far, and an offset that was given stays the object's in every longer list, and so does its ID, which is
+/// written by the library, too; all of that is proved.
 ///
 /// It takes 72 bytes, holds no memory of its own, and is neither `Clone` nor `Copy`: two copies that are both added to
 /// would give one heap offset to two objects.
@@ -73,10 +74,6 @@ pub struct Totals {
     pub allocation_iterator: u64,
 }
 
-/// Where a managed ID has the offset and where it has the length: five bytes and two.
-const ID_OFFSET_BITS: u32 = 40;
-const ID_LENGTH_BITS: u32 = 16;
-
 impl OpenPlan {
     /// The plan of no objects, for addresses of `offset_size` bytes; a size other than 2, 4 and 8 is refused (2).
     pub fn open(offset_size: u8) -> Result<OpenPlan, Refusal> {
@@ -117,6 +114,20 @@ impl OpenPlan {
         };
         // Only a shorter list is refused.
         assert_eq!(number, sys::FRACTAL_HEAP_OK, "a list of eight numbers");
+        numbers.into()
+    }
+
+    /// The heap's header, once the objects that were accepted so far are written as a region at this address:
+    /// [`Totals::header`] says what it has.
+    pub fn header(&self, region_at: u64) -> Header {
+        let offset_size = self.plan.planner.offset_size;
+        self.totals().header(self.objects(), region_at, offset_size)
+    }
+}
+
+/// By the eight numbers of a plan, in the order in which the C functions put them.
+impl From<[u64; 8]> for Totals {
+    fn from(numbers: [u64; 8]) -> Totals {
         let [
             block_count,
             region_size,
@@ -144,14 +155,19 @@ impl Added {
     /// Its managed ID: 0, the offset in five bytes, the size in two. An object without bytes that is accepted at heap
     /// offset 2^40, the end of the heap space, has none (16).
     pub fn id(&self) -> Result<[u8; 8], Refusal> {
-        let &Added { offset, size } = self;
-        if offset >> ID_OFFSET_BITS != 0 || size >> ID_LENGTH_BITS != 0 {
-            return Err(Refusal::HeapIdTooLarge {
-                offset,
-                length: size,
-            });
-        }
-        let after_type = offset | size << ID_OFFSET_BITS;
-        Ok((after_type << 8).to_le_bytes())
+        let (mut id, mut slot) = ([0; 8], [0; 16]);
+        // SAFETY: pointers and lengths are those of the ID and of the slot, two arrays.
+        let number = unsafe {
+            sys::fractal_heap_write_managed_id(
+                self.offset,
+                self.size,
+                id.as_mut_ptr(),
+                id.len(),
+                slot.as_mut_ptr(),
+                slot.len(),
+            )
+        };
+        Refusal::answered(number, slot)?;
+        Ok(id)
     }
 }

@@ -1,4 +1,5 @@
 //! Why a call is refused: the one table of causes, each with its number, its values and its words.
+use crate::header::name_of;
 use crate::numbers::{count, grouped};
 use fractal_heap_sys as sys;
 use std::fmt;
@@ -34,7 +35,7 @@ pub enum Refusal {
     InvalidHeapIdType { id_type: u64 },
     /// 7: the header's checksum.
     ChecksumMismatch { stored: u64, computed: u64 },
-    /// 8: an object of a filtered heap.
+    /// 8: an object of a filtered heap, or the header of one that is to be written.
     UnsupportedFilteredHeapObject,
     /// 9: a block's address plus a distance is past 2^64 - 1.
     OffsetOverflow { address: u64, distance: u64 },
@@ -54,6 +55,8 @@ pub enum Refusal {
     RegionAddressTooLarge { address: u64, region_size: u64 },
     /// 16: the ID writer's offset or length is too large.
     HeapIdTooLarge { offset: u64, length: u64 },
+    /// 17: a header's field, by its place in header order counted from 0, is too large for its width.
+    HeaderFieldTooLarge { place: u64, value: u64 },
     /// A number that this version has no words for.
     Other {
         number: u32,
@@ -65,7 +68,7 @@ pub enum Refusal {
 impl Refusal {
     /// The numbers that this version has words for.
     pub const NUMBERS: RangeInclusive<u32> =
-        sys::FRACTAL_HEAP_UNEXPECTED_EOF..=sys::FRACTAL_HEAP_HEAP_ID_TOO_LARGE;
+        sys::FRACTAL_HEAP_UNEXPECTED_EOF..=sys::FRACTAL_HEAP_HEADER_FIELD_TOO_LARGE;
 
     /// The cause with this number and these values; a value that the cause does not have is passed over.
     pub fn new(number: u32, first: u64, second: u64) -> Self {
@@ -122,6 +125,10 @@ impl Refusal {
                 offset: first,
                 length,
             },
+            (sys::FRACTAL_HEAP_HEADER_FIELD_TOO_LARGE, value) => Refusal::HeaderFieldTooLarge {
+                place: first,
+                value,
+            },
             _ => Refusal::Other {
                 number,
                 first,
@@ -164,6 +171,7 @@ impl Refusal {
                 sys::FRACTAL_HEAP_ADDRESS_TOO_LARGE
             }
             Refusal::HeapIdTooLarge { .. } => sys::FRACTAL_HEAP_HEAP_ID_TOO_LARGE,
+            Refusal::HeaderFieldTooLarge { .. } => sys::FRACTAL_HEAP_HEADER_FIELD_TOO_LARGE,
             Refusal::Other { number, .. } => number,
         }
     }
@@ -202,6 +210,7 @@ impl Refusal {
                 offset: a,
                 length: b,
             }
+            | Refusal::HeaderFieldTooLarge { place: a, value: b }
             | Refusal::Other {
                 first: a,
                 second: b,
@@ -224,7 +233,9 @@ impl Refusal {
             5 => "the header's version is not 0",
             6 => "the ID is not a managed object's",
             7 => "the header's checksum differs",
-            8 => "the heap is filtered, and objects of a filtered heap are not read",
+            8 => {
+                "the heap is filtered, and objects of a filtered heap are not read, nor is its header written"
+            }
             9 => "a block's address plus a distance is past 2^64 - 1",
             10 => "the depth is used up, and still no object",
             11 => "an object has more bytes than a managed object can have",
@@ -235,6 +246,7 @@ impl Refusal {
                 "the header's address is too large for the offset size, or the region ends past its largest"
             }
             16 => "no ID holds the offset and the length: they must be below 2^40 and below 2^16",
+            17 => "a field of the header to be written is too large for its width",
             _ => return None,
         })
     }
@@ -258,7 +270,8 @@ impl Refusal {
                 "the header's checksum differs: {first:08X} is stored, {second:08X} computed"
             ),
             Refusal::UnsupportedFilteredHeapObject => {
-                "the heap is filtered, and objects of a filtered heap are not read".into()
+                "the heap is filtered, and objects of a filtered heap are not read, nor is its header written"
+                    .into()
             }
             Refusal::OffsetOverflow { .. } => {
                 format!("a block's address {a} plus a distance of {b} is past 2^64 - 1")
@@ -295,6 +308,12 @@ impl Refusal {
             Refusal::HeapIdTooLarge { .. } => format!(
                 "no ID holds offset {a} and length {b}: they must be below 2^40 and below 2^16"
             ),
+            Refusal::HeaderFieldTooLarge { place, .. } => {
+                let name = name_of(*place).map_or(String::new(), |name| format!(" {name},"));
+                format!(
+                    "the header's field at place {a}, counted from 0,{name} is {b}, too large for its width"
+                )
+            }
             _ => format!("a number that no table has, with the values {a} and {b}"),
         }
     }
@@ -327,8 +346,8 @@ impl std::error::Error for Refusal {}
 mod tests {
     use super::*;
 
-    /// Numbers and values as the table in README.md has them: 15 stands there twice.
-    const TABLE: [(u32, u64, u64); 17] = [
+    /// Numbers and values as the table in docs/RULES.md has them: 15 stands there twice.
+    const TABLE: [(u32, u64, u64); 18] = [
         (1, 5120, 4096),
         (2, 3, 0),
         (3, 16, 0),
@@ -346,6 +365,7 @@ mod tests {
         (15, 65_535, 0),
         (15, 65_000, 1024),
         (16, 1 << 40, 0),
+        (17, 18, 65_536),
     ];
 
     #[test]

@@ -1,6 +1,6 @@
 //! Calls the library from Rust: heaps built in memory, with a direct and with an indirect root, read
 //! back at each offset and length size, and the refusals. Expected values are the format's and docs/RULES.md's.
-use fractal_heap::{Error, Heap, Refusal, checksum};
+use fractal_heap::{Error, Header, Heap, OpenPlan, Refusal, checksum};
 
 /// The starting block size.
 const START: usize = 1024;
@@ -21,7 +21,7 @@ struct Widths {
 impl Widths {
     /// Bytes of a header without filters.
     fn header(self) -> usize {
-        26 + 12 * usize::from(self.length) + 3 * usize::from(self.offset)
+        Header::length(self.offset, self.length)
     }
 
     /// Bytes of a direct block before its objects.
@@ -52,26 +52,17 @@ impl Bytes {
     }
 }
 
-/// A header: 8-byte IDs, no filters, width 4, blocks of 1,024 to 65,536, 40 bits, and the root's rows.
-fn header(w: Widths, root_rows: u64) -> Vec<u8> {
-    let largest_object = 65_536 - w.block_header() as u64;
-    Bytes::new(b"FRHP")
-        .put(1, &[0]) // version
-        .put(2, &[8, 0]) // lengths of IDs and filters
-        .put(1, &[2]) // flags: direct blocks have checksums
-        .put(4, &[largest_object])
-        .put(w.length, &[0]) // next huge ID
-        .put(w.offset, &[UNDEFINED]) // huge objects' index
-        .put(w.length, &[0]) // free space
-        .put(w.offset, &[UNDEFINED]) // free space manager
-        .put(w.length, &[4096, 2048, 2048]) // managed, allocated, iterator
-        .put(w.length, &[1, 0, 0, 0, 0]) // managed, huge and tiny objects
-        .put(2, &[4])
-        .put(w.length, &[START as u64, 65_536])
-        .put(2, &[40, 1]) // bits, starting rows
-        .put(w.offset, &[ROOT as u64])
-        .put(2, &[root_rows])
-        .sealed()
+/// The header of an empty heap of the fixed geometry, but for the root's place and rows, which are all that reading looks at.
+fn header(w: Widths, root_rows: u16) -> Vec<u8> {
+    let mut header = OpenPlan::open(w.offset).unwrap().header(ROOT as u64);
+    header.current_rows_in_root_indirect_block = root_rows;
+    written(&header, w)
+}
+
+fn written(header: &Header, w: Widths) -> Vec<u8> {
+    let mut bytes = vec![0; w.header()];
+    header.write(w.offset, w.length, &mut bytes).unwrap();
+    bytes
 }
 
 /// A direct block of 1,024 bytes with one object after its header.
@@ -222,12 +213,11 @@ fn sizes_and_types_that_there_are_not_are_refused() {
     assert_eq!(read(&file, EIGHT, &huge), refused(6, 1, 0));
 }
 
-/// The file with a header that says another length of the heap's IDs, sealed again.
+/// The file with a header that says another length of the heap's IDs.
 fn with_id_length(mut file: Vec<u8>, w: Widths, length: u16) -> Vec<u8> {
-    let sum_at = AT + w.header() - 4;
-    file[AT + 5..AT + 7].copy_from_slice(&length.to_le_bytes());
-    let sum = checksum(&file[AT..sum_at]).to_le_bytes();
-    file[sum_at..sum_at + 4].copy_from_slice(&sum);
+    let mut header = heap(&file, w).header().unwrap();
+    header.heap_id_length = length;
+    file[AT..AT + w.header()].copy_from_slice(&written(&header, w));
     file
 }
 

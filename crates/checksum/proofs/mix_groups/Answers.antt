@@ -1,11 +1,9 @@
 -- What is left of `mix_groups`: the groups by the laws of the walk, then the tail.
 use Rattle.std.proofs.Common.{arith}
-use Rattle.checksum.specs.Lookup3.{begun}
 use Rattle.checksum.proofs.Walk.{walk_start, walk_more, walk-tail}
 use Rattle.checksum.proofs.mix_groups.Goals as goal
 
 pub loop-at-init : goal.loop-at-init
-unfolding begun
 loop-at-init c = walk_start _ _ (omega arith) (rw c.begun-first.ensures)
 
 pub loop-at-preserved : goal.loop-at-preserved

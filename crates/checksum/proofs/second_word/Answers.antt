@@ -6,4 +6,4 @@ use Rattle.checksum.proofs.second_word.Goals as goal
 pub returns : goal.returns
 returns c =
     rw (c.from.ensures, c.read_u32_le.ensures)
-    (second-word-is _ (λ j. omega (arith, c.type_inv.bytes j)) c.requires.more c.requires.most)
+    (second-word-is _ (λ j. omega (arith, c.type_inv.bytes j)) c.requires.at_least_four c.requires.at_most_eight)

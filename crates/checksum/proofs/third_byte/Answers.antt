@@ -3,4 +3,4 @@ use Rattle.checksum.proofs.Tails.{third-is}
 use Rattle.checksum.proofs.third_byte.Goals as goal
 
 pub returns : goal.returns
-returns c = third-is _ c.requires.more c.requires.most
+returns c = third-is _ c.requires.at_least_two c.requires.at_most_three

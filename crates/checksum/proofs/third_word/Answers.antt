@@ -5,4 +5,5 @@ use Rattle.checksum.proofs.third_word.Goals as goal
 
 pub returns : goal.returns
 returns c =
-    rw c.read_u32_le.ensures (third-word-is _ (λ j. omega (arith, c.type_inv.bytes j)) c.requires.more c.requires.most)
+    rw c.read_u32_le.ensures
+    (third-word-is _ (λ j. omega (arith, c.type_inv.bytes j)) c.requires.at_least_nine c.requires.at_most_group)

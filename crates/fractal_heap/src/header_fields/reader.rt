@@ -1,5 +1,5 @@
 //! A reader of single fields.
-ghost use Rattle.std.specs.Prelude.{◌≡◌, ◌≤◌, length};
+ghost use Rattle.std.specs.Prelude.{◌≡◌, ◌+◌, ◌≤◌, length};
 
 use refusals::FormatError;
 
@@ -16,22 +16,37 @@ pub struct Reader<'a> {
 impl Reader<'_> {
     ghost use Rattle.std.specs.Prelude.{true, OnOk, IfOk};
     ghost use Rattle.fields.specs.Widths.{legal};
-    ghost use Rattle.fractal_heap.specs.HeaderReader.{plain_field, offset_field, length_field, passed};
+    ghost use Rattle.fields.specs.LittleEndian.{le_at};
+    ghost use Rattle.fractal_heap.specs.HeaderReader.{plain_field, offset_field, length_field};
 
-    /// Steps over `n` bytes.
+    /// The number of `width` bytes at `pos`, of which nothing is tested: they are there, and the width is one.
     #[inline(always)]
-    pub fn skip(&self, pos: usize, n: usize) -> Result<usize, FormatError>
-        ensures value { result ≡ passed self.now.file.now pos n }
-        ensures there { IfOk result (λ next. next ≤ length self.now.file.now) }
+    pub fn taken(&self, pos: usize, width: u8) -> (u64, usize)
+        requires width { legal width ≡ true }
+        requires there { pos + width ≤ length self.now.file.now }
+        ensures { result ≡ (le_at self.now.file.now pos width, pos + width) }
     {
-        fields::ensure_len(self.file, pos, n)?;
-        Ok(pos + n)
+        let number = fields::little_endian::read_le(self.file, pos, width);
+        (number, pos + usize::from(width))
+    }
+
+    /// A number of one byte.
+    #[inline(always)]
+    #[tactic(auto, unfolding(fields::specs::LittleEndian::le_at, fields::specs::LittleEndian::value))]
+    pub fn u8(&self, pos: usize) -> Result<(u8, usize), FormatError>
+        ensures value { result ≡ plain_field self.now.file.now pos 1 }
+        ensures next { IfOk result (λ field. field.1 ≡ pos + 1) }
+        ensures there { IfOk result (λ field. field.1 ≤ length self.now.file.now) }
+    {
+        fields::ensure_len(self.file, pos, 1)?;
+        Ok((self.file[pos], pos + 1))
     }
 
     /// A number of two bytes.
     #[inline(always)]
     pub fn u16(&self, pos: usize) -> Result<(u16, usize), FormatError>
         ensures value { result ≡ plain_field self.now.file.now pos 2 }
+        ensures next { IfOk result (λ field. field.1 ≡ pos + 2) }
         ensures there { IfOk result (λ field. field.1 ≤ length self.now.file.now) }
     {
         let number = fields::read_u16(self.file, pos)?;
@@ -42,6 +57,7 @@ impl Reader<'_> {
     #[inline(always)]
     pub fn u32(&self, pos: usize) -> Result<(u32, usize), FormatError>
         ensures value { result ≡ plain_field self.now.file.now pos 4 }
+        ensures next { IfOk result (λ field. field.1 ≡ pos + 4) }
         ensures there { IfOk result (λ field. field.1 ≤ length self.now.file.now) }
     {
         let number = fields::read_u32(self.file, pos)?;
@@ -50,9 +66,9 @@ impl Reader<'_> {
 
     /// An address; an `offset_size` that is no width is refused first (2).
     #[inline(always)]
-    #[tactic(auto, unfolding(fields::specs::Fields::offset_at, fields::specs::Fields::number_at))]
     pub fn offset(&self, pos: usize) -> Result<(u64, usize), FormatError>
         ensures value { result ≡ offset_field self.now.file.now pos self.now.offset_size }
+        ensures next { IfOk result (λ field. field.1 ≡ pos + self.now.offset_size) }
         ensures there { IfOk result (λ field. field.1 ≤ length self.now.file.now) }
         ensures width { OnOk result (legal self.now.offset_size ≡ true) }
     {
@@ -62,9 +78,9 @@ impl Reader<'_> {
 
     /// A length; a `length_size` that is no width is refused first (3).
     #[inline(always)]
-    #[tactic(auto, unfolding(fields::specs::Fields::length_at, fields::specs::Fields::number_at))]
     pub fn length(&self, pos: usize) -> Result<(u64, usize), FormatError>
         ensures value { result ≡ length_field self.now.file.now pos self.now.length_size }
+        ensures next { IfOk result (λ field. field.1 ≡ pos + self.now.length_size) }
         ensures there { IfOk result (λ field. field.1 ≤ length self.now.file.now) }
         ensures width { OnOk result (legal self.now.length_size ≡ true) }
     {

@@ -3,8 +3,7 @@
 ghost use Rattle.std.specs.Prelude.{◌≡◌};
 ghost use Rattle.ids.specs.IdTypes.{type_of, id_type};
 
-use refusals::FormatError;
-use refusals::answer::{Answer, Reported};
+use refusals::{Answer, FormatError, Reported};
 
 /// Where the object of an ID is: in a block of the heap, in the file on its own, or in the ID itself.
 #[derive(Clone, Copy, Debug, PartialEq, Eq)]

@@ -3,20 +3,22 @@ ghost use Rattle.std.specs.Prelude.{◌≡◌, ◌^◌, ◌≤◌, ◌<◌, OnOk
 ghost use Rattle.table.specs.Table.{fixed};
 ghost use Rattle.ids.specs.Checks.{id_checked};
 
+use crate::write::{ID_LENGTH, LENGTH_SPACE};
 use refusals::FormatError;
+use table::MAX_HEAP_SPACE;
 
 /// What is tested before an ID goes into `lent` bytes.
 #[tactic(auto, unfolding(table::specs::Sizes::offset_bytes))]
 pub fn check_id(offset: u64, length: u64, lent: usize) -> Result<(), FormatError>
     ensures answer { result ≡ id_checked fixed offset length lent }
-    ensures there { OnOk result ((offset < 2 ^ 40) × (length < 2 ^ 16) × (8 ≤ lent)) }
+    ensures there { OnOk result ((offset < MAX_HEAP_SPACE) × (length < LENGTH_SPACE) × (ID_LENGTH ≤ lent)) }
 {
-    if offset >= 1 << 40 || length >= 1 << 16 {
+    if offset >= MAX_HEAP_SPACE || length >= LENGTH_SPACE {
         return Err(FormatError::HeapIdTooLarge { offset, length });
     }
-    if lent < 8 {
+    if lent < ID_LENGTH {
         return Err(FormatError::SliceTooShort {
-            needed: 8,
+            needed: ID_LENGTH as u64,
             lent: lent as u64,
         });
     }

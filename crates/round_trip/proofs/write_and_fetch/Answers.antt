@@ -12,7 +12,7 @@ returns c =
     let q = c.requires in
     let fetched =
     fetched-answer a.sizes.now a.objects.now a.offsets.now a.blocks.now a.file.now a.site n.file a.early a.i
-    a.found.now n.found q.index q.front q.not_empty q.room
+    a.found.now n.found q.among_early q.early_in_list q.not_empty q.room
     _ refl d.passed d.kept d.answer in
     record {
       answer = fetched.0;

@@ -2,7 +2,7 @@
 ghost use Rattle.std.specs.Prelude.{◌≡◌, ◌*◌, ◌/◌, ◌≤◌, ◌++◌, length, drop};
 ghost use Rattle.tools_c.specs.ObjectNumbers.{answers_from};
 
-use fractal_heap::header::FractalHeapHeader;
+use fractal_heap::FractalHeapHeader;
 use refusals::Reported;
 
 /// Reads every eight bytes of `ids` as an ID; three places of `found` for each: number and values. The

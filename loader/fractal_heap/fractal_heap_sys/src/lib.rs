@@ -38,6 +38,10 @@ pub const FRACTAL_HEAP_SLICE_TOO_SHORT: u32 = 13;
 pub const FRACTAL_HEAP_OBJECT_BYTES_MISMATCH: u32 = 14;
 pub const FRACTAL_HEAP_ADDRESS_TOO_LARGE: u32 = 15;
 pub const FRACTAL_HEAP_HEAP_ID_TOO_LARGE: u32 = 16;
+pub const FRACTAL_HEAP_HEADER_FIELD_TOO_LARGE: u32 = 17;
+
+// How many numbers the fields of a header are.
+pub const FRACTAL_HEAP_HEADER_FIELDS: u32 = 23;
 
 // Bytes of an open plan, its alignment, and how many numbers its totals are.
 pub const FRACTAL_HEAP_PLAN_SIZE: u32 = 72;
@@ -107,6 +111,27 @@ unsafe extern "C" {
         slot: *mut u8,
         slot_len: usize,
     ) -> u32;
+    pub fn fractal_heap_parse_header(
+        file: *const u8,
+        file_len: usize,
+        at: u64,
+        offset_size: u8,
+        length_size: u8,
+        fields: *mut u64,
+        fields_len: usize,
+        slot: *mut u8,
+        slot_len: usize,
+    ) -> u32;
+    pub fn fractal_heap_write_header(
+        fields: *const u64,
+        fields_len: usize,
+        offset_size: u8,
+        length_size: u8,
+        bytes: *mut u8,
+        bytes_len: usize,
+        slot: *mut u8,
+        slot_len: usize,
+    ) -> u32;
     pub fn fractal_heap_open_plan(offset_size: u8, slot: *mut u8, slot_len: usize) -> OpenedPlan;
     pub fn fractal_heap_plan_add(
         plan: *mut OpenPlan,
@@ -118,5 +143,13 @@ unsafe extern "C" {
         plan: *const OpenPlan,
         totals: *mut u64,
         totals_len: usize,
+    ) -> u32;
+    pub fn fractal_heap_write_managed_id(
+        offset: u64,
+        size: u64,
+        id: *mut u8,
+        id_len: usize,
+        slot: *mut u8,
+        slot_len: usize,
     ) -> u32;
 }

@@ -2,7 +2,8 @@
 //! order, types, the fields of structs, and the numbers of refusals. All are read from the sources, so that none can be
 //! changed alone. In a copy of this crate outside of the repository there is nothing to hold them to.
 use fractal_heap_sys::{
-    FRACTAL_HEAP_PLAN_ALIGNMENT, FRACTAL_HEAP_PLAN_SIZE, OpenPlan, OpenedPlan, Planner, State,
+    FRACTAL_HEAP_HEADER_FIELDS, FRACTAL_HEAP_PLAN_ALIGNMENT, FRACTAL_HEAP_PLAN_SIZE, OpenPlan,
+    OpenedPlan, Planner, State,
 };
 use std::collections::{BTreeMap, BTreeSet};
 use std::fs;
@@ -281,12 +282,46 @@ fn the_header_declares_what_rust_is_declared() {
     let Some(root) = repository() else { return };
     let (header, rust) = (text(&root, "loader/fractal_heap.h"), rust(&root, "lib"));
     assert_eq!(c_functions(&header), rust_functions(&rust));
-    assert_eq!(rust_functions(&rust).len(), 6);
+    assert_eq!(rust_functions(&rust).len(), 9);
     assert_eq!(numbers(&header), numbers(&rust));
-    assert_eq!(numbers(&rust).len(), 17 + 3);
+    assert_eq!(numbers(&rust).len(), 18 + 4);
     assert_eq!(c_structs(&header), rust_structs(&rust));
     let fields: usize = rust_structs(&rust).values().map(Vec::len).sum();
     assert_eq!((rust_structs(&rust).len(), fields), (4, 7 + 2 + 2 + 2));
+}
+
+/// The names of the fields of a struct of Rust's or Rattle's, those of the doubling table in its place.
+fn fields_of(text: &str, name: &str) -> Vec<String> {
+    let (_, rest) = text.split_once(&format!("pub struct {name} {{")).unwrap();
+    let (body, _) = rest.split_once("\n}").unwrap();
+    let field = |line: &str| {
+        let (name, _) = line.trim().strip_prefix("pub ")?.split_once(':')?;
+        Some(name.to_owned())
+    };
+    body.lines().filter_map(field).collect()
+}
+
+/// The places of a header's fields in the list that C gets are in the order of the fields of the proved header, and of
+/// the crate's.
+#[test]
+fn the_fields_of_a_header_have_their_places() {
+    let Some(root) = repository() else { return };
+    let header = c_code(&text(&root, "loader/fractal_heap.h"));
+    let (_, rest) = header.split_once("enum fractal_heap_field {").unwrap();
+    let (body, _) = rest.split_once('}').unwrap();
+    let place = |word: &str| {
+        let name = word.trim().strip_prefix("FRACTAL_HEAP_")?;
+        Some(name.to_lowercase())
+    };
+    let places: Vec<String> = body.split(',').filter_map(place).collect();
+    assert_eq!(places.len(), FRACTAL_HEAP_HEADER_FIELDS as usize);
+    let rust = text(&root, "loader/fractal_heap/src/header.rs");
+    assert_eq!(places, fields_of(&rust, "Header"));
+    let proved = |of: &str, name| fields_of(&proved(&root.join(format!("crates/{of}/src"))), name);
+    let mut due = proved("fractal_heap", "FractalHeapHeader");
+    let table = due.iter().position(|name| name == "table").unwrap();
+    due.splice(table..=table, proved("reading", "DoublingTable"));
+    assert_eq!(places, due);
 }
 
 /// By the C ABI: eight numbers of 64 bits, the byte before them, and what aligns it. That the compiled library has them
@@ -380,6 +415,20 @@ fn a_change_of_one_side_is_seen() {
             "struct fractal_heap_plan *",
         ),
         ("uint64_t *totals", "uint32_t *totals"),
+        (
+            "uint64_t size, uint8_t *id",
+            "uint64_t size, const uint8_t *id",
+        ),
+        (
+            "length_size,\n                                   uint64_t *fields",
+            "length_size,\n                                   const uint64_t *fields",
+        ),
+        ("const uint64_t *fields, size_t", "uint64_t *fields, size_t"),
+        (
+            "uint8_t *bytes, size_t bytes_len,\n",
+            "const uint8_t *bytes, size_t bytes_len,\n",
+        ),
+        ("HEADER_FIELDS = 23", "HEADER_FIELDS = 22"),
         ("uint64_t fill;", "uint32_t fill;"),
         ("uint64_t indirect;", ""),
         ("uint64_t objects;", "uint64_t objects; uint64_t bytes;"),

@@ -4,7 +4,6 @@ use Rattle.fields.specs.Fields.{len_ensured}
 use Rattle.ids.proofs.tiny.ensure_end.Goals as goal
 
 end_alone : (s : List ℕ) (p n : ℕ) → len_ensured s 0 (p + n) ≡ len_ensured s p n
-unfolding len_ensured
 end_alone s p n =
     let e : 0 + (p + n) ≡ p + n = omega arith in
     rw e

@@ -10,8 +10,9 @@ bounds-offsets-i c = placed _ _ _ _ _ (sym c.in_ok-new.ensures.answer) c.require
 pub returns-in_err-write_managed_id-clause-answer : goal.returns-in_err-write_managed_id-clause-answer
 returns-in_err-write_managed_id-clause-answer c =
     let a = c.args in
+    let new = c.in_ok-new.ensures in
     let d =
-    decided a.sizes.now a.offsets.now _ _ _ (sym c.in_ok-new.ensures.answer) c.requires c.in_ok-new.ensures.offsets_after
+    decided a.sizes.now a.offsets.now _ _ _ (sym new.answer) c.requires new.offsets_after
     c.in_err-write_managed_id.ensures.answer in
     search rules
 

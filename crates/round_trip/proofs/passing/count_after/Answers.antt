@@ -7,11 +7,11 @@ use Rattle.round_trip.specs.Passed.{counted_in}
 use Rattle.round_trip.proofs.WholeWay.{accepts, root-sum, rows-small}
 use Rattle.round_trip.proofs.passing.count_after.Goals as goal
 
-pub header_of-header-requires-clause-root : goal.header_of-header-requires-clause-root
-header_of-header-requires-clause-root g c = root-sum (accepts c.in_ok-plan.ensures.answer)
+pub header_of-header-requires-clause-root_fits : goal.header_of-header-requires-clause-root_fits
+header_of-header-requires-clause-root_fits g c = root-sum (accepts c.in_ok-plan.ensures.answer)
 
-pub header_of-header-requires-clause-rows : goal.header_of-header-requires-clause-rows
-header_of-header-requires-clause-rows g c = rows-small (accepts c.in_ok-plan.ensures.answer)
+pub header_of-header-requires-clause-rows_fit : goal.header_of-header-requires-clause-rows_fit
+header_of-header-requires-clause-rows_fit g c = rows-small (accepts c.in_ok-plan.ensures.answer)
 
 pub returns-clause-answer : goal.returns-clause-answer
 returns-clause-answer g c =

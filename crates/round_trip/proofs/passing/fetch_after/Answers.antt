@@ -10,23 +10,23 @@ use Rattle.round_trip.proofs.WholeWay.{accepts, root-sum, rows-small, on-accepte
 use Rattle.round_trip.proofs.Fetching.{drawn, given-is, not-refused, lists-stay, holds, its-id, if-answered}
 use Rattle.round_trip.proofs.passing.fetch_after.Goals as goal
 
-pub header_of-requires-clause-root : goal.header_of-requires-clause-root
-header_of-requires-clause-root g c = root-sum (accepts c.in_ok-plan.ensures.answer)
+pub header_of-requires-clause-root_fits : goal.header_of-requires-clause-root_fits
+header_of-requires-clause-root_fits g c = root-sum (accepts c.in_ok-plan.ensures.answer)
 
-pub header_of-requires-clause-rows : goal.header_of-requires-clause-rows
-header_of-requires-clause-rows g c = rows-small (accepts c.in_ok-plan.ensures.answer)
+pub header_of-requires-clause-rows_fit : goal.header_of-requires-clause-rows_fit
+header_of-requires-clause-rows_fit g c = rows-small (accepts c.in_ok-plan.ensures.answer)
 
 -- the writer accepts, so that the object has an ID
 pub returns-in_err-id : goal.returns-in_err-id
 returns-in_err-id g c =
     absurd (not-refused (accepts c.in_ok-plan.ensures.answer)
-    (drawn c.requires.index c.requires.front c.requires.not_empty c.serialize_and_pass.auto.offsets
+    (drawn c.requires.among_early c.requires.early_in_list c.requires.not_empty c.serialize_and_pass.auto.offsets
     c.serialize_and_pass.auto.blocks) c.in_err-id.ensures.answer)
 
 pub returns-clause-answer : goal.returns-clause-answer
 returns-clause-answer g c =
     let A = accepts c.in_ok-plan.ensures.answer in
-    let D = drawn c.requires.index c.requires.front c.requires.not_empty c.serialize_and_pass.auto.offsets
+    let D = drawn c.requires.among_early c.requires.early_in_list c.requires.not_empty c.serialize_and_pass.auto.offsets
     c.serialize_and_pass.auto.blocks in
     let d = given-is A D c.in_ok-id.ensures.answer in
     let file = c.serialize_and_pass.new.file in
@@ -38,7 +38,7 @@ returns-clause-answer g c =
 pub returns-clause-copied : goal.returns-clause-copied
 returns-clause-copied g c =
     let A = accepts c.in_ok-plan.ensures.answer in
-    let D = drawn c.requires.index c.requires.front c.requires.not_empty c.serialize_and_pass.auto.offsets
+    let D = drawn c.requires.among_early c.requires.early_in_list c.requires.not_empty c.serialize_and_pass.auto.offsets
     c.serialize_and_pass.auto.blocks in
     let d = given-is A D c.in_ok-id.ensures.answer in
     let file = c.serialize_and_pass.new.file in
@@ -50,9 +50,10 @@ returns-clause-copied g c =
 pub returns-clause-kept : goal.returns-clause-kept
 returns-clause-kept g c =
     let A = accepts c.in_ok-plan.ensures.answer in
-    let D = drawn c.requires.index c.requires.front c.requires.not_empty c.serialize_and_pass.auto.offsets
+    let D = drawn c.requires.among_early c.requires.early_in_list c.requires.not_empty c.serialize_and_pass.auto.offsets
     c.serialize_and_pass.auto.blocks in
-    let I = its-id A c.requires.index c.requires.front c.requires.not_empty (given-is A D c.in_ok-id.ensures.answer) in
+    let id = given-is A D c.in_ok-id.ensures.answer in
+    let I = its-id A c.requires.among_early c.requires.early_in_list c.requires.not_empty id in
     if-accepted A _
     (λ region room.
     let H = holds A c.header_of.ensures (record { region_there = region }) in
@@ -61,7 +62,7 @@ returns-clause-kept g c =
 pub returns-clause-lists : goal.returns-clause-lists
 returns-clause-lists g c =
     let A = accepts c.in_ok-plan.ensures.answer in
-    let D = drawn c.requires.index c.requires.front c.requires.not_empty c.serialize_and_pass.auto.offsets
+    let D = drawn c.requires.among_early c.requires.early_in_list c.requires.not_empty c.serialize_and_pass.auto.offsets
     c.serialize_and_pass.auto.blocks in
     on-accepted A (lists-stay A D c.in_ok-plan.ensures.lists c.early_id.ensures.offsets_after
     c.early_id.ensures.blocks_after)

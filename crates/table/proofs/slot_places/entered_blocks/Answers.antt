@@ -1,6 +1,5 @@
 -- What is left of `entered_blocks`: a direct slot adds nothing, and each level of the descent adds its own block.
 use Rattle.std.proofs.Common.{arith}
-use Rattle.table.specs.Slots.{table_slot}
 use Rattle.table.proofs.Locating.{direct-slot, deep-slot, deep_start, entered-small}
 use Rattle.table.proofs.Locating.{entering-start, entering-done, entering-more}
 use Rattle.table.proofs.slot_places.entered_blocks.Goals as goal
@@ -13,7 +12,6 @@ returns-then-is_direct c =
     entering-done c.loop-at.invariant (direct-slot _ c.table_slot-at.ensures.value c.if-is_direct.ensures)
 
 pub overflow_add-total : goal.overflow_add-total
-unfolding table_slot
 overflow_add-total c =
     let e = c.table_slot-at.ensures.value in
     let deep = deep-slot _ e c.if-is_direct.ensures in
@@ -26,7 +24,6 @@ loop-at-smaller c =
     omega arith
 
 pub loop-at-preserved : goal.loop-at-preserved
-unfolding table_slot
 loop-at-preserved c =
     let e = c.table_slot-at.ensures.value in
     let deep = deep-slot _ e c.if-is_direct.ensures in

@@ -1,6 +1,5 @@
 -- What is left of `locate`: a direct slot is the one to find, and each level of the descent leaves it the same.
 use Rattle.std.proofs.Common.{arith}
-use Rattle.table.specs.Slots.{table_slot}
 use Rattle.table.proofs.Locating.{direct-slot, deep-slot, deep_start, loc_start, loc_direct, loc_deeper}
 use Rattle.table.proofs.slot_places.locate.Goals as goal
 
@@ -8,7 +7,6 @@ pub loop-at-init : goal.loop-at-init
 loop-at-init c = loc_start c.args.offset c.requires
 
 pub returns-then-is_direct : goal.returns-then-is_direct
-unfolding table_slot
 returns-then-is_direct c =
     let e = c.table_slot-at.ensures.value in
     rw e (loc_direct c.loop-at.invariant (direct-slot _ e c.if-is_direct.ensures))
@@ -19,7 +17,6 @@ loop-at-smaller c =
     omega arith
 
 pub loop-at-preserved : goal.loop-at-preserved
-unfolding table_slot
 loop-at-preserved c =
     let e = c.table_slot-at.ensures.value in
     rw e (loc_deeper c.loop-at.invariant (deep-slot _ e c.if-is_direct.ensures))

@@ -12,4 +12,4 @@ returns c accepts k l =
     let first = take k c.args.sizes.now in
     accepted _ _ _ (sym c.tools_plan.ensures.number ∙ zero) (c.tools_plan.ensures.kept zero)
     (λ (plan : ManagedPlan) (kept : PlanKept c.args.sizes.now c.args.offset_size plan).
-    (kept.front-parts k (length first) (max 1 (length first)) (omega arith) (omega arith)).same_offsets)
+    (kept.front_parts k (length first) (max 1 (length first)) (omega arith) (omega arith)).same_offsets)

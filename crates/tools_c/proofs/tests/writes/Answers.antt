@@ -9,4 +9,4 @@ pub returns : goal.returns
 returns c accepts i j x p q =
     let zero : c.tools_serialize.result ≡ 0 = eqb-true c.tools_serialize.result 0 accepts in
     accepted _ _ _ (sym c.tools_serialize.ensures.number ∙ zero) (c.tools_serialize.ensures.kept zero)
-    (λ (plan : ManagedPlan) (kept : PlanKept c.args.sizes.now 8 plan). kept.no-shared-byte i j x p q)
+    (λ (plan : ManagedPlan) (kept : PlanKept c.args.sizes.now 8 plan). kept.no_shared_byte i j x p q)

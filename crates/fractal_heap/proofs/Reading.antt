@@ -1,0 +1,352 @@
+-- What is read is spelled, each byte of it.
+use Rattle.std.proofs.Common.{◌≡◌, refl, sym, ap, ap₂, subst, ◌∙◌, ℕ, zero, suc, ◌+◌, ◌-◌, ◌*◌, ◌^◌, ◌%◌, ◌/◌, ◌<◌, ◌≤◌, List, [], ◌∷◌, ◌++◌}
+use Rattle.std.proofs.Common.{length, take, drop, true, append_assoc, take_at, length-append, length-drop, drop-drop, drop-cons, length-take-le, length-take, get_or-drop, inl, inr, arith}
+use Rattle.std.proofs.lemmas.Bool.{cases_lt}
+use Rattle.std.proofs.lemmas.List.{get_or-take, get_or_past, take-append-drop}
+use Rattle.std.proofs.lemmas.Grind.{common_steps}
+use Rattle.std.proofs.lemmas.Bool.Decides.{nat_tests}
+use Rattle.std.proofs.lemmas.Slice.Eq.{bytes_eq-Decides}
+use Rattle.std.specs.Prelude.{slice_index, bytes_eq, nat_le, ◌==◌, Bool, false, Result, Ok, Err}
+use Rattle.refusals.specs.Steps.{◌>>=◌, required}
+use Rattle.refusals.specs.declared.FormatError.TheVariants.{InvalidFractalHeapSignature, InvalidFractalHeapVersion}
+use Rattle.checksum.specs.Lookup3.{hashlittle}
+use Rattle.fields.specs.Signatures.{header_signature}
+use Rattle.fractal_heap.specs.Frame.{start_checked, sum_checked}
+use Rattle.refusals.specs.declared.FormatError.{FormatError}
+use Rattle.fields.specs.LittleEndian.{le, value, le_at}
+use Rattle.fields.specs.Widths.{legal}
+use Rattle.fields.specs.Fields.{len_ensured}
+use Rattle.fields.proofs.LittleEndian.{length-le, value-lt}
+use Rattle.fractal_heap.specs.Header.{fields_at, sum_place, header_at, header_numbers}
+use Rattle.fractal_heap.specs.SpellingLaws.{ReadIsSpelled}
+use Rattle.fractal_heap.specs.HeaderReader.{offset_field, length_field}
+use Rattle.fractal_heap.specs.Groups.{front_fields, object_fields, table_fields, root_fields}
+use Rattle.fractal_heap.specs.Spelling.{spelled, AllFit, field_widths, unsummed, header_spelled}
+use Rattle.fractal_heap.specs.declared.header.FractalHeapHeader.{FractalHeapHeader}
+use Rattle.fractal_heap.specs.declared.header_fields.FrontFields.{FrontFields}
+use Rattle.fractal_heap.specs.declared.header_fields.ObjectFields.{ObjectFields}
+use Rattle.fractal_heap.specs.declared.header_fields.TableFields.{TableFields}
+use Rattle.fractal_heap.specs.declared.header_fields.RootFields.{RootFields}
+use Rattle.fractal_heap.proofs.Holding.{span, Held, length-spelled}
+use Rattle.fractal_heap.proofs.Spelling.{paired}
+
+-- ---- numbers that stand in a file, as bytes
+
+abbrev pub IsBytes : List ℕ → Type 0
+IsBytes bs = (j : ℕ) → slice_index bs j < 256
+
+le-value : (w : ℕ) (bs : List ℕ) → IsBytes bs → length bs ≡ w → le w (value bs) ≡ bs
+unfolding le value
+le-value zero [] h e = refl
+le-value (suc w) [] h e = absurd (omega (arith, e))
+le-value zero (b ∷ bs) h e = absurd (omega (arith, e))
+le-value (suc w) (b ∷ bs) h e =
+    let low : (b + value bs * 256) % 256 ≡ b = omega (arith, h 0) in
+    let high : (b + value bs * 256) / 256 ≡ value bs = omega (arith, h 0) in
+    rw (low, high, le-value w bs (λ j. h (suc j)) (omega (arith, e))) refl
+
+part-bytes : (s : List ℕ) (p w : ℕ) → IsBytes s → IsBytes (take w (drop p s))
+part-bytes s p w h j =
+    elim (cases_lt j w) [
+      | inl lt ↦ rw (get_or-take w (drop p s) j 0 lt, get_or-drop p s j 0) (h (p + j))
+      | inr le ↦ rw (get_or_past (take w (drop p s)) j 0 (omega (arith, length-take w (drop p s)))) (omega arith)
+    ]
+
+pub front-bytes : (s : List ℕ) (p w x : ℕ) → IsBytes s → p + w ≤ length s → le_at s p w ≡ x → le w x ≡ take w (drop p s)
+unfolding le_at
+front-bytes s p w x h l e =
+    ap (le w) (sym e) ∙ le-value w (take w (drop p s)) (part-bytes s p w h) (length-take-le w (drop p s) (rw length-drop (omega arith)))
+
+fits-width : (s : List ℕ) (p w x : ℕ) → IsBytes s → p + w ≤ length s → le_at s p w ≡ x → x < 2 ^ (8 * w)
+unfolding le_at
+fits-width s p w x h l e =
+    let n : length (take w (drop p s)) ≡ w = length-take-le w (drop p s) (rw length-drop (omega arith)) in
+    subst (λ (y : ℕ). y < 2 ^ (8 * w)) e (subst (λ (m : ℕ). value (take w (drop p s)) < 2 ^ (8 * m)) n (value-lt (take w (drop p s)) (part-bytes s p w h)))
+
+pub held-spelled : (ws ns : List ℕ) (s : List ℕ) (p : ℕ) → IsBytes s → p ≤ length s → Held s p ws ns
+    → AllFit ws ns × (drop p s ≡ spelled ws ns ++ drop (p + span ws) s)
+unfolding Held spelled span AllFit
+held-spelled [] ns s p h l H = (tt, ap (λ (q : ℕ). drop q s) (omega arith))
+held-spelled (w ∷ ws) [] s p h l H = absurd H
+held-spelled (w ∷ ws) (n ∷ ns) s p h l H =
+    let r = held-spelled ws ns s (p + w) h H.0 H.2 in
+    let e : le w n ≡ take w (drop p s) = front-bytes s p w n h H.0 H.1 in
+    let c : p + w + span ws ≡ p + (w + span ws) = omega arith in
+    let whole : drop p s ≡ take w (drop p s) ++ drop (p + w) s =
+    sym (take-append-drop w (drop p s)) ∙ ap (λ (ys : List ℕ). take w (drop p s) ++ ys) (drop-drop w p s) in (
+      (fits-width s p w n h H.0 H.1, r.0),
+      whole
+          ∙ ap₂ (λ (xs ys : List ℕ). xs ++ ys) (sym e) (r.1 ∙ ap (λ (q : ℕ). spelled ws ns ++ drop q s) c)
+          ∙ sym (append_assoc (le w n) (spelled ws ns) (drop (p + (w + span ws)) s)),
+    )
+
+-- ---- the fields that are read stand there
+
+-- numbers of these widths stand from p on, and end at q
+record Gave (s : List ℕ) (p q : ℕ) (ws ns : List ℕ) : Type 0 where
+  held : Held s p ws ns
+  end : q ≡ p + span ws
+
+held-join : (ws vs ns ms : List ℕ) (s : List ℕ) (p : ℕ) → Held s p ws ns → Held s (p + span ws) vs ms → Held s p (ws ++ vs) (ns ++ ms)
+unfolding Held span
+held-join [] vs ns ms s p a b =
+    let e : p + 0 ≡ p = omega arith in
+    rw a (subst (λ (q : ℕ). Held s q vs ms) e b)
+held-join (w ∷ ws) vs [] ms s p a b = absurd a
+held-join (w ∷ ws) vs (n ∷ ns) ms s p a b =
+    let e : p + (w + span ws) ≡ p + w + span ws = omega arith in
+    (a.0, a.1, held-join ws vs ns ms s (p + w) a.2 (subst (λ (q : ℕ). Held s q vs ms) e b))
+
+span-append : (ws vs : List ℕ) → span (ws ++ vs) ≡ span ws + span vs
+unfolding span
+span-append [] vs = omega arith
+span-append (w ∷ ws) vs = omega (arith, span-append ws vs)
+
+-- one group behind another
+gave-append : (s : List ℕ) (p q r : ℕ) (ws ns vs ms : List ℕ) → Gave s p q ws ns → Gave s q r vs ms → Gave s p r (ws ++ vs) (ns ++ ms)
+gave-append s p q r ws ns vs ms a b =
+    record {
+      held = held-join ws vs ns ms s p a.held (subst (λ (x : ℕ). Held s x vs ms) a.end b.held);
+      end = omega (arith, a.end, b.end, span-append ws vs);
+    }
+
+pub bind_ok : {T U : Type 0} (r : Result T FormatError) (f : T → Result U FormatError) (y : U) → (r >>= f) ≡ Ok y
+    → (x : T) × (r ≡ Ok x) × (f x ≡ Ok y)
+bind_ok (Ok x) f y e = (x, refl, e)
+bind_ok (Err d) f y e = absurd cc
+
+abbrev done : {T : Type 0} → T → Result T FormatError
+done x = Ok x
+
+pub ok_is : {T : Type 0} (x y : T) → done x ≡ done y → x ≡ y
+ok_is x y e = cc
+
+pub required_ok : (b : Bool) (e : FormatError) (x : Unit {0}) → required b e ≡ Ok x → b ≡ true
+required_ok true e x r = refl
+required_ok false e x r = absurd cc
+
+abbrev front_widths : List ℕ
+front_widths = 2 ∷ 2 ∷ 1 ∷ 4 ∷ []
+
+abbrev front_numbers : FrontFields → List ℕ
+front_numbers f = f.heap_id_length ∷ f.io_filter_encoded_length ∷ f.flags ∷ f.max_managed_object_size ∷ []
+
+front-gave : (s : List ℕ) (p q : ℕ) (f : FrontFields) → front_fields s p ≡ Ok (f, q) → Gave s p q front_widths (front_numbers f)
+unfolding Held span
+front-gave s p q f e = grind (arith, common_steps)
+
+abbrev object_widths : ℕ → ℕ → List ℕ
+object_widths os ls = ls ∷ os ∷ ls ∷ os ∷ ls ∷ ls ∷ ls ∷ ls ∷ []
+
+abbrev object_numbers : ObjectFields → List ℕ
+object_numbers o =
+    o.next_huge_object_id
+    ∷ o.btree_huge_objects_address
+    ∷ o.free_space_managed_blocks
+    ∷ o.managed_block_free_space_manager_address
+    ∷ o.managed_space_in_heap
+    ∷ o.allocated_managed_space_in_heap
+    ∷ o.direct_block_allocation_iterator_offset
+    ∷ o.managed_objects_count
+    ∷ []
+
+-- what a step tells that gave a number: its width is one, it is there, and the next field begins behind it
+record Found (s : List ℕ) (p w x q : ℕ) : Type 0 where
+  width : legal w ≡ true
+  there : p + w ≤ length s
+  number : le_at s p w ≡ x
+  next : q ≡ p + w
+
+offset-found : (s : List ℕ) (p os x q : ℕ) → offset_field s p os ≡ Ok (x, q) → Found s p os x q
+offset-found s p os x q e = grind (arith, common_steps)
+
+length-found : (s : List ℕ) (p ls x q : ℕ) → length_field s p ls ≡ Ok (x, q) → Found s p ls x q
+length-found s p ls x q e = grind (arith, common_steps)
+
+ensured : (s : List ℕ) (p n : ℕ) → len_ensured s p n ≡ Ok tt → p + n ≤ length s
+ensured s p n e = grind (arith, nat_tests, required_ok (nat_le (p + n) (length s)) _ tt e)
+
+-- the fields of the group stand where its tests have them
+objects-held : (s : List ℕ) (p a q os ls x n : ℕ) → p + ls ≤ length s → Found s (p + ls) os x a → a + (4 * ls + os) ≤ length s
+    → Found s (a + ls + os + ls + ls + ls) ls n q
+    → Gave s p q (object_widths os ls)
+    (le_at s p ls ∷ x ∷ le_at s a ls ∷ le_at s (a + ls) os ∷ le_at s (a + ls + os) ls ∷ le_at s (a + ls + os + ls) ls
+    ∷ le_at s (a + ls + os + ls + ls) ls ∷ n ∷ [])
+unfolding Held span
+objects-held s p a q os ls x n first tree five count = grind arith
+
+objects-gave : (s : List ℕ) (p q os ls : ℕ) (o : ObjectFields) → object_fields s p os ls ≡ Ok (o, q)
+    → Gave s p q (object_widths os ls) (object_numbers o)
+objects-gave s p q os ls o e =
+    let a = bind_ok (len_ensured s p ls) _ (o, q) e in
+    let b = bind_ok (offset_field s (p + ls) os) _ (o, q) a.2 in
+    let c = bind_ok (len_ensured s b.0.1 (4 * ls + os)) _ (o, q) b.2 in
+    let d = bind_ok (length_field s (b.0.1 + ls + os + ls + ls + ls) ls) _ (o, q) c.2 in
+    let tree = offset-found s (p + ls) os b.0.0 b.0.1 b.1 in
+    let count = length-found s (b.0.1 + ls + os + ls + ls + ls) ls d.0.0 d.0.1 d.1 in
+    let five = ensured s b.0.1 (4 * ls + os) c.1 in
+    subst (λ (y : ObjectFields × ℕ). Gave s p y.1 (object_widths os ls) (object_numbers y.0)) (ok_is _ (o, q) d.2)
+    (objects-held s p b.0.1 d.0.1 os ls b.0.0 d.0.0 (ensured s p ls a.1) tree five count)
+
+-- a group that was read has widths that are such
+object-widths : (s : List ℕ) (p q os ls : ℕ) (o : ObjectFields) → object_fields s p os ls ≡ Ok (o, q)
+    → (legal os ≡ true) × (legal ls ≡ true)
+object-widths s p q os ls o e =
+    let a = bind_ok (len_ensured s p ls) _ (o, q) e in
+    let b = bind_ok (offset_field s (p + ls) os) _ (o, q) a.2 in
+    let c = bind_ok (len_ensured s b.0.1 (4 * ls + os)) _ (o, q) b.2 in
+    let d = bind_ok (length_field s (b.0.1 + ls + os + ls + ls + ls) ls) _ (o, q) c.2 in (
+      (offset-found s (p + ls) os b.0.0 b.0.1 b.1).width,
+      (length-found s (b.0.1 + ls + os + ls + ls + ls) ls d.0.0 d.0.1 d.1).width,
+    )
+
+abbrev table_widths : ℕ → List ℕ
+table_widths ls = ls ∷ ls ∷ ls ∷ ls ∷ 2 ∷ ls ∷ ls ∷ 2 ∷ []
+
+abbrev table_numbers : TableFields → List ℕ
+table_numbers t =
+    t.huge_objects_size
+    ∷ t.huge_objects_count
+    ∷ t.tiny_objects_size
+    ∷ t.tiny_objects_count
+    ∷ t.table.table_width
+    ∷ t.table.starting_block_size
+    ∷ t.table.max_direct_block_size
+    ∷ t.table.max_heap_size
+    ∷ []
+
+table-gave : (s : List ℕ) (p q ls : ℕ) (t : TableFields) → table_fields s p ls ≡ Ok (t, q)
+    → Gave s p q (table_widths ls) (table_numbers t)
+unfolding Held span
+table-gave s p q ls t e = grind (arith, common_steps)
+
+abbrev root_widths : ℕ → List ℕ
+root_widths os = 2 ∷ os ∷ 2 ∷ []
+
+abbrev root_numbers : RootFields → List ℕ
+root_numbers r = r.start_root_rows ∷ r.root_block_address ∷ r.current_rows_in_root_indirect_block ∷ []
+
+root-gave : (s : List ℕ) (p q os : ℕ) (r : RootFields) → root_fields s p os ≡ Ok (r, q)
+    → Gave s p q (root_widths os) (root_numbers r)
+unfolding Held span
+root-gave s p q os r e = grind (arith, common_steps)
+
+fields-gave : (s : List ℕ) (p q os ls : ℕ) (h : FractalHeapHeader) → fields_at s p os ls ≡ Ok (h, q)
+    → Gave s p q (field_widths os ls) (header_numbers h)
+fields-gave s p q os ls h e =
+    let a = bind_ok (front_fields s p) _ (h, q) e in
+    let b = bind_ok (object_fields s a.0.1 os ls) _ (h, q) a.2 in
+    let c = bind_ok (table_fields s b.0.1 ls) _ (h, q) b.2 in
+    let d = bind_ok (root_fields s c.0.1 os) _ (h, q) c.2 in
+    let f = a.0.0 in
+    let o = b.0.0 in
+    let t = c.0.0 in
+    let r = d.0.0 in
+    let gr = root-gave s c.0.1 d.0.1 os r d.1 in
+    let gt = gave-append s b.0.1 c.0.1 d.0.1 (table_widths ls) (table_numbers t) (root_widths os) (root_numbers r) (table-gave s b.0.1 c.0.1 ls t c.1) gr in
+    let go = gave-append s a.0.1 b.0.1 d.0.1 (object_widths os ls) (object_numbers o) (table_widths ls ++ root_widths os) (table_numbers t ++ root_numbers r) (objects-gave s a.0.1 b.0.1 os ls o b.1) gt in
+    let gf = gave-append s p a.0.1 d.0.1 front_widths (front_numbers f) (object_widths os ls ++ (table_widths ls ++ root_widths os)) (object_numbers o ++ (table_numbers t ++ root_numbers r)) (front-gave s p a.0.1 f a.1) go in
+    subst (λ (y : FractalHeapHeader × ℕ). Gave s p y.1 (field_widths os ls) (header_numbers y.0)) (ok_is _ (h, q) d.2) gf
+
+-- ---- the whole header
+
+pub record Started (s : List ℕ) (p next : ℕ) : Type 0 where
+  pub first : next ≡ p + 5
+  pub room : p + 5 ≤ length s
+  pub front : drop p s ≡ header_signature ++ 0 ∷ drop (p + 5) s
+
+start-gave : (s : List ℕ) (p next : ℕ) → start_checked s p ≡ Ok next → Started s p next
+start-gave s p next e =
+    let a = bind_ok (len_ensured s p 5) _ next e in
+    let b = bind_ok (required (bytes_eq (take 4 (drop p s)) header_signature) InvalidFractalHeapSignature) _ next a.2 in
+    let c = bind_ok (required (slice_index s (p + 4) == 0) (InvalidFractalHeapVersion (slice_index s (p + 4)))) _ next b.2 in
+    let room : p + 5 ≤ length s = grind (arith, nat_tests, required_ok (nat_le (p + 5) (length s)) _ a.0 a.1) in
+    let signature : take 4 (drop p s) ≡ header_signature =
+    (bytes_eq-Decides (take 4 (drop p s)) header_signature).0 (required_ok _ _ b.0 b.1) in
+    let version : slice_index s (p + 4) ≡ 0 = grind (arith, nat_tests, required_ok _ _ c.0 c.1) in
+    let next_place : suc (p + 4) ≡ p + 5 = omega arith in
+    let behind : drop 4 (drop p s) ≡ 0 ∷ drop (p + 5) s =
+    drop-drop 4 p s
+    ∙ drop-cons s (p + 4) 0 (omega (arith, room))
+    ∙ ap₂ (λ (x k : ℕ). x ∷ drop k s) version next_place in
+    record {
+      first = sym (ok_is (p + 5) next c.2);
+      room = room;
+      front = sym (take-append-drop 4 (drop p s)) ∙ ap₂ (λ (xs ys : List ℕ). xs ++ ys) signature behind;
+    }
+
+sum-gave : (s : List ℕ) (p q : ℕ) → sum_checked s p q ≡ Ok tt
+    → (q + 4 ≤ length s) × (le_at s q 4 ≡ hashlittle (take (q - p) (drop p s)))
+sum-gave s p q e =
+    let a = bind_ok (len_ensured s q 4) _ tt e in
+    (grind (arith, nat_tests, required_ok (nat_le (q + 4) (length s)) _ a.0 a.1), grind (arith, nat_tests, required_ok _ _ tt a.2))
+
+module _ (h : FractalHeapHeader) (s : List ℕ) (p os ls : ℕ) (bytes : IsBytes s) (plain : h.io_filter_encoded_length ≡ 0) where
+  abbrev fields : List ℕ
+  fields = spelled (field_widths os ls) (header_numbers h)
+
+  abbrev unsummed_here : List ℕ
+  unsummed_here = unsummed h os ls
+
+  -- from where the fields end, and the checksum stands
+  spelled-here : (q : ℕ) → Started s p (p + 5) → Gave s (p + 5) q (field_widths os ls) (header_numbers h)
+      → sum_checked s p q ≡ Ok tt
+      → AllFit (field_widths os ls) (header_numbers h) × (drop p s ≡ header_spelled h os ls ++ drop (p + length (header_spelled h os ls)) s)
+  spelled-here q start gave right =
+      let held = held-spelled (field_widths os ls) (header_numbers h) s (p + 5) bytes start.room gave.held in
+      let sum = sum-gave s p q right in
+      let here : drop (p + 5) s ≡ fields ++ drop q s =
+      held.1 ∙ ap (λ (k : ℕ). fields ++ drop k s) (sym gave.end) in
+      let whole : drop p s ≡ unsummed_here ++ drop q s =
+      start.front ∙ ap (λ (ys : List ℕ). header_signature ++ 0 ∷ ys) here in
+      let n : length fields ≡ span (field_widths os ls) =
+      length-spelled (field_widths os ls) (header_numbers h) (paired h os ls) in
+      let long : length unsummed_here ≡ q - p = omega (arith, n, gave.end) in
+      let covered : take (q - p) (drop p s) ≡ unsummed_here =
+      ap (take (q - p)) whole ∙ take_at unsummed_here (drop q s) (q - p) long in
+      let stored : le_at s q 4 ≡ hashlittle unsummed_here = sum.1 ∙ ap hashlittle covered in
+      let sealed : le 4 (hashlittle unsummed_here) ≡ take 4 (drop q s) =
+      front-bytes s q 4 (hashlittle unsummed_here) bytes sum.0 stored in
+      let last : drop q s ≡ le 4 (hashlittle unsummed_here) ++ drop (q + 4) s =
+      sym (take-append-drop 4 (drop q s)) ∙ ap₂ (λ (xs ys : List ℕ). xs ++ ys) (sym sealed) (drop-drop 4 q s) in
+      let end : q + 4 ≡ p + length (header_spelled h os ls) =
+      omega (
+        arith,
+        long,
+        gave.end,
+        length-append unsummed_here (le 4 (hashlittle unsummed_here)),
+        length-le 4 (hashlittle unsummed_here),
+      ) in (
+        held.0,
+        whole
+            ∙ ap (λ (ys : List ℕ). unsummed_here ++ ys) last
+            ∙ sym (append_assoc unsummed_here (le 4 (hashlittle unsummed_here)) (drop (q + 4) s))
+            ∙ ap (λ (k : ℕ). header_spelled h os ls ++ drop k s) end,
+      )
+
+pub read-spelled : ReadIsSpelled
+read-spelled h s p os ls bytes plain e =
+    let a = bind_ok (start_checked s p) _ h e in
+    let b = bind_ok (fields_at s a.0 os ls) _ h a.2 in
+    let c = bind_ok (sum_checked s p (sum_place b.0.0.io_filter_encoded_length ls b.0.1)) _ h b.2 in
+    let same : b.0.0 ≡ h = ok_is b.0.0 h c.2 in
+    let start = start-gave s p a.0 a.1 in
+    let gave : Gave s (p + 5) b.0.1 (field_widths os ls) (header_numbers h) =
+    subst (λ (x : ℕ). Gave s x b.0.1 (field_widths os ls) (header_numbers h)) start.first
+    (subst (λ (y : FractalHeapHeader). Gave s a.0 b.0.1 (field_widths os ls) (header_numbers y)) same
+    (fields-gave s a.0 b.0.1 os ls b.0.0 b.1)) in
+    let no_filter : b.0.0.io_filter_encoded_length ≡ 0 =
+    ap (λ (y : FractalHeapHeader). y.io_filter_encoded_length) same ∙ plain in
+    let right : sum_checked s p b.0.1 ≡ Ok tt =
+    sym (ap (λ (f : ℕ). sum_checked s p (sum_place f ls b.0.1)) no_filter) ∙ c.1 in
+    let begun : Started s p (p + 5) = record { first = refl; room = start.room; front = start.front } in
+    spelled-here h s p os ls bytes plain b.0.1 begun gave right
+
+pub read-widths : (h : FractalHeapHeader) (s : List ℕ) (p os ls : ℕ) → header_at s p os ls ≡ Ok h
+    → (legal os ≡ true) × (legal ls ≡ true)
+read-widths h s p os ls e =
+    let a = bind_ok (start_checked s p) _ h e in
+    let b = bind_ok (fields_at s a.0 os ls) _ h a.2 in
+    let c = bind_ok (front_fields s a.0) _ b.0 b.1 in
+    let d = bind_ok (object_fields s c.0.1 os ls) _ b.0 c.2 in
+    object-widths s c.0.1 d.0.1 os ls d.0.0 d.1
