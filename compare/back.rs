@@ -237,8 +237,19 @@ impl Run<'_> {
     }
 }
 
+/// A largest managed size: that of the largest object, of a length of three bytes or more, or any from the first on.
+fn largest_managed(random: &mut Random, sizes: &[u64]) -> u32 {
+    let least = sizes.iter().copied().max().unwrap_or(0);
+    let any = least + random.below((1 << 32) - least);
+    let shifted = any >> random.below(17);
+    let size = random.one(&[least, least.max(65_536), shifted, any, 0xFFFF_FFFF]);
+    size.max(least) as u32
+}
+
 struct Comparison<'a> {
     random: Random,
+    /// For largest managed sizes alone.
+    sizes: Random,
     /// Random bytes, from which objects and marks are taken.
     pool: &'a [u8],
     /// By width.
@@ -251,7 +262,7 @@ impl<'a> Comparison<'a> {
     }
 
     /// Writes the region by ours amid random bytes, holds it and them to the original's, and lays a header of the
-    /// fixed geometry, whose other fields are random.
+    /// fixed geometry, whose other fields are random, the largest managed size from the largest object's on.
     fn write(&mut self, file: &mut [u8], writing: &Writing, plan: &Plan, place: &Place) {
         let (region, header) = (&place.region, &place.header);
         let start = region.start.min(header.start).saturating_sub(20);
@@ -273,6 +284,7 @@ impl<'a> Comparison<'a> {
         let [_, _, rows, root, ..] = plan.totals;
         let mut head = made::fixed(region.start + root, rows as u16);
         head.id_length = self.random.number() as u16;
+        head.largest_managed = Some(largest_managed(&mut self.sizes, writing.sizes));
         let bytes = made::header(&mut self.random, &head, w, place.length_size);
         part(file, header.clone()).copy_from_slice(&bytes);
     }
@@ -378,6 +390,7 @@ pub fn compare(n: u64) -> Vec<Row> {
     let file = image::zeros();
     let mut comparison = Comparison {
         random: Random::new(31),
+        sizes: Random::new(45),
         pool: &pool,
         counts: Default::default(),
     };

@@ -1,4 +1,5 @@
 //! Sound heaps that are to be damaged: files, IDs for them, and the places at which damage matters.
+use crate::format;
 use crate::made::{self, Heap, Written};
 use crate::ours;
 use crate::random::Random;
@@ -83,7 +84,7 @@ fn any_table(random: &mut Random) -> (Heap, Vec<Vec<u8>>) {
 fn header_alone(random: &mut Random) -> (Heap, Vec<Vec<u8>>) {
     let (w, l) = (random.one(&[2, 4, 8]), random.one(&[4, 8]));
     let mut head = made::fixed(random.below(140), random.one(&[0, 0, 3]));
-    head.filter = random.one(&[0, 0, 1]);
+    head.filter = random.one(&[0, 0, 0, 0, 1, 40]);
     let heap = made::behind(random, Vec::new(), &head, [w, l]);
     let ids = [0; 4].map(|_| {
         let offset = random.below(80);
@@ -142,16 +143,13 @@ fn fields(heap: &Heap) -> Vec<Spot> {
     ];
     sizes.extend([(l, 1), (w, 1)]);
     sizes.extend([(l, 1); 8]);
-    sizes.extend([
-        (2, 3),
-        (l, 3),
-        (l, 3),
-        (2, 4),
-        (2, 1),
-        (w, 6),
-        (2, 4),
-        (4, 2),
-    ]);
+    sizes.extend([(2, 3), (l, 3), (l, 3), (2, 4), (2, 1), (w, 6), (2, 4)]);
+    let header = heap.file.get(heap.at as usize..).unwrap_or(&[]);
+    match format::filters_length(header).unwrap_or(0) {
+        0 => {}
+        filters => sizes.extend([(l, 2), (4, 2), (filters.into(), 2)]),
+    }
+    sizes.push((4, 2));
     let (mut at, mut spots) = (heap.at as usize, Vec::new());
     for (size, times) in sizes {
         if at + size <= heap.file.len() {
@@ -178,9 +176,9 @@ impl Bed {
             kind += 1;
         }
         let (heap, ids) = sound(random, kind);
-        let (w, l) = (heap.offset_size, heap.length_size);
-        let bits = match original::parse(&heap.file, heap.at, w, l) {
-            Ok(header) => header.fields()[7],
+        let w = heap.offset_size;
+        let bits = match format::parsed_of(&heap) {
+            Ok(parsed) => parsed.header.fields()[7],
             Err(_) => 40,
         };
         let indirect = places(&heap.file, b"FHIB");

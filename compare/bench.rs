@@ -1,6 +1,7 @@
 //! Times, ours against the original: one process, the same input, the two in turn, the best of many rounds. A table
 //! at the end; what each line measures is said in docs/BENCHMARKS.md.
 use crate::back::{by_rule, by_table};
+use crate::format;
 use crate::made::{self, Heap, Written};
 use crate::ours::{self, View, Writing, view_of};
 use crate::random::Random;
@@ -93,8 +94,9 @@ impl Times {
 /// A part by its name.
 pub type Part = (&'static str, fn(&mut Times));
 
-pub const PARTS: [Part; 8] = [
+pub const PARTS: [Part; 9] = [
     ("checksum", checksum),
+    ("slots", slots),
     ("plan", plan),
     ("header", header),
     ("decode", decode),
@@ -235,7 +237,7 @@ fn header(times: &mut Times) {
     let (heap, calls) = (header_alone(), 1 << 14);
     let ours = || {
         for _ in 0..calls {
-            let mut fields = [0; 23];
+            let mut fields = [0; format::COUNT];
             let number = ours::parse(black_box(&heap), &mut fields);
             black_box((number, fields));
         }
@@ -323,7 +325,7 @@ fn plain_header(fields: &[u64], [w, l]: [u8; 2], bytes: &mut [u8], slot: &mut [u
 fn header_written(times: &mut Times) {
     type Writer = fn(&[u64], [u8; 2], &mut [u8], &mut [u8]) -> u32;
     let heap = header_alone();
-    let (mut fields, calls) = ([0; 23], 1 << 14);
+    let (mut fields, calls) = ([0; format::COUNT], 1 << 14);
     assert_eq!(ours::parse(&heap, &mut fields), 0);
     let all = |writer: Writer| {
         let (mut bytes, mut slot) = ([0; 146], [0; 16]);
@@ -520,6 +522,77 @@ fn ids(times: &mut Times) {
         1 << 13,
         || all(ours::write_managed_id),
         || all(plain_id),
+    );
+}
+
+/// Plain Rust that walks the slots as the counting engine does: where it comes to, past the offset or not.
+fn plain_walk(
+    at: u64,
+    end: u64,
+    offset: u64,
+    passed: &mut impl FnMut(u64),
+) -> Result<[u64; 2], u64> {
+    let (mut here, mut size, mut next) = (at, 1_024, 1_024);
+    while here < end {
+        for _ in 0..4 {
+            if size > 65_536 {
+                here = match plain_walk(here, here + size, offset, passed) {
+                    Err(past) => past,
+                    found => return found,
+                };
+            } else if offset < here + size {
+                return Ok([here, size]);
+            } else {
+                passed(size);
+                here += size;
+            }
+        }
+        (size, next) = (next, next + next);
+    }
+    Err(here)
+}
+
+/// Slots: the descent against the original's, and counting against plain Rust, since the original does not count.
+fn slots(times: &mut Times) {
+    let mut random = Random::new(73);
+    let offsets: Vec<u64> = (0..4_096).map(|_| random.below(1 << 40)).collect();
+    let all = |f: &dyn Fn(u64) -> u64| {
+        offsets.iter().for_each(|&offset| {
+            black_box(f(black_box(offset)));
+        });
+    };
+    times.line(
+        "slot of an offset, by descent",
+        offsets.len(),
+        || all(&|offset| ours::locate(offset).1),
+        || all(&|offset| original::slot(offset).0),
+    );
+    let last = (1 << 40) - 1;
+    times.line(
+        "slot of the farthest offset, counted",
+        1,
+        || {
+            black_box(ours::count_to(black_box(last)));
+        },
+        || {
+            black_box(plain_walk(0, 1 << 40, black_box(last), &mut |_| ())).unwrap();
+        },
+    );
+    let counted = || {
+        let mut counts = [0_u64; 7];
+        let count = &mut |size: u64| counts[size.ilog2() as usize - 10] += 1;
+        black_box(plain_walk(0, 1 << 40, black_box(u64::MAX), count)).unwrap_err();
+        black_box(counts);
+    };
+    times.line(
+        "slots of 29 rows, counted by size",
+        1,
+        || {
+            let mut counts = [0; 7];
+            assert_eq!(ours::count_slots(black_box(29), &mut counts), 0);
+            black_box(counts);
+        },
+        counted,
     );
 }
 

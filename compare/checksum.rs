@@ -1,4 +1,5 @@
-//! The checksum, ours against the original: the tests' function and the loader's.
+//! The checksum, ours against the original: the tests' function and the loader's; the inverses of its mixes behind and
+//! before the original's mixes.
 use crate::ours;
 use crate::random::Random;
 use crate::summary::{Row, row};
@@ -38,4 +39,22 @@ pub fn compare(n: u64) -> Vec<Row> {
         same(&bytes[at..at + len]);
     }
     vec![row("jenkins_lookup3, fractal_heap_checksum", count)]
+}
+
+/// The inverse behind the original's mix and before it, and that of the final mix likewise, on `n` random states.
+pub fn undo(n: u64) -> Vec<Row> {
+    let mut random = Random::new(17);
+    for _ in 0..n {
+        let (x, y) = (random.next(), random.next());
+        let words = [x as u32, (x >> 32) as u32, y as u32];
+        let undone = [
+            ours::unmix(original::mix(words)),
+            original::mix(ours::unmix(words)),
+            ours::unfinal_mix(original::final_mix(words)),
+            original::final_mix(ours::unfinal_mix(words)),
+        ];
+        assert_eq!(undone, [words; 4]);
+    }
+    let what = "unmix, unfinal_mix, behind and before the original's";
+    vec![row(what, n)]
 }

@@ -2,8 +2,10 @@
 //! sound and some damaged IDs through the C functions that the loader calls. File and ID are lent with nothing
 //! readable around them (guarded.rs), so a read outside of them, or a store into them, ends the program.
 use crate::beds::{Bed, KINDS, Spot};
+use crate::format;
 use crate::guarded::{Edge, Lent};
 use crate::heap::{counted, hex, pinned, told};
+use crate::ids::unpadded;
 use crate::made::right_checksum;
 use crate::ours::{self, View};
 use crate::panics::{self, Panics, caught};
@@ -301,15 +303,16 @@ struct Counts {
 const READ: usize = 0;
 const DECODE: usize = 1;
 
-/// What the original answers. Where it panics in the case that DIFFERENCES.md knows (shifts by the heap's bits), what
-/// it says to the part of the ID that counts; else nothing is due.
+/// What the original answers by the ID without its padding. Where it panics in the case that DIFFERENCES.md knows (shifts
+/// by the heap's bits), what it says to the part of the ID that counts; else nothing is due.
 fn due<T>(
     counts: &mut Counts,
     function: usize,
     (header, view, id): (&Header, View, &[u8]),
     call: impl Fn(&[u8]) -> T,
 ) -> Option<T> {
-    let kind = match caught(|| call(id)) {
+    let bare = unpadded(header, id);
+    let kind = match caught(|| call(&bare)) {
         Ok(answer) => return Some(answer),
         Err(kind) => kind,
     };
@@ -324,7 +327,7 @@ fn due<T>(
     });
     counts.panicked[function] += 1;
     counts.unknown += u64::from(!known);
-    known.then(|| call(counted(id)))
+    known.then(|| call(counted(&bare)))
 }
 
 impl Counts {
@@ -394,9 +397,7 @@ impl Counts {
 
     /// A damaged heap with some IDs; fewer if its header is refused.
     fn heap(&mut self, work: &mut Work, bed: &Bed) {
-        let View { file, at, .. } = work.view();
-        let [w, l] = work.widths;
-        let parsed = original::parse(file, at, w, l);
+        let parsed = format::parsed(work.view()).map(|parsed| parsed.header);
         self.damaged[bed.kind] += 1;
         for _ in 0..if parsed.is_ok() { READS } else { 2 } {
             work.any_id(bed);

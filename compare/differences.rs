@@ -2,6 +2,8 @@
 //! 6 and 10, whose inputs are long, are kept in `heap.rs` and `plan.rs`. What is expected is the original's, or that
 //! of a paper; the comments say where the format has another answer.
 use crate::back::by_rule;
+use crate::format;
+use crate::ids::{Sizes, by_format};
 use crate::made::{self, Head, Heap, Written};
 use crate::ours::{self, Writing};
 use crate::panics::{self, caught};
@@ -10,30 +12,35 @@ use crate::random::Random;
 use crate::summary::{Row, row};
 use original::{Answer, Header, Plan};
 
-/// Where the fields of a header stand that no head has: flags, and the largest managed size.
+/// Where the flags of a header stand, which differ here alone.
 const FLAGS: usize = 9;
-const LARGEST: std::ops::Range<usize> = 10..14;
 
-/// A file with a header at 0, of widths 2 and 4 and with the largest managed size of the fixed geometry, and then
-/// these bytes.
+/// A file with a header at 0, of widths 2 and 4, and then these bytes.
 fn file_of(head: &Head, rest: &[u8]) -> Heap {
     let (offset_size, length_size) = (2, 4);
     let mut file = made::header(&mut Random::new(1), head, offset_size, length_size);
     file.extend_from_slice(rest);
-    let heap = Heap {
+    Heap {
         file,
         at: 0,
         offset_size,
         length_size,
-    };
-    with_largest(heap, 65_520)
+    }
 }
 
-/// The same heap with another largest managed size.
-fn with_largest(mut heap: Heap, size: u32) -> Heap {
-    heap.file[LARGEST].copy_from_slice(&size.to_le_bytes());
-    heap.mend();
-    heap
+/// The fixed geometry with this largest managed size, and a root that is still to come.
+fn with_largest(size: u32) -> Head {
+    Head {
+        largest_managed: Some(size),
+        ..made::fixed(0, 0)
+    }
+}
+
+/// A header alone, of the fixed geometry but for the largest managed size and the heap bits.
+fn largest_with(size: u32, bits: u16) -> Heap {
+    let mut head = with_largest(size);
+    head.bits = bits;
+    file_of(&head, &[])
 }
 
 /// A header alone, of the fixed geometry but for two fields.
@@ -99,17 +106,27 @@ fn written(sizes: &[u64]) -> [Written; 2] {
     [write(original::region), write(ours::region)]
 }
 
-/// 1. A filtered header with its checksum where the format has it: after one byte of filter information.
+/// 1. A filtered header with its checksum where the format has it: after one byte of filter information. The original takes
+/// this byte and the first three of the checksum for the checksum, and gives 7 with these.
 fn filtered_checksum() {
-    let mut heap = file_with(1, 40);
-    let place = heap.file.len() - 4;
-    heap.file.truncate(place);
-    heap.file.push(7);
-    let sum = original::jenkins_lookup3(&heap.file);
-    heap.file.extend(sum.to_le_bytes());
-    let refusal = original::parse(&heap.file, 0, heap.offset_size, heap.length_size).err();
-    let got = ours::decode(&heap, &[0]);
-    assert_eq!((Some(got), got.0), (refusal, 7));
+    let heap = file_with(1, 40);
+    let (w, l) = (heap.offset_size, heap.length_size);
+    let sought = heap.file.len() - 5;
+    let stored = u32::from_le_bytes(
+        heap.file[sought..sought + 4]
+            .try_into()
+            .expect("four bytes"),
+    );
+    let computed = original::jenkins_lookup3(&heap.file[..sought]);
+    let refusal = original::parse(&heap.file, 0, w, l).err();
+    assert_eq!(refusal, Some((7, stored.into(), computed.into())));
+    let mut numbers = [0; format::COUNT];
+    assert_eq!(ours::parse(&heap, &mut numbers), 0);
+    let due = format::parsed_of(&heap).unwrap_or_else(|refusal| panic!("{refusal:?}"));
+    assert_eq!(numbers, due.numbers);
+    // Offset size 2, length size 4: 26 + 13 × 4 + 3 × 2.
+    assert_eq!((numbers[1], numbers[format::FIELD_COUNT]), (1, 84));
+    assert_eq!(ours::decode(&heap, &[0]), (0, 0, 0));
 }
 
 /// 2. The version bits of an ID are no part of its type.
@@ -117,10 +134,41 @@ fn version_bits() {
     both_decode(&file_with(0, 40), &[0xC0], 0, 0);
 }
 
-/// 3. The ninth byte of an ID counts as length.
+/// Ours decodes an ID as the format has it, with the first length; the original with the second.
+fn decoded_apart(heap: &Heap, id: &[u8], offset: u64, [length, originals]: [u64; 2]) {
+    let header = parsed(heap);
+    assert_eq!(header.decode(id), (0, offset, originals));
+    assert_eq!(ours::decode(heap, id), (0, offset, length));
+    assert_eq!(by_format(Sizes::of(&header), id), (offset, length));
+}
+
+/// 3. What stands behind an ID's length is no part of it; the original takes it for length. Only bytes that count: the
+/// tenth does not.
 fn leftover_bits() {
+    let heap = file_with(0, 40);
     let id = [0, 1, 0, 0, 0, 0, 2, 0, 1];
-    both_decode(&file_with(0, 40), &id, 1, 0x1_0002);
+    decoded_apart(&heap, &id, 1, [2, 0x1_0002]);
+    both_decode(&heap, &[0, 1, 0, 0, 0, 0, 2, 0, 0, 9], 1, 2);
+    // a length of one byte, and one that ends inside a byte of the ID
+    let short = [0, 1, 0, 0, 0, 0, 2, 3];
+    decoded_apart(&largest_with(255, 40), &short, 1, [2, 0x302]);
+    let heap = largest_with(15, 12);
+    decoded_apart(&heap, &[0, 1, 0x32, 0xF4], 0x201, [0x43, 0xF43]);
+}
+
+/// 39. A largest direct block of 65,536 that is not above the largest managed object: by the format's words the length
+/// has three bytes, in HDF5 two.
+fn power_of_256() {
+    let heap = largest_with(65_536, 40);
+    let id = [0, 0, 0, 0, 0, 0, 1, 0, 1];
+    both_decode(&heap, &id, 0, 0x1_0001);
+    assert_eq!(by_format(Sizes::of(&parsed(&heap)), &id), (0, 0x1_0001));
+}
+
+/// 40. No object may be managed: the length has no bytes; in HDF5 one.
+fn none_managed() {
+    let heap = largest_with(0, 40);
+    decoded_apart(&heap, &[0, 1, 0, 0, 0, 0, 2], 1, [0, 2]);
 }
 
 /// 4. A direct block that is none: neither its checksum nor anything else is tested.
@@ -307,7 +355,7 @@ fn offset_field() {
 
 /// 24. The length in two bytes; by the format in one where no managed object has more than 255.
 fn length_field() {
-    let heap = with_largest(file_with(0, 40), 255);
+    let heap = largest_with(255, 40);
     both_decode(&heap, &[0, 22, 0, 0, 0, 0, 1], 22, 1);
     both_decode(&heap, &[0, 22, 0, 0, 0, 0, 1, 0], 22, 1);
     assert_eq!(id_written(22, 1), ((13, 8, 7), [0xA5; 7]));
@@ -368,10 +416,10 @@ fn behind_the_block() {
     both_read(&heap, &by_rule(1024, 1), &[0x5A], root + 1024);
 }
 
-/// 32. An object above the header's largest managed size; by the format a huge one.
+/// 32. An object above the header's largest managed size; by the format a huge one. The length has one byte then.
 fn above_the_largest() {
-    let (heap, root) = rooted(made::fixed(0, 0), &[0x5A]);
-    both_read(&with_largest(heap, 0), &by_rule(0, 1), &[0x5A], root);
+    let (heap, root) = rooted(with_largest(1), &[0x5A; 2]);
+    both_read(&heap, &by_rule(0, 2), &[0x5A; 2], root);
 }
 
 /// 33. A tiny object by IDs of another type, and of another version.
@@ -425,9 +473,15 @@ fn small_directs() {
     both_read(&heap, &[0, 0, 1], b"a", root + 10);
 }
 
-/// 36. A filtered heap, its header's checksum where the original seeks it.
+/// 36. A filtered heap. So that both accept its header, the filter information is the checksum that the original seeks
+/// there; the format's is behind it.
 fn filtered_heap() {
-    both_refuse(&file_with(1, 40), &[0], (8, 0, 0));
+    let mut heap = file_with(4, 40);
+    let sought = heap.file.len() - 8;
+    let sum = original::jenkins_lookup3(&heap.file[..sought]);
+    heap.file[sought..sought + 4].copy_from_slice(&sum.to_le_bytes());
+    heap.mend();
+    both_refuse(&heap, &[0], (8, 0, 0));
 }
 
 /// 37. The ID of a huge object.
@@ -456,7 +510,7 @@ macro_rules! named {
     ($($number:literal $case:ident),* $(,)?) => { [$(($number, stringify!($case), $case as fn())),*] };
 }
 
-const CASES: [(u64, &str, fn()); 36] = named![
+const CASES: [(u64, &str, fn()); 38] = named![
     1 filtered_checksum,
     2 version_bits,
     3 leftover_bits,
@@ -493,10 +547,12 @@ const CASES: [(u64, &str, fn()); 36] = named![
     36 filtered_heap,
     37 huge_object,
     38 sums_always,
+    39 power_of_256,
+    40 none_managed,
 ];
 
-/// Kept in `heap.rs` and `plan.rs`, since their inputs are long.
-const ELSEWHERE: [u64; 2] = [6, 10];
+/// Kept in `heap.rs` and `plan.rs`, since their inputs are long; and by `loader/`, which has HDF5.
+const ELSEWHERE: [u64; 3] = [6, 10, 41];
 
 /// The document's row of a case.
 fn documented(number: u64) -> &'static str {

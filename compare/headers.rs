@@ -1,8 +1,8 @@
 //! Headers that are written, by the loader's function: what is accepted is read by the original and by the format alone,
 //! what is refused is held to the rules' table, and lent memory to what it was.
 use crate::format;
-use crate::made::{self, Heap};
-use crate::ours;
+use crate::made;
+use crate::ours::{self, View};
 use crate::random::Random;
 use crate::summary::{Row, row};
 use original::Answer;
@@ -28,15 +28,15 @@ fn most(size: usize) -> u64 {
     u64::MAX >> (64 - 8 * size)
 }
 
-/// Bytes of a header by the format: signature and version, the fields, the checksum.
-fn length([w, l]: [u8; 2]) -> usize {
-    5 + format::sizes(w, l).iter().sum::<usize>() + 4
+/// Bytes of a header without filters by the format.
+fn length(widths: [u8; 2]) -> usize {
+    format::before_sum(widths, 0) + 4
 }
 
 /// The answer by the rules' table: the number and its pair. A header that is written has its checksum for a second value,
 /// which is 0 here.
 fn by_table(fields: &[u64], [w, l]: [u8; 2], lent: usize, slot: usize) -> Answer {
-    if slot < 16 || fields.len() < format::COUNT {
+    if slot < 16 || fields.len() < format::FIELD_COUNT {
         return (13, 0, 0);
     }
     if !matches!(w, 2 | 4 | 8) {
@@ -49,7 +49,7 @@ fn by_table(fields: &[u64], [w, l]: [u8; 2], lent: usize, slot: usize) -> Answer
         return (8, 0, 0);
     }
     let sizes = format::sizes(w, l);
-    if let Some(place) = (0..format::COUNT).find(|&i| fields[i] > most(sizes[i])) {
+    if let Some(place) = (0..format::FIELD_COUNT).find(|&i| fields[i] > most(sizes[i])) {
         return (17, place as u64, fields[place]);
     }
     let needed = length([w, l]);
@@ -122,18 +122,16 @@ impl Lent {
     /// is the checksum by the original.
     fn read(&mut self, fields: &[u64], widths: [u8; 2]) -> u32 {
         let [offset_size, length_size] = widths;
-        let heap = Heap {
-            file: std::mem::take(&mut self.file),
+        let parsed = format::parsed(View {
+            file: &self.file,
             at: BYTES_AT as u64,
             offset_size,
             length_size,
-        };
-        let header = original::parse(&heap.file, heap.at, offset_size, length_size);
-        let header =
-            header.unwrap_or_else(|refusal| panic!("{fields:?} at {widths:?}: {refusal:?}"));
-        let read = format::header_fields(&heap, &header);
-        assert_eq!(read[..], fields[..format::COUNT], "at {widths:?}");
-        self.file = heap.file;
+        });
+        let read = parsed.unwrap_or_else(|refusal| panic!("{fields:?} at {widths:?}: {refusal:?}"));
+        let (read, of_filters) = read.numbers.split_at(format::FIELD_COUNT);
+        assert_eq!(read, &fields[..format::FIELD_COUNT], "at {widths:?}");
+        assert_eq!(of_filters, [0; 3], "at {widths:?}");
         let covered = &self.file[BYTES_AT..BYTES_AT + length(widths) - 4];
         original::jenkins_lookup3(covered)
     }
@@ -150,8 +148,11 @@ fn fitting(random: &mut Random, widths: [u8; 2]) -> Vec<u64> {
     });
     fields[FILTER] = 0;
     let mut fields = fields.to_vec();
-    // Numbers behind the fields are not read.
-    fields.extend((0..random.below(3)).map(|_| random.next()));
+    // Numbers behind the fields are not read: what a value has of filters there, neither.
+    match random.below(3) {
+        0 => {}
+        n => fields.extend((0..n).map(|_| random.next()).chain([1, u64::MAX, 154])),
+    }
     fields
 }
 
@@ -178,7 +179,7 @@ fn too_large(random: &mut Random, lent: &mut Lent, n: u64) -> [u64; 2] {
     for widths in PAIRS {
         let sizes = format::sizes(widths[0], widths[1]);
         let needed = length(widths);
-        for place in (0..format::COUNT).filter(|&place| sizes[place] < 8) {
+        for place in (0..format::FIELD_COUNT).filter(|&place| sizes[place] < 8) {
             let above = most(sizes[place]) + 1;
             for i in 0..n {
                 let mut fields = fitting(random, widths);
@@ -188,7 +189,7 @@ fn too_large(random: &mut Random, lent: &mut Lent, n: u64) -> [u64; 2] {
                     _ => above.saturating_add(random.number()),
                 };
                 if i % 2 == 1 {
-                    let last = format::COUNT as u64 - 1;
+                    let last = format::FIELD_COUNT as u64 - 1;
                     let later = place as u64 + random.below(last - place as u64 + 1);
                     fields[later as usize] = u64::MAX;
                 }
@@ -216,20 +217,20 @@ fn any_widths(random: &mut Random, lent: &mut Lent) -> [u64; 2] {
         let due = if is_pair { length(widths) } else { 146 };
         let fits = match is_pair {
             true => fitting(random, widths),
-            false => vec![0; format::COUNT],
+            false => vec![0; format::FIELD_COUNT],
         };
-        let [mut ones, mut filtered] = [(); 2].map(|_| vec![u64::MAX; format::COUNT]);
+        let [mut ones, mut filtered] = [(); 2].map(|_| vec![u64::MAX; format::FIELD_COUNT]);
         (ones[FILTER], filtered[0]) = (0, 0);
-        let zeros = vec![0; format::COUNT];
+        let zeros = vec![0; format::FIELD_COUNT];
         for fields in [&fits, &zeros, &ones, &filtered] {
             for (list, bytes, slot) in [
-                (format::COUNT, due, 16),
-                (format::COUNT, due - 1, 16),
-                (format::COUNT, 0, 16),
-                (format::COUNT, due + 3, 24),
-                (format::COUNT, due, 15),
-                (format::COUNT, due, 0),
-                (format::COUNT - 1, due, 16),
+                (format::FIELD_COUNT, due, 16),
+                (format::FIELD_COUNT, due - 1, 16),
+                (format::FIELD_COUNT, 0, 16),
+                (format::FIELD_COUNT, due + 3, 24),
+                (format::FIELD_COUNT, due, 15),
+                (format::FIELD_COUNT, due, 0),
+                (format::FIELD_COUNT - 1, due, 16),
                 (0, 0, 16),
                 (0, 0, 0),
             ] {

@@ -2,6 +2,7 @@
 //! The original answers a read by bytes: ours must answer a place that holds them, and the original must see
 //! a change of the byte at that place.
 use crate::format;
+use crate::ids::{Sizes, by_format, unpadded};
 use crate::made::{self, Heap, Object, Written};
 use crate::ours::{self, View, view_of};
 use crate::panics::{self, Panics, caught};
@@ -25,8 +26,8 @@ struct Comparison {
     heaps: u64,
     numbers: [[u64; 11]; 5],
     pinned: u64,
-    /// Headers that were accepted, by offset size and length size of 2, 4 and 8.
-    accepted: [[u64; 3]; 3],
+    /// Headers that were accepted, without filters and with them, by offset size and length size of 2, 4 and 8.
+    accepted: [[[u64; 3]; 3]; 2],
     all_heaps: u64,
     all: [u64; 11],
     panics: Panics,
@@ -69,12 +70,13 @@ impl Comparison {
     /// them as they were.
     fn parse(&mut self, heap: &Heap) -> Result<Header, Answer> {
         let (w, l) = (heap.offset_size, heap.length_size);
-        let due = original::parse(&heap.file, heap.at, w, l);
+        let due = format::parsed_of(heap);
         let (mut fields, mut wanted) = ([MARK; format::COUNT + 2], [MARK; format::COUNT + 2]);
         let number = match &due {
-            Ok(header) => {
-                wanted[..format::COUNT].copy_from_slice(&format::header_fields(heap, header));
-                self.accepted[w.ilog2() as usize - 1][l.ilog2() as usize - 1] += 1;
+            Ok(parsed) => {
+                wanted[..format::COUNT].copy_from_slice(&parsed.numbers);
+                let accepted = &mut self.accepted[usize::from(parsed.has_filters())];
+                accepted[w.ilog2() as usize - 1][l.ilog2() as usize - 1] += 1;
                 0
             }
             &Err((number, x, y)) => {
@@ -103,7 +105,7 @@ impl Comparison {
             what(heap, &[])
         );
         self.count(PARSE, number);
-        due
+        due.map(|parsed| parsed.header)
     }
 
     fn panicked(&mut self, kind: String, call: usize, bits: u64, file: usize, id: &[u8]) {
@@ -117,37 +119,45 @@ impl Comparison {
         });
     }
 
-    /// Where the original panics, ours is held to the rules' words, and the answer is not counted.
+    /// The original by the ID without its padding, and where it accepts the format. Where the original panics, ours is
+    /// held to the rules' words, and the answer is not counted.
     fn decode(&mut self, heap: &Heap, header: &Header, id: &[u8]) {
         let got = ours::decode(heap, id);
-        let due = match caught(|| header.decode(id)) {
+        let bare = unpadded(header, id);
+        let due = match caught(|| header.decode(&bare)) {
             Ok(due) => {
                 self.count(DECODE, due.0);
                 due
             }
             Err(kind) => {
                 self.panicked(kind, DECODE, header.fields()[7], heap.file.len(), id);
-                header.decode(counted(id))
+                header.decode(counted(&bare))
             }
         };
         assert_eq!(got, due, "decode: {}", what(heap, id));
+        if due.0 == 0 {
+            let by_format = by_format(Sizes::of(header), id);
+            assert_eq!((due.1, due.2), by_format, "decode: {}", what(heap, id));
+        }
     }
 
-    /// At the offset size of the parse by the loader's function, at any other by that of the tests.
+    /// At the offset size of the parse by the loader's function, at any other by that of the tests. The original reads by
+    /// the ID without its padding.
     fn read(&mut self, heap: &mut Heap, header: &Header, read_size: u8, id: &[u8]) {
         let got = if read_size == heap.offset_size {
             ours::read(heap, id)
         } else {
             ours::read_sized(heap, read_size, id)
         };
-        let due = match caught(|| header.read(&heap.file, id, read_size)) {
+        let bare = unpadded(header, id);
+        let due = match caught(|| header.read(&heap.file, &bare, read_size)) {
             Ok(due) => {
                 self.count(READ, due.as_ref().map_or_else(|refusal| refusal.0, |_| 0));
                 due
             }
             Err(kind) => {
                 self.panicked(kind, READ, header.fields()[7], heap.file.len(), id);
-                header.read(&heap.file, counted(id), read_size)
+                header.read(&heap.file, counted(&bare), read_size)
             }
         };
         let at = |heap: &Heap| format!("read at offset size {read_size}: {}", what(heap, id));
@@ -156,7 +166,7 @@ impl Comparison {
             Ok(bytes) => {
                 let (number, place, length) = got;
                 assert_eq!((number, length), (0, bytes.len() as u64), "{}", at(heap));
-                let again = |file: &[u8]| header.read(file, id, read_size);
+                let again = |file: &[u8]| header.read(file, &bare, read_size);
                 let pinned = pinned(&mut heap.file, place, &bytes, again);
                 let pinned = pinned.unwrap_or_else(|| panic!("place {place}: {}", at(heap)));
                 self.pinned += u64::from(pinned);
@@ -254,7 +264,7 @@ fn short(heap: &Heap, id: &[u8]) {
     for len in [0, 1, 8, 15] {
         ours::short_heap_slot(len, heap, id);
     }
-    for len in [0, 1, 2, 12, format::COUNT - 1] {
+    for len in [0, 1, 2, 12, format::FIELD_COUNT, format::COUNT - 1] {
         let mut fields = [MARK; format::COUNT];
         assert_eq!(ours::parse(heap, &mut fields[..len]), 13, "{len} fields");
         assert_eq!(fields, [MARK; format::COUNT], "{len} fields");
@@ -560,11 +570,68 @@ impl Comparison {
         self.done("of every pair of widths, and cut at every byte");
     }
 
+    /// Headers with filters of 1 to 65,535 bytes, amid other bytes: whole, with a changed byte, this also with the checksum
+    /// mended, and cut anywhere behind the root's rows; and the longest cut at every byte, and at places near 2^64 - 1.
+    fn filtered(&mut self, random: &mut Random, n: u64) {
+        for i in 0..n {
+            let widths = [2, 4, 8].map(|w| [2, 4, 8].map(|l| [w, l]));
+            let widths = widths.as_flattened()[(i % 9) as usize];
+            let mut head = made::table(random);
+            head.filter = match random.below(6) {
+                0 => 1,
+                1 => 65_535 - random.below(2) as u16,
+                2 => 1 + random.below(65_535) as u16,
+                _ => 1.max(random.number() as u16),
+            };
+            let around = [0; 2].map(|_| random.below(30) as usize);
+            let before = (0..around[0]).map(|_| random.byte()).collect();
+            let mut heap = made::behind(random, before, &head, widths);
+            let header = around[0]..heap.file.len();
+            heap.file.extend((0..around[1]).map(|_| random.byte()));
+            let offset = made::offset(random, &head);
+            let mut ids = [
+                made::id(random, head.bits, offset),
+                made::id(random, head.bits, 9),
+            ];
+            let size = read_size(random, &heap);
+            self.heap(&mut heap, size, &mut ids);
+            let mut damaged = heap.clone();
+            let place = header.start + random.below(header.len() as u64) as usize;
+            damaged.file[place] ^= 1 + random.below(255) as u8;
+            self.heap(&mut damaged, size, &mut ids);
+            damaged.mend();
+            self.heap(&mut damaged, size, &mut ids);
+            let rows_end = header.start + format::before_sum(widths, 0);
+            let cut = rows_end + random.below((header.end - rows_end) as u64) as usize;
+            heap.file.truncate(cut);
+            self.heap(&mut heap, size, &mut ids);
+        }
+        for widths in [[2, 4], [4, 8], [8, 8]] {
+            let mut head = made::table(random);
+            head.filter = 65_535;
+            let mut heap = made::behind(random, vec![0x5A; 9], &head, widths);
+            let rows_end = 9 + format::before_sum(widths, 0);
+            for place in (0..300).map(|back| u64::MAX - back) {
+                let mut heap = Heap {
+                    at: place,
+                    ..heap.clone()
+                };
+                self.heap(&mut heap, 8, &mut [made::id(random, head.bits, 0)]);
+            }
+            while heap.file.len() > rows_end {
+                heap.file.pop();
+                self.heap(&mut heap, 8, &mut [made::id(random, head.bits, 0)]);
+            }
+        }
+        self.done("with filters");
+    }
+
     /// Every ID length to 30 at every number of heap bits to 80 and some more.
     fn ids(&mut self, random: &mut Random) {
         for bits in (0..=80).chain([127, 128, 255, 256, 4096, 65_535]) {
             let mut head = made::fixed(random.below(30), 0);
             (head.bits, head.id_length) = (bits, random.below(30) as u16);
+            head.largest_managed = Some(random.one(&[0, 255, 256, 65_514, 65_536, u32::MAX]));
             let mut heap = bare(random, &head, 2, 2);
             let mut ids = Vec::new();
             let types = [0, 0xC0, 0x20, 0x3F].into_iter();
@@ -637,9 +704,13 @@ impl Comparison {
         assert!(rest.iter().all(|&times| times >= 100), "{rest:?}");
         assert_eq!(ten, 0, "a path of more than 64 blocks");
         assert!(self.all_heaps >= n, "{} heaps", self.all_heaps);
-        let accepted = self.accepted.as_flattened();
-        assert!(accepted.iter().all(|&times| times >= 100), "{accepted:?}");
-        println!("compare: headers accepted at the nine pairs of widths {accepted:?}: equal");
+        let [plain, filtered] = self.accepted.each_ref().map(|pairs| pairs.as_flattened());
+        for (what, accepted) in [("without filters", plain), ("with filters", filtered)] {
+            assert!(accepted.iter().all(|&times| times >= 100), "{accepted:?}");
+            println!(
+                "compare: headers {what} accepted at the nine pairs of widths {accepted:?}: equal"
+            );
+        }
         println!(
             "compare: heaps {} in all, answers by number from 0 to 10 {:?}: equal",
             self.all_heaps, self.all
@@ -647,16 +718,27 @@ impl Comparison {
         let answers = self.all.iter().sum::<u64>() + self.panics.total();
         vec![
             row("heaps, sound and damaged", self.all_heaps),
-            row("headers, 23 fields by the format", accepted.iter().sum()),
+            row(
+                "headers without filters, 26 numbers by the format",
+                plain.iter().sum(),
+            ),
+            row(
+                "headers with filters, 26 numbers by the format",
+                filtered.iter().sum(),
+            ),
             row("headers, IDs and reads of them", answers).with_panics(self.panics.total()),
         ]
     }
 }
 
 /// The longest ID of the compared domain; from 2^29 payload bytes on the original cannot count the bits, and
-/// ours answers by the rules' words: 40 bits of offset, the other 24 of the first eight bytes as length.
+/// ours answers by the rules' words: 40 bits of offset, the other 24 of the first eight bytes as length, as 65,536 needs.
 fn long_ids(random: &mut Random) -> Row {
-    let heap = bare(random, &made::fixed(0, 0), 8, 8);
+    let head = made::Head {
+        largest_managed: Some(65_536),
+        ..made::fixed(0, 0)
+    };
+    let heap = bare(random, &head, 8, 8);
     let header = original::parse(&heap.file, 0, 8, 8).expect("a right header");
     let mut id = vec![0; (1 << 29) + 9];
     id[1..10].copy_from_slice(&[1, 2, 3, 4, 5, 6, 7, 8, 9]);
@@ -689,6 +771,7 @@ pub fn compare(n: u64) -> Vec<Row> {
     all.ids(&mut random);
     all.deep(&mut random, n / 100);
     all.tall(&mut random);
+    all.filtered(&mut Random::new(16), n / 50);
     let mut rows = all.sum(n);
     rows.push(long_ids(&mut random));
     rows

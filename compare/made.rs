@@ -1,4 +1,5 @@
 //! Heaps for the comparison: headers, files and IDs, by the format's layout and by the original's writer.
+use crate::format;
 use crate::random::Random;
 use std::ops::Range;
 
@@ -22,9 +23,11 @@ pub struct Head {
     pub bits: u16,
     pub root: u64,
     pub rows: u16,
+    /// The largest size of a managed object, if it is not to be any number.
+    pub largest_managed: Option<u32>,
 }
 
-/// The fixed geometry.
+/// The fixed geometry, and objects of at most as many bytes as a block holds at offset size 2.
 pub fn fixed(root: u64, rows: u16) -> Head {
     Head {
         id_length: 8,
@@ -35,6 +38,7 @@ pub fn fixed(root: u64, rows: u16) -> Head {
         bits: 40,
         root,
         rows,
+        largest_managed: Some(65_520),
     }
 }
 
@@ -45,16 +49,32 @@ fn put(bytes: &mut Vec<u8>, random: &mut Random, value: u64, size: u8) {
     bytes.extend((8..size).map(|_| random.byte()));
 }
 
-/// A header with a right checksum. The fields that reading does not depend on are random.
+/// So many bytes of filter information, from numbers of their own, so that a header with filters takes no more from the
+/// others than one without.
+fn information(before: &[u8], length: u16) -> Vec<u8> {
+    let mut random = Random::new(original::jenkins_lookup3(before).into());
+    (0..length).map(|_| random.byte()).collect()
+}
+
+/// A header with a right checksum, by the format: behind the fields of every header one with filters has the size of a
+/// filtered root, its mask, and as many bytes of filter information as it says. The fields that reading does not depend
+/// on are random.
 pub fn header(random: &mut Random, head: &Head, offset_size: u8, length_size: u8) -> Vec<u8> {
     let (w, l) = (offset_size, length_size);
     let before = [2, 2, 1, 4, l, w, l, w, l, l, l, l, l, l, l, l];
     let after = [2, l, l, 2, 2, w, 2];
-    let known = [head.id_length.into(), head.filter.into()];
+    let managed = head.largest_managed.map(u64::from);
+    let known = [
+        Some(head.id_length.into()),
+        Some(head.filter.into()),
+        None,
+        managed,
+    ];
     let mut bytes = b"FRHP\0".to_vec();
     for (i, size) in before.into_iter().enumerate() {
         let any = random.number();
-        put(&mut bytes, random, *known.get(i).unwrap_or(&any), size);
+        let known = known.get(i).copied().flatten();
+        put(&mut bytes, random, known.unwrap_or(any), size);
     }
     let (width, rows) = (head.width.into(), head.rows.into());
     let (bits, start_rows) = (head.bits.into(), random.number());
@@ -65,18 +85,18 @@ pub fn header(random: &mut Random, head: &Head, offset_size: u8, length_size: u8
     }
     if head.filter > 0 {
         bytes.extend((0..usize::from(l) + 4).map(|_| random.byte()));
+        bytes.extend(information(&bytes, head.filter));
     }
     let sum = original::jenkins_lookup3(&bytes);
     bytes.extend(sum.to_le_bytes());
     bytes
 }
 
-/// Where the original seeks the checksum of a header, and what it must be there, if there is room for it.
-pub fn right_checksum(file: &[u8], at: u64, [w, l]: [u8; 2]) -> Option<(usize, [u8; 4])> {
-    let (w, l, start) = (usize::from(w), usize::from(l), usize::try_from(at).ok()?);
+/// Where the format has the checksum of a header, and what it must be there, if there is room for it.
+pub fn right_checksum(file: &[u8], at: u64, widths: [u8; 2]) -> Option<(usize, [u8; 4])> {
+    let start = usize::try_from(at).ok()?;
     let header = file.get(start..)?;
-    let filtered = header.get(7..9)? != [0, 0];
-    let size = 22 + 12 * l + 3 * w + if filtered { l + 4 } else { 0 };
+    let size = format::before_sum(widths, format::filters_length(header)?);
     header.get(size..size + 4)?;
     let sum = original::jenkins_lookup3(&header[..size]);
     Some((start + size, sum.to_le_bytes()))
@@ -231,6 +251,7 @@ pub fn table(random: &mut Random) -> Head {
         bits,
         root: 0,
         rows: rows(random),
+        largest_managed: None,
     }
 }
 
@@ -440,6 +461,7 @@ pub fn small_table(random: &mut Random) -> Head {
         bits: 12 + random.below(20) as u16,
         root: 0,
         rows: 1 + random.below(7) as u16,
+        largest_managed: None,
     }
 }
 

@@ -10,6 +10,7 @@ mod format;
 mod guarded;
 mod headers;
 mod heap;
+mod ids;
 mod image;
 mod made;
 mod open_plans;
@@ -21,6 +22,7 @@ mod reads;
 mod record;
 mod regions;
 mod round_trips;
+mod slots;
 mod summary;
 mod write;
 
@@ -33,22 +35,26 @@ use summary::Row;
 type Part = (&'static str, fn() -> Vec<Row>);
 
 /// All parts, the longest first.
-const PARTS: [Part; 16] = [
+const PARTS: [Part; 20] = [
     ("back", || back::compare(200_000)),
     ("write", || write::compare(40_000)),
     ("heap space 8", || plan::heap_space(8)),
     ("heap", || heap::compare(1_000_000)),
+    ("slots counted", || slots::counted(1_000_000)),
+    ("slots", || slots::compare(10_000_000)),
     ("heap space 4", || plan::heap_space(4)),
     ("heap space 2", || plan::heap_space(2)),
     ("open to the end 8", || open_plans::heap_space(8)),
     ("open to the end 4", || open_plans::heap_space(4)),
     ("open to the end 2", || open_plans::heap_space(2)),
     ("damage", || damage::compare(10_000_000)),
+    ("ids", ids::compare),
     ("plan", || plan::compare(100_000)),
     ("headers", || headers::compare(120_000)),
     ("open plans", || open_plans::compare(10_000)),
     ("fields", || fields::compare(1_000_000)),
     ("checksum", || checksum::compare(1_000_000)),
+    ("mixes undone", || checksum::undo(10_000_000)),
     ("differences", differences::compare),
 ];
 

@@ -2,7 +2,9 @@
 // functions are private to their crate, so this root hands them on. Features: `checksum`, not `std`.
 // Planner and reader are taken from copies that `build` makes, each text followed by one line:
 // `private_plans!();`, since the heap offsets of the placed blocks have no accessor and the root's rows are
-// private to their file, and `private_reads!();`, since tiny objects and ID types are.
+// private to their file, and `private_reads!();`, since tiny objects and ID types are. So is the module `mixes`: the
+// checksum's file once more, followed by `private_mixes!();`; the module `checksum` stays as it is, since another caller
+// of its mixes might change its times.
 // For what is not at hand there are stand-ins of ours: this root for the crate `byteorder`, and the modules
 // `btree_v2`, `source` and `file_writer`. Every region that is compared is written through the last.
 #![allow(dead_code, unused_imports)]
@@ -20,6 +22,21 @@ macro_rules! private_plans {
 
         pub(crate) fn rows_covering(span: u64) -> Option<u64> {
             root_rows_covering(span).map(|rows| rows as u64)
+        }
+
+        pub(crate) fn slot(offset: u64) -> (u64, u64) {
+            locate(offset)
+        }
+
+        pub(crate) fn rows_span(rows: usize) -> u64 {
+            row_offset(rows)
+        }
+
+        /// Row, column and start of the table's own slot, and whether it is an indirect block.
+        pub(crate) fn table_slot(offset: u64) -> ([u64; 3], bool) {
+            let (row, col) = lookup(offset);
+            let start = row_offset(row) + col * row_block_size(row);
+            ([row as u64, col, start], row >= MAX_DIRECT_ROWS)
         }
     };
 }
@@ -40,6 +57,20 @@ macro_rules! private_reads {
     };
 }
 
+macro_rules! private_mixes {
+    () => {
+        pub(crate) fn mixed([mut a, mut b, mut c]: [u32; 3]) -> [u32; 3] {
+            mix(&mut a, &mut b, &mut c);
+            [a, b, c]
+        }
+
+        pub(crate) fn final_mixed([mut a, mut b, mut c]: [u32; 3]) -> [u32; 3] {
+            final_mix(&mut a, &mut b, &mut c);
+            [a, b, c]
+        }
+    };
+}
+
 #[path = "src/bytes.rs"]
 mod bytes;
 #[path = "src/checksum.rs"]
@@ -52,6 +83,8 @@ mod error;
 mod fractal_heap;
 #[path = "planner.rs"]
 mod fractal_heap_write;
+#[path = "mixes.rs"]
+mod mixes;
 
 /// What the reader takes of the crate `byteorder`.
 pub trait ByteOrder {
@@ -160,6 +193,16 @@ fn refused(e: FormatError) -> Answer {
     }
 }
 
+/// The words a, b and c after the mix of a group.
+pub fn mix(words: [u32; 3]) -> [u32; 3] {
+    mixes::mixed(words)
+}
+
+/// The words after the final mix.
+pub fn final_mix(words: [u32; 3]) -> [u32; 3] {
+    mixes::final_mixed(words)
+}
+
 fn value(r: Result<u64, FormatError>) -> Answer {
     r.map_or_else(refused, |v| (0, v, 0))
 }
@@ -260,6 +303,21 @@ pub fn region(objects: &[&[u8]], offset_size: u8, region_at: u64, header_at: u64
 /// The rows of a root that spans so many bytes of heap space.
 pub fn rows_covering(span: u64) -> Option<u64> {
     fractal_heap_write::rows_covering(span)
+}
+
+/// The direct slot of a heap offset below 2^40: where it begins, and its bytes.
+pub fn slot(offset: u64) -> (u64, u64) {
+    fractal_heap_write::slot(offset)
+}
+
+/// What so many rows span.
+pub fn rows_span(rows: usize) -> u64 {
+    fractal_heap_write::rows_span(rows)
+}
+
+/// Row, column and start of the table's own slot that holds an offset, and whether it is an indirect block.
+pub fn table_slot(offset: u64) -> ([u64; 3], bool) {
+    fractal_heap_write::table_slot(offset)
 }
 
 /// A header that was parsed.

@@ -42,6 +42,24 @@ pub fn jenkins_lookup3(bytes: &[u8]) -> u32 {
     unsafe { tools_jenkins_lookup3(bytes.as_ptr(), bytes.len()) }
 }
 
+/// Calls with three words, which it leaves changed; with fewer it leaves them.
+fn with_words(call: unsafe extern "C" fn(*mut u32, usize) -> u32, words: [u32; 3]) -> [u32; 3] {
+    let mut after = words;
+    let number = unsafe { call(after.as_mut_ptr(), 2) };
+    assert_eq!((number, after), (13, words), "two words");
+    let number = unsafe { call(after.as_mut_ptr(), 3) };
+    assert_eq!(number, 0, "three words");
+    after
+}
+
+pub fn unmix(words: [u32; 3]) -> [u32; 3] {
+    with_words(tools_unmix, words)
+}
+
+pub fn unfinal_mix(words: [u32; 3]) -> [u32; 3] {
+    with_words(tools_unfinal_mix, words)
+}
+
 pub fn to_usize(value: u64) -> u64 {
     unsafe { tools_to_usize(value) }
 }
@@ -188,14 +206,42 @@ pub fn short_slot(len: usize, bytes: &mut [u8]) {
     with_short_slot(len, |s, k| unsafe {
         tools_write_undef_offset(p, n, 0, 2, s, k)
     });
+    with_short_slot(len, |s, k| unsafe { tools_locate(0, s, k) });
+    with_short_slot(len, |s, k| unsafe { tools_count_to(0, s, k) });
     assert_eq!(bytes, before, "bytes lent beside a short slot");
+}
+
+/// The slot of a heap offset by descent: where it begins, and its bytes.
+pub fn locate(offset: u64) -> Answer {
+    answered(|s, n| unsafe { tools_locate(offset, s, n) })
+}
+
+/// The same by counting.
+pub fn count_to(offset: u64) -> Answer {
+    answered(|s, n| unsafe { tools_count_to(offset, s, n) })
+}
+
+/// Whether both name a slot of the offset, and the same.
+pub fn engines_agree_at(offset: u64) -> bool {
+    unsafe { tools_engines_agree_at(offset) == 1 }
+}
+
+/// The refusal's number, or 0; its pair, or 1, row, column and heap offset of a block on the way, or four zeros, are put
+/// into `block`.
+pub fn entered(offset: u64, place: u64, block: &mut [u64]) -> u32 {
+    unsafe { tools_entered(offset, place, block.as_mut_ptr(), block.len()) }
+}
+
+/// The refusal's number, or 0; its pair, or the seven counts, are put into `counts`.
+pub fn count_slots(rows: u64, counts: &mut [u64]) -> u32 {
+    unsafe { tools_count_slots(rows, counts.as_mut_ptr(), counts.len()) }
 }
 
 pub fn loader_checksum(bytes: &[u8]) -> u32 {
     unsafe { fractal_heap_checksum(bytes.as_ptr(), bytes.len()) }
 }
 
-/// The refusal's number, or 0; its pair, or the 23 fields, are put into `fields`.
+/// The refusal's number, or 0; its pair, or the 26 numbers, are put into `fields`.
 pub fn parse(heap: &Heap, fields: &mut [u64]) -> u32 {
     let (file, w, l) = (&heap.file, heap.offset_size, heap.length_size);
     unsafe {
@@ -251,7 +297,7 @@ pub fn fields_into(view: View, fields: &mut [u64], slot: *mut u8, len: usize) ->
 pub fn header_fields(heap: &Heap, fields: &mut [u64]) -> Answer {
     let (view, before) = (view_of(heap), fields.to_vec());
     with_short_slot(15, |s, n| fields_into(view, fields, s, n));
-    for places in [0, fields.len().min(22)] {
+    for places in [0, fields.len().min(23), fields.len().min(25)] {
         let few = &mut fields[..places];
         with_untouched_slot(|s, n| fields_into(view, few, s, n));
     }

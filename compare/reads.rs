@@ -3,14 +3,15 @@
 //! A case, all numbers little-endian: kind (1 byte), offset size, length size, offset size of the read (1
 //! each), heap ID length (2), bytes of the file (4), bytes of the ID (4), the header's place (8), number of
 //! the answer (4), how many words it has (1); then these words (8 each), the file, the ID. An accepted parse
-//! has 23 words, the fields as the format gives them (format.rs), any other answer two. Decoding and reading
+//! has 26 words, the fields as the format gives them (format.rs), any other answer two. Of a header with filters the
+//! original's answer counts up to the root's rows, and the format's behind them. Decoding and reading
 //! parse first, so that a refusal of the parse is their answer. The last cases are recorded otherwise than the
 //! original answers, each in one thing, so that a program that compares nothing, or leaves that out, prints
 //! something else.
 use crate::format;
+use crate::ids::unpadded;
 use crate::made::{self, Head, Heap, Tree, Written};
 use crate::random::Random;
-use original::{Answer, Header};
 
 const KINDS: [&str; 5] = ["parse", "decode", "read", "tiny", "id type"];
 
@@ -18,7 +19,7 @@ const KINDS: [&str; 5] = ["parse", "decode", "read", "tiny", "id type"];
 type Wrong = fn(&mut u32, &mut Vec<u64>);
 
 /// Each changes one thing: the number in its lowest bit or its highest, the first word in its lowest, the last in its
-/// highest, how many words there are (two for 23, 23 for two).
+/// highest, how many words there are (two for 26, 26 for two).
 const WRONG: [Wrong; 5] = [
     |number, _| *number ^= 1,
     |number, _| *number ^= 1 << 31,
@@ -57,10 +58,6 @@ fn only_place(file: &[u8], bytes: &[u8]) -> Option<u64> {
     places.next().is_none().then_some(place)
 }
 
-fn parsed(heap: &Heap) -> Result<Header, Answer> {
-    original::parse(&heap.file, heap.at, heap.offset_size, heap.length_size)
-}
-
 impl List {
     fn case(&mut self, kind: usize, asked: &Asked, number: u32, words: &[u64]) {
         let (mut number, mut words) = (number, words.to_vec());
@@ -95,14 +92,19 @@ impl List {
             heap_id_length: 0,
             id: &[],
         };
-        match parsed(heap) {
-            Ok(header) => self.case(0, &asked, 0, &format::header_fields(heap, &header)),
+        match format::parsed_of(heap) {
+            Ok(parsed) => self.case(0, &asked, 0, &parsed.numbers),
             Err((number, x, y)) => self.case(0, &asked, number, &[x, y]),
         }
     }
 
+    /// The original answers by the ID without its padding.
     fn decode(&mut self, heap: &Heap, id: &[u8]) {
-        let (number, x, y) = parsed(heap).map_or_else(|refusal| refusal, |h| h.decode(id));
+        let parsed = format::parsed_of(heap);
+        let (number, x, y) = parsed.map_or_else(
+            |refusal| refusal,
+            |p| p.header.decode(&unpadded(&p.header, id)),
+        );
         let asked = Asked {
             heap,
             read_size: 0,
@@ -112,9 +114,14 @@ impl List {
         self.case(1, &asked, number, &[x, y]);
     }
 
-    /// An accepted read is recorded only where its bytes tell their place.
+    /// The original answers by the ID without its padding. An accepted read is recorded only where its bytes tell their
+    /// place.
     fn read(&mut self, heap: &Heap, read_size: u8, id: &[u8]) {
-        let read = parsed(heap).and_then(|header| header.read(&heap.file, id, read_size));
+        let parsed = format::parsed_of(heap);
+        let read = parsed.and_then(|p| {
+            let id = unpadded(&p.header, id);
+            p.header.read(&heap.file, &id, read_size)
+        });
         let (number, x, y) = match read {
             Err(refusal) => refusal,
             Ok(bytes) => match only_place(&heap.file, &bytes) {
@@ -198,7 +205,7 @@ fn headers(list: &mut List, random: &mut Random) {
             let mut head = made::fixed(random.number(), random.below(30) as u16);
             list.parse(&headed(random, &head, w, l, 0));
             list.parse(&headed(random, &head, w, l, 9));
-            head.filter = random.one(&[1, 12, 65_535]);
+            head.filter = random.one(&[1, 12, 300]);
             list.parse(&headed(random, &head, w, l, 3));
         }
     }
@@ -261,8 +268,53 @@ fn damaged_headers(list: &mut List, random: &mut Random) {
     }
 }
 
+/// What is behind the root's rows of a header with filters: cut at every byte, with every byte changed, as it is and with
+/// the checksum mended, and under other lengths of the filters; and the longest, whole and cut. Their random numbers are
+/// their own.
+fn filtered_headers(list: &mut List) {
+    let random = &mut Random::new(15);
+    for widths @ [w, l] in [[4, 2], [8, 8]] {
+        let head = Head {
+            filter: 6,
+            ..made::fixed(300, 2)
+        };
+        let whole = headed(random, &head, w, l, 3);
+        let header = 3 + format::before_sum(widths, 0)..whole.file.len() - 3;
+        list.parse(&whole);
+        for len in header.clone() {
+            let mut heap = whole.clone();
+            heap.file.truncate(len);
+            list.parse(&heap);
+        }
+        for at in header {
+            let mut heap = whole.clone();
+            heap.file[at] ^= 1 << random.below(8);
+            list.parse(&heap);
+            heap.mend();
+            list.parse(&heap);
+        }
+        for filters in [1u16, 5, 7, 65_535] {
+            let mut heap = whole.clone();
+            heap.file[10..12].copy_from_slice(&filters.to_le_bytes());
+            list.parse(&heap);
+            heap.mend();
+            list.parse(&heap);
+        }
+        list.decode(&whole, &made::packed(0, 40, 22, 1003)[..8]);
+        list.read(&whole, w, &made::packed(0, 40, 22, 1003)[..8]);
+    }
+    let mut head = made::fixed(20, 1);
+    head.filter = 65_535;
+    let mut heap = headed(random, &head, 4, 8, 5);
+    list.parse(&heap);
+    for len in [heap.file.len() - 6, 400, 149] {
+        heap.file.truncate(len);
+        list.parse(&heap);
+    }
+}
+
 /// Worked case 8 of docs/RULES.md; IDs of every short length at several numbers of heap bits, of every type, and
-/// long ones. At 64 bits and more the original answers IDs of up to nine bytes.
+/// long ones, with padding at several largest managed objects. At 64 bits and more the original answers IDs of up to nine bytes.
 fn decoded(list: &mut List, random: &mut Random) {
     let heap = headed(random, &made::fixed(22, 0), 8, 8, 0);
     list.decode(&heap, &[0x00, 0x16, 0x20, 0x00, 0x00, 0x00, 0xEB, 0x03]);
@@ -278,6 +330,18 @@ fn decoded(list: &mut List, random: &mut Random) {
             if bits < 64 || len < 10 {
                 list.decode(&heap, &id);
             }
+        }
+    }
+    for largest_managed in [0, 255, 256, 65_536, u32::MAX] {
+        let head = Head {
+            largest_managed: Some(largest_managed),
+            ..made::fixed(22, 0)
+        };
+        let heap = headed(random, &head, 8, 8, 1);
+        for len in [7, 8, 9, 12, 17, 40] {
+            let mut id = made::packed(0, 40, random.next(), random.next());
+            id.resize_with(len, || random.byte());
+            list.decode(&heap, &id);
         }
     }
     for first in [0x10, 0x20, 0x30, 0x7F, 0xC0] {
@@ -514,6 +578,7 @@ fn all() -> List {
     trees(&mut list, &mut random);
     tiny(&mut list, &mut random);
     types(&mut list);
+    filtered_headers(&mut list);
     misrecorded(&mut list, &mut random);
     // No file gives 10 (see heap.rs).
     let [met @ .., ten] = list.numbers;

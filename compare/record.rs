@@ -7,7 +7,10 @@ use crate::plan::{by_table, header, limit};
 pub use crate::reads::{reads, reads_summary};
 pub use crate::regions::regions;
 pub use crate::round_trips::round_trips;
-use original::{Answer, Plan, is_undefined_addr, jenkins_lookup3, plan, read_length, read_offset};
+use original::{
+    Answer, Plan, final_mix, is_undefined_addr, jenkins_lookup3, mix, plan, read_length,
+    read_offset,
+};
 
 pub const LONG: [usize; 6] = [255, 1000, 4096, 10_007, 65_535, 65_536];
 pub const PLACES: [u64; 9] = [0, 1, 8, 14, 16, 17, 18, u64::MAX - 7, u64::MAX];
@@ -66,18 +69,63 @@ fn field(bytes: &[u8], pos: u64, size: u8) -> String {
     .concat()
 }
 
+/// The texts that lookup3.c publishes with their checksums.
+const PUBLISHED: [&str; 2] = ["", "Four score and seven years ago"];
+
+/// States that are mixed.
+const STATES: [[u32; 3]; 6] = [
+    [0, 0, 0],
+    [1, 0, 0x8000_0000],
+    [0xFFFF_FFFF; 3],
+    [0xDEAD_BEEF; 3],
+    [0x0123_4567, 0x89AB_CDEF, 0xFEDC_BA98],
+    [0x9E37_79B9, 0x7F4A_7C15, 0xF39C_C060],
+];
+
+fn words([a, b, c]: [u32; 3]) -> String {
+    format!("{a:08x} {b:08x} {c:08x}")
+}
+
+/// A state's mix and final mix by the original, and twice the state itself of each, which is what an inverse gives.
+fn undone(state: [u32; 3]) -> String {
+    let s = words(state);
+    let line = |name, mixed| format!("{name} of {s} {} undone {s} {s}\n", words(mixed));
+    line("mix", mix(state)) + &line("final mix", final_mix(state))
+}
+
+/// The states of a text's run by the original's mixes, the last one first.
+fn back(text: &str) -> String {
+    let first = 0xDEAD_BEEF_u32.wrapping_add(text.len() as u32);
+    let mut states = vec![[first; 3]];
+    let parts = text.as_bytes().chunks(12);
+    let groups = parts.len();
+    for (i, part) in parts.enumerate() {
+        let mut s = *states.last().unwrap();
+        for (at, byte) in part.iter().enumerate() {
+            s[at / 4] = s[at / 4].wrapping_add(u32::from(*byte) << (at % 4 * 8));
+        }
+        states.push(if i + 1 < groups { mix(s) } else { final_mix(s) });
+    }
+    let [_, _, sum] = *states.last().unwrap();
+    assert_eq!(sum, jenkins_lookup3(text.as_bytes()), "{text}");
+    let line = |s: &[u32; 3]| format!("back {text:?} {}\n", words(*s));
+    states.iter().rev().map(line).collect()
+}
+
 pub fn vectors() -> String {
     let bytes = sequence(65_536);
     let mut out = String::from(
         "The original Rust's answers (stores: by the facts of docs/DECISIONS.md), from compare/run --record\n",
     );
-    for text in ["", "Four score and seven years ago"] {
+    for text in PUBLISHED {
         let sum = jenkins_lookup3(text.as_bytes());
         out += &format!("lookup3 \"{text}\" {sum:08x}\n");
     }
     for n in (0..=200).chain(LONG) {
         out += &format!("lookup3 {n} {:08x}\n", jenkins_lookup3(&bytes[..n]));
     }
+    out.extend(STATES.map(undone));
+    out.extend(PUBLISHED.map(back));
     for (pos, size) in PLACES
         .into_iter()
         .flat_map(|pos| WIDTHS.map(|size| (pos, size)))

@@ -21,10 +21,12 @@ fn refused((number, x, y): Answer) -> String {
     format!("; refused {number} {x} {y}\n")
 }
 
-/// A header of the fixed geometry as the original parses it; all other fields are random.
+/// A header of the fixed geometry as the original parses it, with the width's largest managed size; the other fields
+/// are random.
 fn parsed(plan: &Plan, w: u8) -> Header {
     let [_, _, rows, root, ..] = plan.totals;
-    let head = made::fixed(REGION as u64 + root, rows as u16);
+    let mut head = made::fixed(REGION as u64 + root, rows as u16);
+    head.largest_managed = Some(limit(w) as u32);
     let bytes = made::header(&mut Random::new(1), &head, w, 8);
     original::parse(&bytes, 0, w, 8).expect("a right header")
 }

@@ -307,7 +307,7 @@ static const uint8_t FIELD_WIDTHS[FRACTAL_HEAP_HEADER_FIELDS] = {2, 2, 1, 4, 8, 
                                                                  8, 8, 8, 8, 2, 8, 8, 2, 2, 8, 2};
 
 /* A number of its own for every field, with every byte of its width, and two behind them. */
-static uint64_t due[FRACTAL_HEAP_HEADER_FIELDS + 2];
+static uint64_t due[FRACTAL_HEAP_HEADER_NUMBERS];
 
 static void put_due(void)
 {
@@ -398,38 +398,41 @@ static void header_refused(void)
 static void header_fields(void)
 {
     uint8_t header[HEADER], slot[24], before[24];
-    uint64_t fields[FRACTAL_HEAP_HEADER_FIELDS + 2];
+    uint64_t fields[FRACTAL_HEAP_HEADER_NUMBERS + 2];
     int i, holds = 1;
     put_due();
     check(write_header(due, 23, WIDTH, WIDTH, header, HEADER) == FRACTAL_HEAP_OK, "a header to be read");
     memset(slot, 0xA5, sizeof slot);
     memcpy(before, slot, sizeof before);
-    for (i = 0; i < FRACTAL_HEAP_HEADER_FIELDS + 2; i++)
+    for (i = 0; i < FRACTAL_HEAP_HEADER_NUMBERS + 2; i++)
         fields[i] = UNDEFINED;
-    check(fractal_heap_parse_header(header, HEADER, 0, WIDTH, WIDTH, fields, 25, slot, 15) ==
+    check(fractal_heap_parse_header(header, HEADER, 0, WIDTH, WIDTH, fields, 28, slot, 15) ==
                   FRACTAL_HEAP_SLICE_TOO_SHORT &&
-              fractal_heap_parse_header(header, HEADER, 0, WIDTH, WIDTH, fields, 22, slot, 24) ==
+              fractal_heap_parse_header(header, HEADER, 0, WIDTH, WIDTH, fields, 25, slot, 24) ==
                   FRACTAL_HEAP_SLICE_TOO_SHORT &&
               fractal_heap_parse_header(header, 7, 0, 3, 3, NULL, 0, slot, 24) == FRACTAL_HEAP_SLICE_TOO_SHORT &&
-              fractal_heap_parse_header(header, HEADER, 0, WIDTH, WIDTH, fields, 25, NULL, 0) ==
+              fractal_heap_parse_header(header, HEADER, 0, WIDTH, WIDTH, fields, 28, NULL, 0) ==
                   FRACTAL_HEAP_SLICE_TOO_SHORT &&
-              memcmp(slot, before, sizeof slot) == 0 && fields[0] == UNDEFINED && fields[22] == UNDEFINED,
-          "a slot of 15 bytes or none, a list of 22 places or none: 13 before all else; both are as they were");
-    check(fractal_heap_parse_header(header, HEADER, 1, WIDTH, WIDTH, fields, 25, slot, 24) ==
+              memcmp(slot, before, sizeof slot) == 0 && fields[0] == UNDEFINED && fields[25] == UNDEFINED,
+          "a slot of 15 bytes or none, a list of 25 places or none: 13 before all else; both are as they were");
+    check(fractal_heap_parse_header(header, HEADER, 1, WIDTH, WIDTH, fields, 28, slot, 24) ==
                   FRACTAL_HEAP_INVALID_SIGNATURE &&
               get(slot, 8) == 0 && get(slot + 8, 8) == 0 && memcmp(slot + 16, before + 16, 8) == 0 &&
-              fractal_heap_parse_header(header, 40, 0, WIDTH, WIDTH, fields, 25, slot, 24) ==
+              fractal_heap_parse_header(header, 40, 0, WIDTH, WIDTH, fields, 28, slot, 24) ==
                   FRACTAL_HEAP_UNEXPECTED_EOF &&
               get(slot, 8) == 70 && get(slot + 8, 8) == 40 && fields[0] == UNDEFINED && fields[1] == UNDEFINED,
           "a header that is refused: its number, two numbers in the slot; the list is as it was");
-    check(fractal_heap_parse_header(header, HEADER, 0, WIDTH, WIDTH, fields, 25, slot, 24) == FRACTAL_HEAP_OK &&
+    check(fractal_heap_parse_header(header, HEADER, 0, WIDTH, WIDTH, fields, 28, slot, 24) == FRACTAL_HEAP_OK &&
               get(slot, 8) == 0 && get(slot + 8, 8) == 0 && memcmp(slot + 16, before + 16, 8) == 0 &&
-              fields[23] == UNDEFINED && fields[24] == UNDEFINED,
-          "a header that is accepted: two zeros in the slot; places behind its fields as they were");
+              fields[26] == UNDEFINED && fields[27] == UNDEFINED,
+          "a header that is accepted: two zeros in the slot; places behind its numbers as they were");
     for (i = 0; i < FRACTAL_HEAP_HEADER_FIELDS; i++)
         holds = holds && fields[i] == due[i];
     check(holds, "every field of a header at its place");
-    check(fractal_heap_parse_header(file, FILE_LEN, AT, WIDTH, WIDTH, fields, 23, slot, 16) == FRACTAL_HEAP_OK &&
+    check(fields[FRACTAL_HEAP_IO_FILTER_INFORMATION_POSITION] == 0 &&
+              fields[FRACTAL_HEAP_FILTERED_ROOT_DIRECT_BLOCK_SIZE] == 0 && fields[FRACTAL_HEAP_IO_FILTER_MASK] == 0,
+          "a header without filters: zeros for what it has of them");
+    check(fractal_heap_parse_header(file, FILE_LEN, AT, WIDTH, WIDTH, fields, 26, slot, 16) == FRACTAL_HEAP_OK &&
               fields[FRACTAL_HEAP_HEAP_ID_LENGTH] == 8 && fields[FRACTAL_HEAP_FLAGS] == 2 &&
               fields[FRACTAL_HEAP_BTREE_HUGE_OBJECTS_ADDRESS] == UNDEFINED &&
               fields[FRACTAL_HEAP_FREE_SPACE_MANAGED_BLOCKS] == START - BLOCK_HEADER - sizeof OBJECT &&
@@ -438,9 +441,48 @@ static void header_fields(void)
               fields[FRACTAL_HEAP_MAX_HEAP_SIZE] == 40 && fields[FRACTAL_HEAP_ROOT_BLOCK_ADDRESS] == ROOT &&
               fields[FRACTAL_HEAP_CURRENT_ROWS_IN_ROOT_INDIRECT_BLOCK] == 0,
           "the fields of the heap's header by their names");
-    check(fractal_heap_parse_header(NULL, 0, AT, WIDTH, WIDTH, fields, 23, slot, 16) == FRACTAL_HEAP_UNEXPECTED_EOF &&
+    check(fractal_heap_parse_header(NULL, 0, AT, WIDTH, WIDTH, fields, 26, slot, 16) == FRACTAL_HEAP_UNEXPECTED_EOF &&
               get(slot, 8) == AT + 5 && get(slot + 8, 8) == 0,
           "no file has no header: 1 with the end of signature and version");
+}
+
+/* A header with filters of five bytes, behind AT others. By the format the size of a filtered direct root, its mask and
+ * the filters stand behind the fields of every header, and then comes the checksum. */
+static void filtered_header(void)
+{
+    static const uint64_t root_size = UINT64_C(0x0123456789ABCDEF), mask = 0x89ABCDEF;
+    enum { FILTERS = 5, EVERY = HEADER - 4, LEN = EVERY + WIDTH + 4 + FILTERS + 4 };
+    uint8_t bytes[AT + LEN], id[8], slot[16];
+    uint8_t *header = bytes + AT, *end;
+    uint64_t fields[FRACTAL_HEAP_HEADER_NUMBERS];
+    int i, holds = 1;
+    put_due();
+    memset(bytes, 0xA5, sizeof bytes);
+    check(write_header(due, FRACTAL_HEAP_HEADER_FIELDS, WIDTH, WIDTH, header, HEADER) == FRACTAL_HEAP_OK,
+          "a header to be filtered");
+    put(header + 7, FILTERS, 2);
+    end = put(put(header + EVERY, root_size, WIDTH), mask, 4) + FILTERS;
+    put(end, fractal_heap_checksum(header, LEN - 4), 4);
+    due[FRACTAL_HEAP_IO_FILTER_ENCODED_LENGTH] = FILTERS;
+    due[FRACTAL_HEAP_IO_FILTER_INFORMATION_POSITION] = AT + EVERY + WIDTH + 4;
+    due[FRACTAL_HEAP_FILTERED_ROOT_DIRECT_BLOCK_SIZE] = root_size;
+    due[FRACTAL_HEAP_IO_FILTER_MASK] = mask;
+    check(fractal_heap_parse_header(bytes, sizeof bytes, AT, WIDTH, WIDTH, fields, 26, slot, 16) == FRACTAL_HEAP_OK &&
+              memcmp(fields, due, sizeof fields) == 0,
+          "a header with filters: every field, and where in the file the filters are");
+    for (i = EVERY; i < LEN; i++)
+        holds = holds && fractal_heap_parse_header(bytes, (size_t)(AT + i), AT, WIDTH, WIDTH, fields, 26, slot, 16) ==
+                             FRACTAL_HEAP_UNEXPECTED_EOF &&
+                get(slot, 8) == AT + LEN && get(slot + 8, 8) == (uint64_t)(AT + i);
+    check(holds, "cut at each byte of these: 1 with the end of its checksum");
+    put_id(id, due[FRACTAL_HEAP_ROOT_BLOCK_ADDRESS], 1);
+    check(fractal_heap_read_managed_object(bytes, sizeof bytes, AT, WIDTH, WIDTH, id, 8, slot, 16) ==
+              FRACTAL_HEAP_UNSUPPORTED_FILTERED_HEAP_OBJECT,
+          "an object of a filtered heap: 8");
+    header[LEN - 5] ^= 1;
+    check(fractal_heap_parse_header(bytes, sizeof bytes, AT, WIDTH, WIDTH, fields, 26, slot, 16) ==
+              FRACTAL_HEAP_CHECKSUM_MISMATCH,
+          "a changed bit of the filters: 7");
 }
 
 /* In it the plan begins as many bytes behind the start as its alignment says. */
@@ -743,6 +785,7 @@ int main(void)
     header_written();
     header_refused();
     header_fields();
+    filtered_header();
     superblocks();
     user_block(id);
     nulls(fractal_heap_decode_managed_id, id);

@@ -32,7 +32,7 @@ extern "C" {
 /* What the functions answer, but for the checksum and the length of IDs: 0, or why they refuse. Behind each number are
  * its two values, which go into the slot where a function takes one. Those that read give 0 to 10 and 13; an open plan
  * gives 0, 2 and 11 to 13, the writer of IDs 0, 13 and 16, that of headers 0, 2, 3, 8, 13 and 17; 14 and 15 are those
- * of writing a region, in the same table. */
+ * of writing a region, 20 is that of finding and counting slots, in the same table. */
 enum fractal_heap_number {
     FRACTAL_HEAP_OK = 0,                                /* the answer's own */
     FRACTAL_HEAP_UNEXPECTED_EOF = 1,                    /* expected end (at most 2^64 - 1), available */
@@ -51,7 +51,8 @@ enum fractal_heap_number {
     FRACTAL_HEAP_OBJECT_BYTES_MISMATCH = 14,            /* sum of the sizes, bytes given */
     FRACTAL_HEAP_ADDRESS_TOO_LARGE = 15,                /* header address, 0; or region address, region size */
     FRACTAL_HEAP_HEAP_ID_TOO_LARGE = 16,                /* offset, length */
-    FRACTAL_HEAP_HEADER_FIELD_TOO_LARGE = 17            /* the field's place in header order, its value */
+    FRACTAL_HEAP_HEADER_FIELD_TOO_LARGE = 17,           /* the field's place in header order, its value */
+    FRACTAL_HEAP_OUTSIDE_HEAP = 20                      /* heap offset or number of rows, 0 */
 };
 
 /* A pointer whose length is 0 is not touched and may be NULL. That was seen in the compiled library;
@@ -118,7 +119,9 @@ uint32_t fractal_heap_checksum(const uint8_t *bytes, size_t bytes_len);
  *
  * The slot must not overlap the file or the ID: it is written while they are lent for reading. */
 
-/* The answer is the object's offset in the heap and its length. */
+/* The answer is the object's offset in the heap and its length. The length has as many bytes of the ID as the smaller
+ * of the header's largest direct block and largest managed object needs; what the ID has behind them is not looked at.
+ * Only the first eight bytes after byte 0 count: of what they lack the bits are 0. */
 uint32_t fractal_heap_decode_managed_id(const uint8_t *file, size_t file_len, uint64_t at,
                                         uint8_t offset_size, uint8_t length_size,
                                         const uint8_t *id, size_t id_len,
@@ -131,15 +134,21 @@ uint32_t fractal_heap_read_managed_object(const uint8_t *file, size_t file_len, 
                                           uint8_t *slot, size_t slot_len);
 
 enum {
-    FRACTAL_HEAP_HEADER_FIELDS = 23     /* 64-bit numbers that a header's fields are */
+    FRACTAL_HEAP_HEADER_FIELDS = 23,    /* 64-bit numbers that the fields of every header are */
+    FRACTAL_HEAP_HEADER_NUMBERS = 26    /* with the three that are told of the filters */
 };
 
-/* What the heap header at `at` in the file says, as the two functions above find it. Its fields between version and
- * checksum go into the first 23 places of the list, in header order, which is that of enum fractal_heap_field below;
- * places behind them keep their content, and two zeros go into the slot. An address is told as it is stored, undefined
- * where all its offset_size bytes are 0xFF. Refused, the slot gets the refusal's two numbers, and the list keeps its
- * content. fields_len counts numbers: a slot of fewer than 16 bytes, and then a list of fewer than 23 numbers, gives 13
- * before all else; neither is written. The list overlaps nothing else that is lent. */
+/* What the heap header at `at` in the file says, as the two functions above find it. The fields that every header has
+ * between version and checksum go into the first 23 places of the list, in header order, and into the next three what
+ * is told of the filters; the order is that of enum fractal_heap_field below. Places behind these 26 keep their content,
+ * and two zeros go into the slot. An address is told as it is stored, undefined where all its offset_size bytes are
+ * 0xFF. Where the length of the filters is 0 the last three are 0; else the bytes of their information, a Filter
+ * Pipeline message, which is not read, lie in the file from the position that is told on, and the checksum is behind
+ * them. Refused, the slot gets the refusal's two numbers, and the list keeps its content; where the file ends in front
+ * of the checksum's end, but behind the root's rows, these are the checksum's end and the file's length. fields_len
+ * counts numbers: a slot of fewer than 16 bytes, and then a list of fewer than 26 numbers, gives 13 before all else;
+ * neither is written. A list of 23, which was enough before headers with filters were read, gives 13. The list overlaps
+ * nothing else that is lent. */
 uint32_t fractal_heap_parse_header(const uint8_t *file, size_t file_len, uint64_t at,
                                    uint8_t offset_size, uint8_t length_size,
                                    uint64_t *fields, size_t fields_len,
@@ -169,7 +178,10 @@ enum fractal_heap_field {
     FRACTAL_HEAP_MAX_HEAP_SIZE,                             /* bits of a heap offset */
     FRACTAL_HEAP_START_ROOT_ROWS,                           /* rows of a new root; 0: as many as there can be */
     FRACTAL_HEAP_ROOT_BLOCK_ADDRESS,                        /* address */
-    FRACTAL_HEAP_CURRENT_ROWS_IN_ROOT_INDIRECT_BLOCK        /* rows; 0: the root is a direct block */
+    FRACTAL_HEAP_CURRENT_ROWS_IN_ROOT_INDIRECT_BLOCK,       /* rows; 0: the root is a direct block */
+    FRACTAL_HEAP_IO_FILTER_INFORMATION_POSITION,            /* where it begins, in bytes from the start of `file` */
+    FRACTAL_HEAP_FILTERED_ROOT_DIRECT_BLOCK_SIZE,           /* bytes of a direct root, once filtered */
+    FRACTAL_HEAP_IO_FILTER_MASK                             /* bits: the filters that a direct root was not put through */
 };
 
 /* How many bytes a header without filters has in a file with these two sizes. */
@@ -182,7 +194,7 @@ static inline size_t fractal_heap_header_length(uint8_t offset_size, uint8_t len
  * fractal_heap_field, and numbers behind them are not read. The header, from its signature to its checksum, goes into
  * the first bytes of `bytes`; bytes behind it keep their content. Returns 0, with the header's length and its checksum
  * in the slot. What it writes is what fractal_heap_parse_header reads: every accepted list comes back number by number,
- * and every header without filters that parses is written byte for byte as it was.
+ * the three behind it as 0, and every header without filters that parses is written byte for byte as it was.
  *
  * A slot of fewer than 16 bytes, and then a list of fewer than 23 numbers, gives 13 before all else. Then come 2 and 3,
  * the two sizes; 8 where the length of the filters is not 0; 17, the first field that its width cannot hold, with its

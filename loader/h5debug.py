@@ -36,6 +36,28 @@ def wide(image, address):
     return (1 << 64) - 1 if address == image.undefined else address
 
 
+def check_filters(text, heap):
+    """Holds what h5debug tells of a heap's filters to what its header has; the size of a filtered root and its mask it
+    tells of a direct one alone."""
+    if heap.rows == 0:
+        fields = {"size of": heap.filtered_root, "Filter mask for": heap.filter_mask}
+        fields = {f"{key} root direct block": value for key, value in fields.items()}
+        hold(text.replace("Compressed size", "size"), fields)
+    count = len(heap.filters)
+    expect(re.search(rf"Number of filters: +{count}/{count}$", text, re.MULTILINE), f"{count} filters")
+    told = re.split(r"^ +Filter at position \d+ *$", text, flags=re.MULTILINE)[1:]
+    expect(len(told) == count, "filters that are told")
+    for each, part in zip(heap.filters, told):
+        name = f'"{each.name}"' if each.name else "NONE"
+        lines = {"Filter identification": f"0x{each.number:04x}", "Filter name": name, "Flags": f"0x{each.flags:04x}"}
+        lines["Num CD values"] = str(len(each.values))
+        for key, value in lines.items():
+            found = re.search(rf"^ +{key}: +(.*?) *$", part, re.MULTILINE)
+            expect(found and found[1] == value, f"{key}: {found}, not {value}")
+        values = re.findall(r"CD value \d+ +(\d+)", part)
+        expect(values == [str(value) for value in each.values], f"client data {values}, not {each.values}")
+
+
 def check_header(name, heap):
     """Holds the fields of a header to h5debug's."""
     fields = {
@@ -64,6 +86,9 @@ def check_header(name, heap):
     hold(text, fields)
     wrapped = re.search(r"^'Huge' object IDs have wrapped: +(TRUE|FALSE)$", text, re.MULTILINE)
     expect(wrapped and (wrapped[1] == "TRUE") == bool(heap.flags & 1), f"huge IDs have wrapped: {wrapped}")
+    expect(("I/O filter Info" in text) == bool(heap.filter_length), "filters that h5debug tells of")
+    if heap.filter_length:
+        check_filters(text, heap)
 
 
 def check_indirect(name, heap, address, offset, rows):

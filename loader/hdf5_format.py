@@ -1,12 +1,14 @@
 """Reads what real_files.py and written_files.py need of an HDF5 file, by the HDF5 File Format
-Specification: superblock, object headers, version 2 B-trees and the blocks of a fractal heap. Nothing here
-calls our library."""
+Specification: superblock, object headers, version 2 B-trees, the blocks of a fractal heap and its filters.
+Nothing here calls our library."""
 
 import bisect
+import collections
+import zlib
 
-LINK_INFO, CONTINUATION, ATTRIBUTE_INFO = 0x02, 0x10, 0x15
+LINK_INFO, FILTER_PIPELINE, CONTINUATION, ATTRIBUTE_INFO = 0x02, 0x0B, 0x10, 0x15
 HUGE_OBJECTS, LINK_NAMES, LINK_ORDER, ATTRIBUTE_NAMES, ATTRIBUTE_ORDER = 1, 5, 6, 8, 9
-HEADER_FIELDS = [  # of a fractal heap, after signature and version: name, and width or kind of number
+HEADER_FIELDS = [  # of every fractal heap, after signature and version: name, and width or kind of number
     ("id_length", 2),
     ("filter_length", 2),
     ("flags", 1),
@@ -31,7 +33,8 @@ HEADER_FIELDS = [  # of a fractal heap, after signature and version: name, and w
     ("root", "address"),
     ("rows", 2),
 ]
-FIELD_NAMES = [  # what our library and the command call these fields, in the same order
+FILTER_FIELDS = ["filters_at", "filtered_root", "filter_mask"]  # what only a filtered heap has, else 0
+FIELD_NAMES = [  # what our library and the command call all these fields, in the same order
     "heap_id_length",
     "io_filter_encoded_length",
     "flags",
@@ -55,6 +58,9 @@ FIELD_NAMES = [  # what our library and the command call these fields, in the sa
     "start_root_rows",
     "root_block_address",
     "current_rows_in_root_indirect_block",
+    "io_filter_information_position",
+    "filtered_root_direct_block_size",
+    "io_filter_mask",
 ]
 
 
@@ -68,9 +74,23 @@ def told_fields(fields, position, offset_size, length_size):
     """What the command has to tell of a header with these numbers, in header order, as an object of JSON."""
     undefined = (1 << 8 * offset_size) - 1
     told = {"position": position, "offset_size": offset_size, "length_size": length_size}
-    for name, (_, kind), number in zip(FIELD_NAMES, HEADER_FIELDS, fields):
+    kinds = [kind for _, kind in HEADER_FIELDS] + [None] * len(FILTER_FIELDS)
+    expect(len(fields) == len(kinds), "numbers of a header")
+    for name, kind, number in zip(FIELD_NAMES, kinds, fields):
         told[name] = None if kind == "address" and number == undefined else number
     return told
+
+
+def field_widths(offset_size, length_size):
+    """How many bytes each of HEADER_FIELDS has."""
+    kinds = {"address": offset_size, "length": length_size}
+    return [kinds.get(width, width) for _, width in HEADER_FIELDS]
+
+
+def spelled_header(fields, widths, filtered=b""):
+    """The bytes of a header with these fields; what one with filters has for them stands before its checksum."""
+    data = b"FRHP\0" + b"".join(number.to_bytes(width, "little") for number, width in zip(fields, widths)) + filtered
+    return data + lookup3(data).to_bytes(4, "little")
 
 
 class Cursor:
@@ -119,6 +139,15 @@ class Image:
 
     def over(self, part):
         return Cursor(part, 0, self.offset_size, self.length_size)
+
+
+class BasedImage(Image):
+    """The bytes of a file from its superblock on. The widths are known; of what the superblock says nothing is used."""
+
+    def __init__(self, data, widths):  # not that of Image, which takes a file without a user block alone
+        self.data = data
+        self.offset_size, self.length_size = widths
+        self.undefined = (1 << 8 * self.offset_size) - 1
 
 
 def messages(image, address):
@@ -175,11 +204,12 @@ class BTree:
         at.signature(b"BTHD")
         self.image, self.kind = image, at.number(1)
         self.node_size, self.record_size = at.number(4), at.number(2)
-        depth = at.number(2)
-        at.number(2)  # percentages of split and merge
+        self.depth = depth = at.number(2)
+        self.split, self.merge = at.number(1), at.number(1)  # in percent
         root, count, total = at.address(), at.number(2), at.length()
         self._measure(depth)
         self.nodes = []
+        self.header_span = address, at.at
         self.places = list(self._node(root, count, depth)) if total else []
         self.records = [image.at(place).take(self.record_size) for place in self.places]
         expect(len(self.records) == total, "number of records")
@@ -223,65 +253,119 @@ def key_and_id(kind, record):
     return int.from_bytes(key, "little"), heap_id
 
 
-def header_length(image):
-    """Bytes of a fractal heap's header without filters."""
-    return 26 + 12 * image.length_size + 3 * image.offset_size
+Filter = collections.namedtuple("Filter", "number flags name values")
+UNDO = {1: zlib.decompress, 3: lambda stored: stored[:-4]}  # deflate; fletcher32, whose sum is behind the bytes
+
+
+def pipeline(message):
+    """Version and filters of a Filter Pipeline message, all of whose bytes they take; a name is None where none is
+    stored."""
+    at = Cursor(message, 0, 0, 0)
+    version, count = at.number(1), at.number(1)
+    expect(version in (1, 2) and count <= 32, f"{count} filters of version {version}")
+    expect(version == 2 or at.take(6) == bytes(6), "reserved bytes of a filter pipeline")
+    filters = []
+    for _ in range(count):
+        number = at.number(2)
+        named = at.number(2) if version == 1 or number >= 256 else 0
+        flags, values = at.number(2), at.number(2)
+        name = at.take(named)
+        expect(not name or name.endswith(b"\0"), f"the filter's name {name}")
+        expect(version == 2 or named % 8 == 0, "a name's length")
+        data = tuple(at.number(4) for _ in range(values))
+        expect(version == 2 or values % 2 == 0 or at.number(4) == 0, "padding of client data")
+        filters.append(Filter(number, flags, name.split(b"\0")[0].decode() if name else None, data))
+    expect(at.at == len(message), "bytes behind a filter pipeline")
+    return version, filters
+
+
+def undone(stored, filters, mask):
+    """Bytes as they were before these filters, but for those whose bit in the mask says that they were skipped."""
+    for i, each in reversed(list(enumerate(filters))):
+        if not mask >> i & 1:
+            stored = UNDO[each.number](stored)
+    return stored
+
+
+def header_length(image, filter_length=0):
+    """Bytes of a fractal heap's header: with filters it has the size of a filtered root, its mask, and the filters."""
+    filtered = image.length_size + 4 + filter_length if filter_length else 0
+    return 26 + 12 * image.length_size + 3 * image.offset_size + filtered
 
 
 class Heap:
-    """A fractal heap without filters: the fields of its header by name and where each lies, its direct
-    blocks, and its indirect blocks as (address, heap offset, rows, indirect blocks above it)."""
+    """A fractal heap: the fields of its header by name and where each lies, its filters, its direct blocks, and its
+    indirect blocks as (address, heap offset, rows, indirect blocks above it). Of a filtered heap the direct blocks
+    are kept as they were before the filters, by their heap offsets."""
 
     def __init__(self, image, address):
         self.image, self.address = image, address
         at = image.at(address)
         at.signature(b"FRHP")
-        widths = {"length": image.length_size, "address": image.offset_size}
         self.fields = {}  # name: place and width
-        for name, width in HEADER_FIELDS:
-            width = widths.get(width, width)
+        for (name, _), width in zip(HEADER_FIELDS, field_widths(image.offset_size, image.length_size)):
             self.fields[name] = at.at, width
             setattr(self, name, at.number(width))
-        expect(self.filter_length == 0, "a filtered heap")
+        self.filters_at = self.filtered_root = self.filter_mask = 0
+        self.filters = []
+        if self.filter_length:
+            self.filtered_root, self.filter_mask = at.length(), at.number(4)
+            self.filters_at = at.at
+            self.pipeline_version, self.filters = pipeline(at.take(self.filter_length))
         computed = lookup3(image.data[address : at.at])
         expect(at.number(4) == computed, "header checksum")
-        expect(at.at - address == header_length(image), "length of a header")
-        self.indirects = []
+        self.length = at.at - address
+        expect(self.length == header_length(image, self.filter_length), "length of a header")
+        self.indirects, self.unfiltered = [], {}
         self.blocks = sorted(self._blocks())
         self.depth = max((len(above) for _, _, _, above in self.blocks), default=-1)
+
+    def numbers(self):
+        """What there is to tell of the header, in the order of FIELD_NAMES."""
+        return [getattr(self, name) for name, _ in HEADER_FIELDS] + [getattr(self, name) for name in FILTER_FIELDS]
 
     def _blocks(self):
         """Every direct block that is there: (heap offset, size, address, indirect blocks above it)."""
         if self.root == self.image.undefined:
             return
         if self.rows == 0:
-            yield self._direct(self.root, 0, self.start, ())
+            yield self._direct(self.root, 0, self.start, (), self.filtered_root, self.filter_mask)
         else:
             yield from self._indirect(self.root, 0, self.rows, ())
 
-    def _block(self, signature, address, offset):
-        at = self.image.at(address)
+    def _block(self, signature, at, offset):
         at.signature(signature)
         expect(at.address() == self.address, "header address of a block")
         expect(at.number((self.bits + 7) // 8) == offset, "heap offset of a block")
-        return at
 
-    def _direct(self, address, offset, size, above):
-        self._block(b"FHDB", address, offset)
+    def _direct(self, address, offset, size, above, stored=0, mask=0):
+        at = self.image.at(address)
+        if self.filter_length:
+            block = undone(self.image.data[address : address + stored], self.filters, mask)
+            expect(len(block) == size, f"a filtered block of {len(block)} bytes, not {size}")
+            sum_at = self.direct_header() - 4
+            computed = lookup3(block[:sum_at] + bytes(4) + block[sum_at + 4 :])
+            expect(int.from_bytes(block[sum_at : sum_at + 4], "little") == computed, "checksum of a filtered block")
+            self.unfiltered[offset] = block
+            at = self.image.over(block)
+        self._block(b"FHDB", at, offset)
         return offset, size, address, above
 
     def _indirect(self, address, offset, rows, above):
-        at = self._block(b"FHIB", address, offset)
+        at = self.image.at(address)
+        self._block(b"FHIB", at, offset)
         self.indirects.append((address, offset, rows, above))
         above += (address,)
         for row in range(rows):
             size = self.start << max(row - 1, 0)
             for _ in range(self.width):
                 child = at.address()
+                has_sizes = self.filter_length and size <= self.largest_direct
+                filtered = (at.length(), at.number(4)) if has_sizes else ()
                 if child == self.image.undefined:
                     pass
                 elif size <= self.largest_direct:
-                    yield self._direct(child, offset, size, above)
+                    yield self._direct(child, offset, size, above, *filtered)
                 else:
                     yield from self._indirect(child, offset, self.child_rows(size), above)
                 offset += size
@@ -312,11 +396,11 @@ class Heap:
         return (size // (self.width * self.start)).bit_length()
 
     def decode(self, heap_id):
-        """Offset and length of a managed ID, whose length takes all bytes after the offset."""
+        """Offset and length of a managed ID: the length has the bytes that the smaller of the two sizes needs."""
         at = self.image.over(heap_id)
         at.number(1)
         offset = at.number((self.bits + 7) // 8)
-        return offset, at.number(len(heap_id) - at.at)
+        return offset, at.number(bytes_for(min(self.largest_direct, self.largest_object)))
 
     def block(self, offset):
         """The direct block that holds a heap offset."""
@@ -324,9 +408,17 @@ class Heap:
 
     def position(self, offset, length):
         """Where in the file the bytes from a heap offset on lie."""
+        expect(not self.filter_length, "objects of a filtered heap lie nowhere in the file")
         start, size, address, _ = self.block(offset)
         expect(start <= offset and offset + length <= start + size, "an object outside of its block")
         return address + offset - start
+
+    def object(self, heap_id):
+        """The bytes of a managed object of a filtered heap."""
+        offset, length = self.decode(heap_id)
+        start, size, _, _ = self.block(offset)
+        expect(start <= offset and offset + length <= start + size, "an object outside of its block")
+        return self.unfiltered[start][offset - start : offset - start + length]
 
 
 def rotated(x, k):

@@ -6,7 +6,7 @@ import ctypes
 import os
 
 import h5py
-from h5py import h5p
+from h5py import h5a, h5g, h5p, h5s, h5t
 
 import hdf5_format as form
 from hdf5_format import expect
@@ -49,6 +49,8 @@ def functions():
     for name in ("H5HF_read", "H5HF_get_obj_len", "H5HF_get_obj_off"):
         getattr(library, name).argtypes = [ctypes.c_void_p] * 3
     library.H5HF_close.argtypes = [ctypes.c_void_p]
+    library.H5HF_open.argtypes = [ctypes.c_void_p, ctypes.c_uint64]
+    library.H5HF_open.restype = ctypes.c_void_p
     return library
 
 
@@ -57,15 +59,19 @@ class OwnHeap:
 
     def __init__(self, folder, **other):
         self.name = os.path.join(folder, "own.h5")
-        self.file, self.library = created(self.name, 8, 8), functions()
-        self.library.H5CX_push()  # what HDF5's public functions do first
-        self.library.H5CX_set_tag(1)
+        file = self._in(created(self.name, 8, 8))
         parameters = Parameters(**{**FIXED, **other})
-        file = self.library.H5I_object(self.file.id.id)
         self.heap = self.library.H5HF_create(file, ctypes.byref(parameters))
         expect(self.heap, f"no heap with {other}")
         self.id_length = self._told(self.library.H5HF_get_id_len, ctypes.c_size_t)
         self.address = self._told(self.library.H5HF_get_heap_addr, ctypes.c_uint64)
+
+    def _in(self, file):
+        """What HDF5's functions know an open file by."""
+        self.file, self.library = file, functions()
+        self.library.H5CX_push()  # what HDF5's public functions do first
+        self.library.H5CX_set_tag(1)
+        return self.library.H5I_object(self.file.id.id)
 
     def _told(self, function, kind, *heap_id):
         number = kind()
@@ -74,8 +80,12 @@ class OwnHeap:
 
     def insert(self, size):
         """The ID of a new object of so many bytes; None where HDF5 refuses it."""
+        return self.insert_bytes(b"x" * size)
+
+    def insert_bytes(self, data):
+        """The same of an object of these bytes."""
         heap_id = ctypes.create_string_buffer(64)
-        number = self.library.H5HF_insert(self.heap, size, b"x" * size, heap_id)
+        number = self.library.H5HF_insert(self.heap, len(data), data, heap_id)
         return heap_id.raw[: self.id_length] if number >= 0 else None
 
     def decode(self, heap_id):
@@ -90,14 +100,48 @@ class OwnHeap:
         """Whether HDF5 reads an object."""
         return self.library.H5HF_read(self.heap, heap_id, ctypes.create_string_buffer(70000)) >= 0
 
-    def closed(self):
+    def read_bytes(self, heap_id):
+        """What HDF5 reads by an ID, as many bytes as it says that the object has."""
+        found = ctypes.create_string_buffer(self.length(heap_id))
+        expect(self.library.H5HF_read(self.heap, heap_id, found) >= 0, f"HDF5's reading by {heap_id.hex()}")
+        return found.raw
+
+    def kept(self):
+        """The heap in its file, which is left."""
         self.library.H5HF_close(self.heap)
         self.library.H5CX_pop()
         self.file.close()
         with open(self.name, "rb") as opened:
-            heap = form.Heap(form.Image(opened.read()), self.address)
+            return form.Heap(form.Image(opened.read()), self.address)
+
+    def closed(self):
+        heap = self.kept()
         os.remove(self.name)
         return heap
+
+    def opened_with(self, **numbers):
+        """The heap opened by HDF5 again, with other numbers in its header."""
+        heap = self.kept()
+        data = bytearray(heap.image.data)
+        for name, number in numbers.items():
+            place, width = heap.fields[name]
+            data[place : place + width] = number.to_bytes(width, "little")
+        end = heap.address + form.header_length(heap.image) - 4
+        data[end : end + 4] = form.lookup3(bytes(data[heap.address : end])).to_bytes(4, "little")
+        with open(self.name, "wb") as opened:
+            opened.write(data)
+        self.heap = self.library.H5HF_open(self._in(h5py.File(self.name, "r")), self.address)
+        expect(self.heap, f"no heap opened with {numbers}")
+        return self
+
+
+def makes(folder, **other):
+    """Whether HDF5 makes a heap of these numbers."""
+    try:
+        OwnHeap(folder, **other).closed()
+    except AssertionError:
+        return False
+    return True
 
 
 def managed(offset, length, offset_width=5, length_width=2):
@@ -106,7 +150,9 @@ def managed(offset, length, offset_width=5, length_width=2):
 
 
 def check_fields(folder):
-    """The fields of managed IDs: whole bytes, as many as heap bits and lengths need (3, 5, 18, 23, 24)."""
+    """The fields of managed IDs: whole bytes, as many as heap bits and lengths need (3, 5, 18, 23, 24); by how many
+    bytes the length parts from the format's words where the largest direct block is a power of 256, or no object may
+    be managed (39, 40)."""
     heap = OwnHeap(folder, bits=12, largest_direct=1024, largest_object=1000)
     expect(heap.decode(bytes([0, 1, 2, 3, 0])) == (513, 3), "12 heap bits")
     heap.closed()
@@ -117,9 +163,22 @@ def check_fields(folder):
     heap = OwnHeap(folder, largest_object=255)
     expect(heap.insert(100) == managed(BODY, 100, length_width=1), "a largest object of 255 bytes")
     heap.closed()
+    expect(not makes(folder, largest_object=65536), "a largest object of as many bytes as the largest direct block")
     heap = OwnHeap(folder, id_length=9)
     expect(heap.insert(100) == managed(BODY, 100) + b"\0", "an ID of nine bytes")
     expect(heap.decode(managed(1, 2) + b"\1") == (1, 2), "an ID of nine bytes")
+    heap = heap.opened_with(largest_object=65536)
+    expect(heap.decode(managed(0, 1) + b"\1") == (0, 1), "a largest direct block of 65,536 bytes")
+    heap = heap.opened_with(largest_direct=1 << 24, largest_object=(1 << 32) - 1)
+    expect(heap.decode(managed(0, 1) + b"\1") == (0, 65537), "a largest direct block of 2^24 bytes")
+    heap = heap.opened_with(largest_direct=256)
+    expect(heap.decode(managed(1, 0x302)) == (1, 2), "a largest direct block of 256 bytes")
+    heap = heap.opened_with(largest_direct=1)
+    expect(heap.decode(managed(1, 0x302)) == (1, 0), "a largest direct block of one byte")
+    heap.closed()
+    heap = OwnHeap(folder, largest_object=0)
+    expect(heap.id_length == 7 and heap.decode(managed(1, 2)) == (1, 2), "no managed objects")
+    expect(heap.insert(1)[0] == 0x10, "an object of one byte, where none is managed")
     heap.closed()
 
 
@@ -220,10 +279,35 @@ def check_widths(folder):
         raise AssertionError(f"an offset size of {size}")
 
 
+def renamed_is_removed(name, order):
+    """Whether HDF5 removes an attribute, in dense storage from the start, that was renamed."""
+    with h5py.File(name, "w", libver="latest") as file:
+        kind = h5p.create(h5p.GROUP_CREATE)
+        kind.set_attr_creation_order(order)
+        kind.set_attr_phase_change(0, 0)
+        group = h5g.create(file.id, b"group", gcpl=kind)
+        h5a.create(group, b"a", h5t.STD_U8LE, h5s.create(h5s.SCALAR))
+        h5a.rename(group, b"a", b"b")
+        try:
+            h5a.delete(group, b"b")
+        except KeyError as error:
+            expect("record is not in B-tree" in str(error), f"not removed for another cause: {error}")
+            return False
+    return True
+
+
+def check_order(folder):
+    """An attribute that was renamed cannot be removed where creation order is indexed (41)."""
+    name, tracked = os.path.join(folder, "order.h5"), h5p.CRT_ORDER_TRACKED
+    for order, due in [(0, True), (tracked, True), (tracked | h5p.CRT_ORDER_INDEXED, False)]:
+        expect(renamed_is_removed(name, order) == due, f"creation order {order}")
+    os.remove(name)
+
+
 def check(folder):
     """What to print of it."""
     if not is_known():
         return "HDF5's own functions and numbers: skipped, they are known of HDF5 1.10 alone"
-    for part in (check_widths, check_fields, check_kinds, check_reads, check_spaces, check_nested):
+    for part in (check_widths, check_fields, check_kinds, check_reads, check_spaces, check_nested, check_order):
         part(folder)
     return "HDF5's own functions do as docs/DIFFERENCES.md says of them"

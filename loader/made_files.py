@@ -10,12 +10,12 @@ VERSION = 1, 10  # of HDF5: where the format leaves a choice, another may make a
 EDGES = [1, 2, 60, 900, 3900]  # of the sizes of data; an object above 4,096 bytes is huge
 
 
-def created(name, offset_size, length_size):
-    """A new file of the latest format with these widths."""
+def created(name, offset_size, length_size, oldest=h5f.LIBVER_LATEST):
+    """A new file with these widths, of the latest format, or of as old a one as can be."""
     sizes = h5p.create(h5p.FILE_CREATE)
     sizes.set_sizes(offset_size, length_size)
     access = h5p.create(h5p.FILE_ACCESS)
-    access.set_libver_bounds(h5f.LIBVER_LATEST, h5f.LIBVER_LATEST)
+    access.set_libver_bounds(oldest, h5f.LIBVER_LATEST)
     return h5py.File(h5f.create(name.encode(), h5f.ACC_TRUNC, sizes, access))
 
 

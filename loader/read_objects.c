@@ -3,7 +3,7 @@
  * A line of input is `at offset_size length_size id`, the ID in hexadecimal; the line of output that
  * answers it is `number first second`: the object's position and length, or a refusal. With `decode` it
  * is the ID alone that is decoded. With `header` the ID is not looked at, and behind a number that is 0
- * come the header's fields. The file, each ID, each slot and each list lie in memory of exactly their
+ * come the numbers of the header. The file, each ID, each slot and each list lie in memory of exactly their
  * size. */
 #include "files.h"
 #include "fractal_heap.h"
@@ -23,14 +23,14 @@ static uint8_t *bytes_of(const char *hex, size_t *len)
 /* The answer for a header, in a line. */
 static void tell_header(const uint8_t *file, size_t file_len, uint64_t at, uint8_t offset_size, uint8_t length_size)
 {
-    uint64_t *fields = (uint64_t *)(void *)memory(8 * FRACTAL_HEAP_HEADER_FIELDS);
+    uint64_t *fields = (uint64_t *)(void *)memory(8 * FRACTAL_HEAP_HEADER_NUMBERS);
     uint8_t *slot = memory(16);
     uint32_t number = fractal_heap_parse_header(file, file_len, at, offset_size, length_size, fields,
-                                                FRACTAL_HEAP_HEADER_FIELDS, slot, 16);
+                                                FRACTAL_HEAP_HEADER_NUMBERS, slot, 16);
     printf("%" PRIu32, number);
     if (number != FRACTAL_HEAP_OK)
         printf(" %" PRIu64 " %" PRIu64, number_at(slot), number_at(slot + 8));
-    for (int i = 0; number == FRACTAL_HEAP_OK && i < FRACTAL_HEAP_HEADER_FIELDS; i++)
+    for (int i = 0; number == FRACTAL_HEAP_OK && i < FRACTAL_HEAP_HEADER_NUMBERS; i++)
         printf(" %" PRIu64, fields[i]);
     printf("\n");
     free(fields);

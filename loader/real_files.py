@@ -7,7 +7,6 @@ READ_OBJECTS is the program of read_objects.c; those of read_file.c and write_he
 import collections
 import ctypes
 import itertools
-import json
 import os
 import random
 import shutil
@@ -16,18 +15,21 @@ import sys
 
 import h5py
 import numpy
-from h5py import h5f, h5g, h5o, h5p
+from h5py import h5f, h5o, h5p
 
+import filtered_files
 import h5debug
 import hdf5_format as form
 import hdf5_heaps
+import long_ids
+from asked import COMMAND, ask, told_headers, told_of
+from damaged_copies import check_copies, damaged_headers
 from hdf5_format import expect
 from hdf5_messages import due_messages
 from made_files import WIDTHS, created, is_known, some_size, some_value
 from written_headers import written_header
 
 TYPES = ["managed", "huge", "tiny"]  # of heap IDs
-COMMAND = "target/poilures"  # where it is built, some objects are read by it, too
 RUST_EXAMPLE = "target/cargo/release/examples/read_file"  # of the Rust crate, where it is built
 KINDS = ["empty", "direct", "indirect", "nested"]  # of heaps: no block, or indirect ones above the direct
 
@@ -113,18 +115,6 @@ def kind_of(heap):
     return KINDS[min(heap.depth, 2) + 1]
 
 
-def ask(program, name, image, address, ids, *words):
-    """The answers of read_objects for IDs of the heap at an address, as tuples of three numbers."""
-    widths = f"{address} {image.offset_size} {image.length_size}"
-    lines = "".join(f"{widths} {heap_id.hex()}\n" for heap_id in ids)
-    run = subprocess.run(
-        [program, name, *words], input=lines, text=True, stdout=subprocess.PIPE, check=True
-    )
-    answers = [tuple(map(int, line.split())) for line in run.stdout.splitlines()]
-    expect(len(answers) == len(ids), "number of answers")
-    return answers
-
-
 def check_object(heap, heap_id, due, read, decoded):
     """Holds both answers for an ID to the format, and the bytes there to the message that is due."""
     expect(len(heap_id) == heap.id_length, "length of an ID")
@@ -167,27 +157,15 @@ def check_index(program, name, heap, tree, due, counts):
     return ids
 
 
-def told_headers(name, *words):
-    """What the command tells of the headers in a file."""
-    run = subprocess.run([COMMAND, "header", "--json", "--quiet", name, *words], capture_output=True, text=True)
-    expect(run.returncode == 0, f"headers of {name}: {run}")
-    return [json.loads(line) for line in run.stdout.splitlines()]
-
-
-def told_of(heap, before=0):
-    """What has to be told of a heap's header, before which there is a user block of so many bytes."""
-    fields = [getattr(heap, field) for field, _ in form.HEADER_FIELDS]
-    return form.told_fields(fields, heap.address + before, heap.image.offset_size, heap.image.length_size)
-
-
 def check_fields(program, name, heap, counts):
     """All fields of a header, from C and by the command."""
-    fields = [getattr(heap, field) for field, _ in form.HEADER_FIELDS]
+    fields = heap.numbers()
     told = ask(program, name, heap.image, heap.address, [b"\0"], "header")
     expect(told == [(0, *fields)], f"{told}, not {fields}")
     counts["headers from C"] += 1
-    stored = heap.image.data[heap.address : heap.address + form.header_length(heap.image)]
-    expect(written_header(program, heap.image, told[0][1:]) == stored, "a header is written as it was read")
+    stored = heap.image.data[heap.address : heap.address + heap.length]
+    written = written_header(program, heap.image, told[0][1:][: len(form.HEADER_FIELDS)])
+    expect(written == stored, "a header is written as it was read")
     counts["headers written back"] += 1
     if os.path.exists(COMMAND):
         told = told_headers(name, str(heap.address))
@@ -247,15 +225,6 @@ def check_file(program, name, counts):
 
 
 # Files with a user block, which is before the superblock: addresses count from there
-
-
-class BasedImage(form.Image):
-    """The bytes of a file from its superblock on. The widths are known; of what the superblock says nothing is used."""
-
-    def __init__(self, data, widths):  # not that of Image, which takes a file without a user block alone
-        self.data = data
-        self.offset_size, self.length_size = widths
-        self.undefined = (1 << 8 * self.offset_size) - 1
 
 
 def write_behind(name, block, version, widths):
@@ -332,7 +301,7 @@ def check_user_block(programs, name, block, version, widths, counts):
     with open(name, "rb") as opened:
         data = opened.read()
     expect(data[block : block + 9] == b"\x89HDF\r\n\x1a\n" + bytes([version]), "superblock behind a user block")
-    image, kinds = BasedImage(data[block:], widths), [form.LINK_INFO, form.ATTRIBUTE_INFO]
+    image, kinds = form.BasedImage(data[block:], widths), [form.LINK_INFO, form.ATTRIBUTE_INFO]
     with h5py.File(name, "r") as file:
         owner = file["dense"].id
         for kind in kinds if version > 1 else kinds[:1]:
@@ -364,7 +333,7 @@ def one_link(name):
     """A file with a heap of links: address, ID and bytes of one of them."""
     write_behind(name, 512, 3, (8, 8))
     with open(name, "rb") as opened:
-        image = BasedImage(opened.read()[512:], (8, 8))
+        image = form.BasedImage(opened.read()[512:], (8, 8))
     with h5py.File(name, "r") as file:
         group = file["dense"].id
         address, trees = form.dense_storage(image, h5o.get_info(group).addr, form.LINK_INFO)
@@ -406,48 +375,12 @@ def check_mistyped(program, programs, folder):
 # Damaged copies
 
 
-def checksum_answer(image, data, address):
-    """The refusal 7 of a header that is not as it was sealed. With a filter length other than 0 the
-    checksum is sought after length size + 4 further bytes."""
-    end = address + form.header_length(image) - 4
-    if data[address + 7 : address + 9] != b"\0\0":
-        end += image.length_size + 4
-    return 7, int.from_bytes(data[end : end + 4], "little"), form.lookup3(data[address:end])
-
-
-def flipped(heap, at):
-    """A copy with one bit of the header flipped, and the answer that is due: 4, 5 or 7."""
-    data = bytearray(heap.image.data)
-    data[at] ^= 0x40
-    if at < heap.address + 4:
-        return data, (4, 0, 0)
-    if at == heap.address + 4:
-        return data, (5, data[at], 0)
-    return data, checksum_answer(heap.image, bytes(data), heap.address)
-
-
-def field_ends(image):
-    """Where the fields end that parsing tests, in its order; some are tested together."""
-    offset, length = image.offset_size, image.length_size
-    steps = [5, 2, 2, 1, 4, length, offset, 4 * length + offset, length, 4 * length + 2]
-    steps += [length, length, 2, 2, offset, 2, 4]
-    return [sum(steps[: i + 1]) for i in range(len(steps))]
-
-
-def damaged_headers(heap):
-    """Copies flipped at each byte of the header, and cut before it."""
-    for at in range(heap.address, heap.address + form.header_length(heap.image)):
-        yield flipped(heap, at)
-        end = next(end for end in field_ends(heap.image) if heap.address + end > at)
-        yield heap.image.data[:at], (1, heap.address + end, at)
-
-
 def damaged_blocks(heap, heap_id):
     """Copies with the signature of a block above the object flipped or cut, or the object cut."""
     data = heap.image.data
     offset, length = heap.decode(heap_id)
     place = heap.position(offset, length)
-    needed = heap.address + form.header_length(heap.image)  # where all ends that is read before
+    needed = heap.address + heap.length  # where all ends that is read before
     for address in heap.block(offset)[3]:
         copy = bytearray(data)
         copy[address + 3] ^= 1
@@ -458,19 +391,6 @@ def damaged_blocks(heap, heap_id):
     for end in (place, place + 1, place + length - 1):
         if end >= needed:
             yield data[:end], (1, place + length, end)
-
-
-def check_copies(program, heap, heap_id, folder, copies):
-    """Holds the answers for damaged copies of a file to those due; returns how often each number was."""
-    name, numbers = os.path.join(folder, "damaged.h5"), collections.Counter()
-    for data, due in copies:
-        with open(name, "wb") as opened:
-            opened.write(data)
-        answer = ask(program, name, heap.image, heap.address, [heap_id])
-        expect(answer == [due], f"a damaged copy of {len(data)} bytes: {answer}, not {due}")
-        numbers[due[0]] += 1
-        os.remove(name)
-    return numbers
 
 
 def check_damage(program, folder, heaps):
@@ -487,35 +407,13 @@ def check_damage(program, folder, heaps):
     return numbers
 
 
-def check_filtered(program, folder):
-    """A group whose links HDF5 has compressed: the checksum is sought where it is not (difference 1 in
-    docs/DIFFERENCES.md), so every ID gives 7. h5py has no call of its own that sets this filter."""
-    name = os.path.join(folder, "filtered.h5")
-    filters = h5p.create(h5p.GROUP_CREATE)
-    set_deflate = ctypes.CDLL(h5p.__file__).H5Pset_deflate
-    expect(set_deflate(ctypes.c_int64(filters.id), ctypes.c_uint(6)) >= 0, "H5Pset_deflate")
-    with created(name, 8, 8) as file:
-        file.create_group("target")
-        group = h5py.Group(h5g.create(file.id, b"filtered", None, filters))
-        add_links(random.Random("filtered"), group, 20, size=20)
-        address = h5o.get_info(group.id).addr
-    with open(name, "rb") as opened:
-        image = form.Image(opened.read())
-    heap, trees = form.dense_storage(image, address, form.LINK_INFO)
-    tree = form.BTree(image, trees[0])
-    ids = [form.key_and_id(tree.kind, record)[1] for record in tree.records]
-    answers = ask(program, name, image, heap, ids)
-    expect(answers == [checksum_answer(image, image.data, heap)] * 20, "a filtered heap")
-    return len(answers)
-
-
 def report(counts, numbers, filtered, own):
     """Prints what was met; the last line is the sum."""
     copies = ", ".join(f"{count} by {number}" for number, count in sorted(numbers.items()))
     print(
-        f"real files: refused: damaged copies, {copies}; {filtered} IDs of a filtered heap by 7; "
-        f"{counts['huge']} huge and {counts['tiny']} tiny IDs by 6"
+        f"real files: refused: damaged copies, {copies}; {counts['huge']} huge and {counts['tiny']} tiny IDs by 6"
     )
+    print(f"real files: {filtered}")
     debugged = f"{counts['h5debug']} headers as it tells them"
     print(f"real files: h5debug: {debugged if counts['h5debug'] else 'skipped, it is not at hand'}")
     commanded = f"by the command {counts['headers found']}" if counts["headers found"] else "the command is not built"
@@ -530,7 +428,8 @@ def report(counts, numbers, filtered, own):
     print(f"real files: behind user blocks: from C: {counts['behind in C']} objects")
     print(f"real files: behind user blocks: from Rust: {rust}")
     print(f"real files: mistyped, or printed to a full disk: {counts['mistyped']} calls end with a sentence and 1")
-    print(f"real files: {own}")
+    for line in own:
+        print(f"real files: {line}")
     heaps = ", ".join(f"{counts[kind]} {kind}" for kind in KINDS)
     total = sum(counts[kind] for kind in KINDS)
     print(
@@ -555,8 +454,8 @@ def main():
         programs["Rust"] = RUST_EXAMPLE
     check_user_blocks(programs, folder, counts)
     counts["mistyped"] = check_mistyped(program, programs, folder)
-    filtered = check_filtered(program, folder)
-    report(counts, numbers, filtered, hdf5_heaps.check(folder))
+    filtered = filtered_files.check(program, folder, counts)
+    report(counts, numbers, filtered, [hdf5_heaps.check(folder), long_ids.check(program, folder)])
 
 
 main()

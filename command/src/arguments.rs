@@ -29,6 +29,36 @@ Numbers are decimal, 5,120 or 5120, or hexadecimal, 0x1400.
 Exit status: 0 all well; 1 refused, or not as it should be; 2 wrong use, or a file
 that cannot be read or written.";
 
+const DEPOSIT_MORE: &str = "\
+RUN.h5 is an HDF5 file, which h5py, h5dump, HDFView and all programs on HDF5's library
+open. Each file becomes an attribute of its root group, by its base name: a list of
+unsigned bytes, of none where the file is empty, for which h5py gives an array. With
+--text a file that is UTF-8, not empty and without a zero byte becomes one string of
+fixed length, for which h5py gives bytes, and all others stay lists.
+A heap for a file of your own comes from write.
+
+Each object's ID is printed when its file has been read, before the next one is; it
+stays the object's ID whatever follows. The object is HDF5's message of the attribute,
+with name, type and space first, and then the file's bytes: read prints it whole. It has
+at most 65,514 bytes, so that a file has at most 65,480 less those of its name.
+
+Names are UTF-8, and no two are alike. Their order is that of the heap offsets; with
+--track-order HDF5 knows it, too, so that h5py lists them in the order of deposit.
+
+RUN.h5 appears whole or not at all, and all objects are read back before, as with write,
+whose help says what stays behind of a program that is killed.
+
+Examples, one after another:
+  printf 'gauge 7 was replaced at noon' >note
+  PROGRAM deposit run.h5 note
+  PROGRAM deposit --force --text --map run.h5 note
+  date | PROGRAM deposit --name 'the date' date.h5 -
+  printf 'note\\0' | PROGRAM deposit --json --files0-from - list.h5
+
+Then, with HDF5's tools and h5py:
+  h5dump run.h5
+  python3 -c \"import h5py; print(h5py.File('run.h5').attrs['note'].tobytes())\"";
+
 const WRITE_MORE: &str = "\
 Each object's ID is printed when its file has been read, before the next one is; it
 stays the object's ID whatever follows. At the end every object is read back by its ID
@@ -44,7 +74,8 @@ that the disk has to have room for them and for IMAGE. With --out - that folder 
 one for temporary files (TMPDIR, else /tmp), and there the image is, too, where objects
 and image together have more than 256 MB.
 
-An image holds the heap alone: it is no HDF5 file, and HDF5's tools do not open it.
+An image holds the heap alone, to be put into a file of your own: it is no HDF5 file,
+and HDF5's tools do not open it. deposit writes a whole HDF5 file.
 
 INDEX appears in the same way, after IMAGE. It has a line of JSON for each object, with
 its id, its length and the name of its file; of a name that is no UTF-8 it has the bytes
@@ -87,10 +118,18 @@ with its position; the blocks behind it are not looked at. With PLACE a header t
 damaged is refused, and nothing is printed.
 
 Sizes are in bytes. Addresses are told as they are stored, none where they are undefined;
-where the base is not 0, the position in the file is told beside them. --json prints
-one line for each header, with the fields by their names, as heap_id_length, undefined
-addresses as null, and position (in the file), offset_size and length_size. Its numbers go
-up to 2^64 - 1: a reader that has doubles for numbers cuts those above 2^53.
+where the base is not 0, the position in the file is told beside them.
+
+Of a filtered heap, whose blocks are put through filters, it is told what these are, in the
+order in which they are put on, by names and numbers and with the values that control them,
+or the bytes that do not say it; where in the file these bytes begin; how many bytes a
+direct root block has as the filters left it, and which of them it skipped.
+
+--json prints one line for each header, with the fields by their names, as heap_id_length,
+undefined addresses as null, and position (in the file), offset_size and length_size. Its
+numbers go up to 2^64 - 1: a reader that has doubles for numbers cuts those above 2^53.
+Three of them are 0 where there are no filters: io_filter_information_position (in the
+file), filtered_root_direct_block_size and io_filter_mask.
 
 Examples, one after another:
   printf 'gauge 7 was replaced at noon' >note
@@ -98,13 +137,39 @@ Examples, one after another:
   PROGRAM header heap.image
   PROGRAM header --json heap.image 0";
 
+const LOCATE_MORE: &str = "\
+Told are the indirect blocks on the way from the root to the direct block, each by the row
+and the column of its slot and the heap offset at which it begins; the direct block's heap
+offset and size; where its header ends, and whether the offset lies in the header. The
+block is found by two engines, and it is said whether they agree: one goes down through
+the indirect blocks, one counts every block before, which takes up to a second.
+
+Offsets are below 2^40, or refused by 20. --json prints one line: offset, way (a list with
+row, column and start of each block), block_start, block_size, header_end, in_header,
+engines_agree and offset_size.
+
+Examples:
+  PROGRAM locate 2,359,318
+  PROGRAM locate --json --offset-size 4 0x3fffff";
+
+const SLOTS_MORE: &str = "\
+A heap's root has 1 to 29 rows; other numbers are refused by 20. Slots in indirect blocks
+count, these themselves do not: all bytes together are the heap space of so many rows.
+29 rows take up to a second. --json prints one line: rows, counts (a list with size, slots
+and bytes), slots and bytes.
+
+Examples:
+  PROGRAM slots 3
+  PROGRAM slots --json 29";
+
 const EXPLAIN_MORE: &str = "\
 Examples:
   PROGRAM explain 1 5120 4096
   PROGRAM explain 7";
 
 const READ_MORE: &str = "\
-The blocks of the heap are not checked: a damaged block gives its damaged bytes.
+The blocks of the heap are not checked: a damaged block gives its damaged bytes. Managed
+objects of a filtered heap are not read: its blocks are as its filters left them.
 
 In a file with a superblock PLACE is still a position in the file. Addresses that
 HDF5's tools print count from the superblock, which is behind the user block where
@@ -156,15 +221,57 @@ pub struct Arguments {
 
 #[derive(Subcommand)]
 pub enum Subcommands {
+    Deposit(Deposit),
     Write(Write),
     Read(Read),
     Header(Header),
     Ids(Ids),
+    Locate(Locate),
+    Slots(Slots),
     Explain(Explain),
     /// Prints what a shell needs to complete this program's words.
     Completions {
         shell: clap_complete::Shell,
     },
+}
+
+/// Puts files as attributes into a new HDF5 file, and prints the ID of each.
+#[derive(Args)]
+#[command(after_help = DEPOSIT_MORE)]
+pub struct Deposit {
+    /// The HDF5 file; - is standard output.
+    #[arg(value_name = "RUN.h5")]
+    pub out: PathBuf,
+    /// The files; - is standard input. With none, a file without attributes.
+    #[arg(value_name = "FILE")]
+    pub files: Vec<OsString>,
+    /// Take the files' names from FILE, each ended by a zero byte; - is standard input.
+    #[arg(long, value_name = "FILE", conflicts_with = "files")]
+    pub files0_from: Option<OsString>,
+    /// The name of the attribute from standard input, or from the only FILE.
+    #[arg(long, value_name = "NAME")]
+    pub name: Option<String>,
+    /// Store files that can be a string of HDF5 as one.
+    #[arg(long)]
+    pub text: bool,
+    /// Have HDF5 know the order of the attributes, of which there are 65,534 at most then.
+    #[arg(long)]
+    pub track_order: bool,
+    /// Replace RUN.h5 where it is there already.
+    #[arg(long)]
+    pub force: bool,
+    /// Draw the heap: its rows, slots and blocks.
+    #[arg(long, conflicts_with_all = ["json", "quiet"])]
+    pub map: bool,
+    /// Draw with plain characters.
+    #[arg(long, requires = "map")]
+    pub ascii: bool,
+    /// Print a line of JSON for each object.
+    #[arg(long, conflicts_with = "quiet")]
+    pub json: bool,
+    /// Print the IDs alone.
+    #[arg(short, long)]
+    pub quiet: bool,
 }
 
 /// Writes files as objects of a heap, in their order, and prints the ID of each.
@@ -297,6 +404,33 @@ pub struct Ids {
     /// Bytes of an address: 2, 4 or 8.
     #[arg(long, value_name = "BYTES", value_parser = size, default_value = "8")]
     pub offset_size: u8,
+}
+
+/// Prints which direct block has a heap offset, and the way there, by two engines.
+#[derive(Args)]
+#[command(after_help = LOCATE_MORE)]
+pub struct Locate {
+    /// The heap offset.
+    #[arg(value_parser = number)]
+    pub offset: u64,
+    /// Bytes of an address: 2, 4 or 8.
+    #[arg(long, value_name = "BYTES", value_parser = size, default_value = "8")]
+    pub offset_size: u8,
+    /// Print a line of JSON.
+    #[arg(long)]
+    pub json: bool,
+}
+
+/// Prints how many direct slots of each size a heap of so many rows has.
+#[derive(Args)]
+#[command(after_help = SLOTS_MORE)]
+pub struct Slots {
+    /// The root's rows.
+    #[arg(value_parser = number)]
+    pub rows: u64,
+    /// Print a line of JSON.
+    #[arg(long)]
+    pub json: bool,
 }
 
 /// Says in words what a refusal by this number with its two values means.
@@ -471,10 +605,13 @@ mod tests {
     fn no_example_is_wide() {
         let helps = [
             EXAMPLES,
+            DEPOSIT_MORE,
             WRITE_MORE,
             READ_MORE,
             HEADER_MORE,
             IDS_MORE,
+            LOCATE_MORE,
+            SLOTS_MORE,
             EXPLAIN_MORE,
         ];
         let lines = || helps.iter().flat_map(|help| help.lines());

@@ -1,8 +1,8 @@
 //! What `poilures write` checks when the heap is written: the IDs, the header, and every object by its ID.
 use crate::failure::Failure;
+use crate::heap::{Objects, Written};
 use crate::progress::Progress;
 use crate::talk::Talk;
-use crate::write::{Objects, Written};
 use fractal_heap::{Added, Error, Heap, count, grouped};
 
 fn wrong(words: &str) -> Failure {

@@ -1,13 +1,15 @@
 //! `poilures header`: what the header of a heap says, or of each heap in a file.
 use crate::arguments;
+use crate::dump::dump;
 use crate::failure::Failure;
+use crate::filters::Pipeline;
 use crate::image::SIGNATURE;
 use crate::inputs;
 use crate::map::percent;
 use crate::progress::Progress;
 use crate::quoting::shown;
 use crate::site::{self, Remarks, Site};
-use crate::talk::{Talk, Volume, tell};
+use crate::talk::{Talk, Volume};
 use fractal_heap::{Header, Heap, count, grouped};
 use serde_json::{Map, Value};
 
@@ -49,6 +51,31 @@ fn flags(flags: u8) -> String {
         others => format!("; the others, {others}, are not known"),
     };
     format!("{wrapped}; {checksums}{unknown}")
+}
+
+/// Which filters a mask says that were skipped, by their names, where these are known, and their places.
+fn skipped(mask: u32, pipeline: Option<&Pipeline>) -> String {
+    let (mut filters, mut others) = (Vec::new(), Vec::new());
+    for place in (0..u32::BITS).filter(|place| mask >> place & 1 == 1) {
+        match pipeline.map(|pipeline| pipeline.name_at(place)) {
+            None => filters.push(format!("the filter at place {place}")),
+            Some(Some(name)) => filters.push(format!("{name}, at place {place}")),
+            Some(None) => others.push(place.to_string()),
+        }
+    }
+    let filters = match &filters[..] {
+        [] => "no filter".into(),
+        filters => filters.join("; "),
+    };
+    let others = match &others[..] {
+        [] => String::new(),
+        [one] => format!("; set is bit {one}, which stands for no filter"),
+        more => format!(
+            "; set are bits {}, which stand for no filter",
+            more.join(", ")
+        ),
+    };
+    format!("the root block skipped {filters}{others}")
 }
 
 /// What the rows of the doubling table have, where its sizes are the powers of two that they have to be.
@@ -219,6 +246,80 @@ impl Found<'_> {
         ]
     }
 
+    /// The three fields of a filtered heap's header, which are 0 where there are no filters. The size and the mask are
+    /// those of a root that is a direct block.
+    fn filter_fields(&self) -> [Field; 3] {
+        let h = &self.header;
+        let field = |name, words, value, remark| Field {
+            name,
+            words,
+            value: Some(value),
+            remark,
+        };
+        // The heap's file may begin behind a user block.
+        let position = match h.io_filter_information_position {
+            0 => 0,
+            position => self.position - self.heap.header_at + position,
+        };
+        let length = count(h.io_filter_encoded_length.into(), "byte");
+        let information = self.heap.io_filter_information(h);
+        let pipeline = information.and_then(|bytes| Pipeline::decode(bytes).ok());
+        let has_no_root = self.heap.defined(h.root_block_address).is_none();
+        let (size, mask) = match h.current_rows_in_root_indirect_block {
+            0 if has_no_root => ("bytes: there is no root", "there is no root".into()),
+            0 => (
+                "bytes of the root block in the file",
+                skipped(h.io_filter_mask, pipeline.as_ref()),
+            ),
+            _ => (
+                "bytes: the root is no direct block",
+                "the root is no direct block".into(),
+            ),
+        };
+        [
+            field(
+                "io_filter_information_position",
+                "filter information",
+                position,
+                format!("its {length} begin here in the file"),
+            ),
+            field(
+                "filtered_root_direct_block_size",
+                "filtered root",
+                h.filtered_root_direct_block_size,
+                size.into(),
+            ),
+            field(
+                "io_filter_mask",
+                "filter mask",
+                h.io_filter_mask.into(),
+                mask,
+            ),
+        ]
+    }
+
+    /// What the filters are, or the bytes that do not say it.
+    fn filters(&self) -> Vec<String> {
+        let Some(information) = self.heap.io_filter_information(&self.header) else {
+            return Vec::new();
+        };
+        let (mut lines, rest) = match Pipeline::decode(information) {
+            Ok(pipeline) => (pipeline.lines(), pipeline.rest),
+            Err(why) => (
+                vec![format!(
+                    "filters: not known, the bytes are no Filter Pipeline message: {why}"
+                )],
+                information,
+            ),
+        };
+        if !rest.is_empty() && rest.len() < information.len() {
+            let rest = count(rest.len() as u64, "byte");
+            lines.push(format!("  and {rest} behind the message:"));
+        }
+        lines.extend(dump(rest, 0).lines().map(|line| format!("  {line}")));
+        lines
+    }
+
     /// Where the header is, and by which sizes it was read.
     fn heading(&self) -> String {
         let address = match (self.base, self.position.checked_sub(self.base)) {
@@ -239,7 +340,10 @@ impl Found<'_> {
 
     /// A table for a person.
     fn lines(&self) -> Vec<String> {
-        let fields = self.fields();
+        let mut fields = self.fields();
+        if self.header.io_filter_encoded_length > 0 {
+            fields.extend(self.filter_fields());
+        }
         let told = |field: &Field| field.value.map_or("none".into(), grouped);
         let width = fields.iter().map(|field| told(field).len()).max();
         let width = width.unwrap_or(0);
@@ -253,14 +357,12 @@ impl Found<'_> {
             line.trim_end().to_owned()
         };
         let lines = [self.heading()].into_iter().chain(fields.iter().map(line));
-        let geometry = geometry(&self.header).into_iter();
-        lines
-            .chain(geometry.map(|line| format!("  {line}")))
-            .collect()
+        let more = self.filters().into_iter().chain(geometry(&self.header));
+        lines.chain(more.map(|line| format!("  {line}"))).collect()
     }
 
     fn json(&self) -> String {
-        let fields = self.fields().into_iter();
+        let fields = self.fields().into_iter().chain(self.filter_fields());
         let mut object: Map<String, Value> = fields
             .map(|field| (field.name.into(), field.value.into()))
             .collect();
@@ -295,8 +397,6 @@ fn signatures(file: &[u8], part: usize) -> Vec<u64> {
 #[derive(Default)]
 struct Search<'f> {
     found: Vec<Found<'f>>,
-    /// Where sound headers of filtered heaps are.
-    filtered: Vec<u64>,
     /// Where no sound header begins.
     others: Vec<u64>,
 }
@@ -313,7 +413,6 @@ impl<'f> Search<'f> {
                     position,
                     base: site.base,
                 }),
-                Err(_) if site::is_filtered(&heap) => search.filtered.push(position),
                 Err(_) => search.others.push(position),
             }
         }
@@ -343,20 +442,10 @@ impl<'f> Search<'f> {
 }
 
 /// Every sound header of a file.
-fn all<'f>(
-    site: &Site<'f>,
-    name: &str,
-    remarks: &Remarks,
-) -> Result<(Vec<Found<'f>>, bool), Failure> {
+fn all<'f>(site: &Site<'f>, name: &str, remarks: &Remarks) -> Result<Vec<Found<'f>>, Failure> {
     let search = Search::new(site);
-    for &position in &search.filtered {
-        tell(&format!(
-            "the header at {} is that of a filtered heap, and these are not read yet",
-            grouped(position)
-        ));
-    }
     let others = search.others();
-    if search.found.is_empty() && search.filtered.is_empty() {
+    if search.found.is_empty() {
         let others = others.map_or(String::new(), |words| format!("\n{words}"));
         return Err(Failure::Not(format!(
             "{name} has no sound header of a heap, at offset size {} and length size {}{others}",
@@ -366,7 +455,7 @@ fn all<'f>(
     if let Some(words) = others {
         remarks.tell(&words);
     }
-    Ok((search.found, search.filtered.is_empty()))
+    Ok(search.found)
 }
 
 /// The header at a place.
@@ -378,7 +467,7 @@ fn one<'f>(
     let heap = site.heap(place, &arguments.addressing)?;
     let header = heap.header();
     Ok(Found {
-        header: header.map_err(|refusal| site::not_parsed(refusal, &heap, site.base))?,
+        header: header.map_err(|refusal| site::in_file(refusal, site.base, None))?,
         heap,
         position: site.base + heap.header_at,
         base: site.base,
@@ -394,13 +483,13 @@ pub fn header(arguments: &arguments::Header) -> Result<(), Failure> {
     let found =
         Site::new(&file, arguments.place, &arguments.addressing, &remarks).and_then(|site| {
             match arguments.place {
-                Some(place) => Ok((vec![one(&site, place, arguments)?], true)),
+                Some(place) => Ok(vec![one(&site, place, arguments)?]),
                 None => all(&site, &named(arguments), &remarks),
             }
         });
     // Of a file that was cut meanwhile not even a refusal is its own.
     file.check_whole(&arguments.file)?;
-    let (found, is_all) = found?;
+    let found = found?;
     let mut talk = Talk::new(false, Volume::Results);
     for (i, found) in found.iter().enumerate() {
         if arguments.json {
@@ -412,11 +501,7 @@ pub fn header(arguments: &arguments::Header) -> Result<(), Failure> {
         }
         found.lines().iter().for_each(|line| talk.give(line));
     }
-    talk.end()?;
-    match is_all {
-        true => Ok(()),
-        false => Err(Failure::Not("not every header was read".into())),
-    }
+    talk.end()
 }
 
 /// The file, in words.
@@ -462,6 +547,41 @@ mod tests {
             ),
         ] {
             assert_eq!(flags(number), due);
+        }
+    }
+
+    // By the format: bit i stands for the filter at place i, counted from 0. These are deflate, whose number is 1, and
+    // packer, whose number is 300.
+    #[test]
+    fn a_mask_in_words() {
+        let message = *b"\x02\x02\x01\0\0\0\0\0\x2c\x01\x06\0\0\0\0\0packer";
+        let pipeline = Pipeline::decode(&message).unwrap();
+        for (mask, due) in [
+            (0, "no filter"),
+            (1, "deflate, at place 0"),
+            (2, "packer, at place 1"),
+            (3, "deflate, at place 0; packer, at place 1"),
+            (
+                1 << 31,
+                "no filter; set is bit 31, which stands for no filter",
+            ),
+            (
+                1 << 31 | 6,
+                "packer, at place 1; set are bits 2, 31, which stand for no filter",
+            ),
+        ] {
+            let due = format!("the root block skipped {due}");
+            assert_eq!(skipped(mask, Some(&pipeline)), due);
+        }
+        for (mask, due) in [
+            (0, "no filter"),
+            (2, "the filter at place 1"),
+            (
+                1 << 31 | 5,
+                "the filter at place 0; the filter at place 2; the filter at place 31",
+            ),
+        ] {
+            assert_eq!(skipped(mask, None), format!("the root block skipped {due}"));
         }
     }
 }

@@ -29,8 +29,15 @@ impl HeapId {
 
 /// Bytes as pairs of hexadecimal digits.
 pub fn hex(bytes: &[u8], between: &str) -> String {
-    let pairs: Vec<String> = bytes.iter().map(|byte| format!("{byte:02X}")).collect();
-    pairs.join(between)
+    const DIGITS: &[u8; 16] = b"0123456789ABCDEF";
+    let mut text = String::with_capacity(bytes.len() * (2 + between.len()));
+    for (i, &byte) in bytes.iter().enumerate() {
+        if i > 0 {
+            text += between;
+        }
+        text.extend([byte >> 4, byte & 0xF].map(|digit| char::from(DIGITS[usize::from(digit)])));
+    }
+    text
 }
 
 impl fmt::Display for HeapId {

@@ -27,9 +27,9 @@ pub struct Place {
 }
 
 impl Place {
-    /// Bytes of the heap's header.
-    pub fn header_length(&self) -> u64 {
-        Header::length(self.offset_size, self.length_size) as u64
+    /// The place of a region of so many bytes.
+    pub fn region(&self, size: u64) -> Range<u64> {
+        self.region_at..self.region_at.saturating_add(size)
     }
 
     /// A file with the heap's header at a position of it.
@@ -55,20 +55,32 @@ pub fn header_bytes(header: &Header, place: &Place) -> Result<Vec<u8>, Refusal> 
     Ok(bytes)
 }
 
-/// Where header and region of a written heap lie in an image, and how large that is.
+/// Bytes of an image beside the region: the header, and what may be around the heap.
+pub struct Part {
+    pub at: u64,
+    pub bytes: Vec<u8>,
+}
+
+impl Part {
+    fn range(&self) -> Range<u64> {
+        self.at..self.at.saturating_add(self.bytes.len() as u64)
+    }
+}
+
+/// Where the region of a written heap and all other parts lie in an image, and how large that is.
 pub struct Layout {
-    header: Range<u64>,
     region: Range<u64>,
+    parts: Vec<Range<u64>>,
     pub size: u64,
 }
 
 impl Layout {
-    pub fn new(place: &Place, region_size: u64) -> Result<Self, Failure> {
-        let size = size(place, region_size)?;
-        let header = place.header_length();
+    pub fn new(region: Range<u64>, parts: &[Part]) -> Result<Self, Failure> {
+        let parts: Vec<_> = parts.iter().map(Part::range).collect();
+        let size = size(&region, &parts)?;
         Ok(Layout {
-            header: place.header_at..place.header_at + header,
-            region: place.region_at..place.region_at + region_size,
+            region,
+            parts,
             size,
         })
     }
@@ -85,7 +97,7 @@ impl Layout {
     /// now: a disk that is full could say so by a signal alone when the bytes are put.
     pub fn in_file(&self, file: &File) -> io::Result<Image> {
         file.set_len(self.size)?;
-        for part in [&self.header, &self.region] {
+        for part in self.parts.iter().chain([&self.region]) {
             take_room(file, part)?;
         }
         // SAFETY: the file is new, nobody else writes into it, and what its disk does is met by the signal's handler.
@@ -104,7 +116,6 @@ impl Layout {
         Image {
             file: None,
             map,
-            header: part(&self.header),
             region: part(&self.region),
         }
     }
@@ -118,6 +129,9 @@ fn maps_no_writing(error: &io::Error) -> bool {
 /// Has the disk keep room for this part of a file.
 fn take_room(file: &File, part: &Range<u64>) -> io::Result<()> {
     let (start, length) = (part.start as i64, (part.end - part.start) as i64);
+    if length == 0 {
+        return Ok(());
+    }
     loop {
         // SAFETY: the call is about an open file, and no memory.
         match unsafe { libc::posix_fallocate64(file.as_raw_fd(), start, length) } {
@@ -129,12 +143,11 @@ fn take_room(file: &File, part: &Range<u64>) -> io::Result<()> {
     }
 }
 
-/// An image that is being written: zeros but for its header and its region.
+/// An image that is being written: zeros but for its parts and its region.
 pub struct Image {
     /// Where it is to be put, unless it is mapped from there.
     file: Option<File>,
     map: MmapMut,
-    header: Range<usize>,
     region: Range<usize>,
 }
 
@@ -144,35 +157,36 @@ impl Image {
         &mut self.map[self.region.clone()]
     }
 
-    /// The image with its header, whole.
-    pub fn finish(mut self, header: &[u8]) -> io::Result<Mmap> {
-        self.map[self.header.clone()].copy_from_slice(header);
+    /// The image with these parts, those of its layout, whole.
+    pub fn finish(mut self, parts: &[Part]) -> io::Result<Mmap> {
+        for part in parts {
+            let at = part.at as usize;
+            self.map[at..at + part.bytes.len()].copy_from_slice(&part.bytes);
+        }
         if let Some(file) = &self.file {
-            for part in [&self.header, &self.region] {
-                file.write_all_at(&self.map[part.clone()], part.start as u64)?;
+            file.write_all_at(&self.map[self.region.clone()], self.region.start as u64)?;
+            for part in parts {
+                file.write_all_at(&part.bytes, part.at)?;
             }
         }
         self.map.make_read_only()
     }
 }
 
-/// The size of the image; header and region must not overlap.
-fn size(place: &Place, region_size: u64) -> Result<u64, Failure> {
-    let header = place.header_length();
-    let ends = [
-        place.header_at.saturating_add(header),
-        place.region_at.saturating_add(region_size),
-    ];
-    if place.header_at < ends[1] && place.region_at < ends[0] {
+/// The size of the image. The header may be put anywhere but where the region is.
+fn size(region: &Range<u64>, parts: &[Range<u64>]) -> Result<u64, Failure> {
+    let overlaps = |part: &&Range<u64>| part.start < region.end && region.start < part.end;
+    if let Some(header) = parts.iter().find(overlaps) {
         return Err(Failure::Use(format!(
             "the header, {} to {}, and the region, {} to {}, overlap",
-            grouped(place.header_at),
-            grouped(ends[0]),
-            grouped(place.region_at),
-            grouped(ends[1])
+            grouped(header.start),
+            grouped(header.end),
+            grouped(region.start),
+            grouped(region.end)
         )));
     }
-    let size = ends[0].max(ends[1]);
+    let ends = parts.iter().chain([region]).map(|part| part.end);
+    let size = ends.max().unwrap_or(0);
     if i64::try_from(size).is_err() {
         let size = grouped(size);
         return Err(Failure::Use(format!(

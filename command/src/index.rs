@@ -1,10 +1,10 @@
 //! The index that `poilures write` keeps: which ID is whose.
 use crate::arguments::Write as Arguments;
 use crate::failure::Failure;
+use crate::heap::Objects;
 use crate::id::{HeapId, hex};
 use crate::inputs::{self, Identity};
 use crate::output::{self, Output};
-use crate::write::Objects;
 use serde_json::{Value, json};
 use std::ffi::OsStr;
 use std::fmt::Display;

@@ -7,7 +7,7 @@ use crate::quoting::shown;
 use crate::signals;
 use crate::streams;
 use memmap2::Mmap;
-use std::ffi::OsStr;
+use std::ffi::{OsStr, OsString};
 use std::fmt::Display;
 use std::fs::{self, File, FileType, Metadata};
 use std::io::{self, Read, Seek};
@@ -109,8 +109,10 @@ pub fn room_for_one() -> Result<Vec<u8>, Failure> {
 pub fn take_in<'o>(name: &OsStr, room: &'o mut [u8]) -> Result<Taken<'o>, Failure> {
     let Open { mut file, known } = open(name)?;
     let identity = identity(&known);
+    // A file that gave all that it has is not asked once more; one of /proc says that it has nothing.
+    let is_whole = |length| known.is_file() && length > 0 && length as u64 == known.len();
     let mut length = 0;
-    while length < room.len() {
+    while length < room.len() && !is_whole(length) {
         match file.read(&mut room[length..]) {
             Ok(0) => break,
             Ok(more) => length += more,
@@ -186,6 +188,35 @@ pub fn names<'l>(list: &OsStr, bytes: &'l [u8]) -> Result<Vec<&'l OsStr>, Failur
         }
     }
     Ok(names)
+}
+
+/// The list that names the files, if there is one. What a list names is looked at before any sentence could go into it.
+pub fn list_or_files(list: Option<&OsStr>, files: &[OsString]) -> Result<Option<Bytes>, Failure> {
+    refuse_written(files.iter().map(OsString::as_os_str).chain(list))?;
+    let bytes = list.map(self::list).transpose()?;
+    refuse_written(bytes.iter().flat_map(|list| pieces(list)))?;
+    Ok(bytes)
+}
+
+/// The names of files, or those in a list that was read in their place; standard input can be read once.
+pub fn all_names<'n>(
+    files: &'n [OsString],
+    list: Option<(&'n OsStr, &'n Bytes)>,
+) -> Result<Vec<&'n OsStr>, Failure> {
+    let names = match list {
+        Some((name, list)) => names(name, list)?,
+        None => {
+            let mut names = memory::with_room(files.len())?;
+            names.extend(files.iter().map(OsString::as_os_str));
+            names
+        }
+    };
+    match names.iter().filter(|name| is_standard(name)).count() {
+        0 | 1 => Ok(names),
+        _ => Err(Failure::Use(
+            "standard input, -, can be one object only".into(),
+        )),
+    }
 }
 
 /// Bytes that are looked at: of a file that is mapped, of memory, of a pipe.

@@ -1,6 +1,9 @@
 //! The proved functions that this program calls beside the loader's, each behind a safe one.
 use fractal_heap::{Refusal, Totals};
-use fractal_heap_sys::{tools_heap_id_type, tools_plan, tools_read_tiny_object, tools_serialize};
+use fractal_heap_sys::{
+    tools_count_slots, tools_count_to, tools_entered, tools_heap_id_type, tools_locate, tools_plan,
+    tools_read_tiny_object, tools_serialize,
+};
 
 /// A managed object's ID.
 pub type Id = [u8; 8];
@@ -117,6 +120,62 @@ pub fn kind(id: &[u8]) -> Result<Kind, Refusal> {
         1 => Kind::Huge,
         _ => Kind::Tiny,
     })
+}
+
+/// A direct slot: its heap offset and its bytes.
+#[derive(Clone, Copy, PartialEq, Eq)]
+pub struct Slot {
+    pub start: u64,
+    pub size: u64,
+}
+
+fn slot(call: impl FnOnce(*mut u8, usize) -> u32) -> Result<Slot, Refusal> {
+    pair(call).map(|(start, size)| Slot { start, size })
+}
+
+/// The slot of a heap offset, by descent.
+pub fn locate(offset: u64) -> Result<Slot, Refusal> {
+    // SAFETY: the slot is an array.
+    slot(|slot, n| unsafe { tools_locate(offset, slot, n) })
+}
+
+/// The same, counted out from 0.
+pub fn count_to(offset: u64) -> Result<Slot, Refusal> {
+    // SAFETY: the slot is an array.
+    slot(|slot, n| unsafe { tools_count_to(offset, slot, n) })
+}
+
+/// An indirect block: row and column of its slot in the block that it stands in, and its heap offset.
+pub struct Entered {
+    pub row: u64,
+    pub column: u64,
+    pub start: u64,
+}
+
+/// The indirect blocks on the way from the root to the slot of a heap offset.
+pub fn way(offset: u64) -> Result<Vec<Entered>, Refusal> {
+    let mut way = Vec::new();
+    loop {
+        let mut block = [0; 4];
+        // SAFETY: the list is an array.
+        let number =
+            unsafe { tools_entered(offset, way.len() as u64, block.as_mut_ptr(), block.len()) };
+        accepted(number, block[0], block[1])?;
+        let [is_there, row, column, start] = block;
+        if is_there == 0 {
+            return Ok(way);
+        }
+        way.push(Entered { row, column, start });
+    }
+}
+
+/// How many direct slots a heap of so many rows has of each size, smallest first.
+pub fn count_slots(rows: u64) -> Result<[u64; 7], Refusal> {
+    let mut counts = [0; 7];
+    // SAFETY: the list is an array.
+    let number = unsafe { tools_count_slots(rows, counts.as_mut_ptr(), counts.len()) };
+    accepted(number, counts[0], counts[1])?;
+    Ok(counts)
 }
 
 /// Where a tiny object lies in its ID, and its length.

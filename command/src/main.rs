@@ -2,8 +2,13 @@
 //! functions. Each subcommand has a file of its own.
 mod arguments;
 mod check;
+mod deposit;
+mod destination;
+mod dump;
 mod failure;
+mod filters;
 mod header;
+mod heap;
 mod id;
 mod ids;
 mod image;
@@ -20,6 +25,7 @@ mod quoting;
 mod read;
 mod signals;
 mod site;
+mod slots;
 mod streams;
 mod table;
 mod talk;
@@ -45,13 +51,22 @@ fn print(text: &[u8]) -> Result<(), Failure> {
     printed.map_err(|error| Failure::printing(&error))
 }
 
+/// Numbers that go upward, each run of them by its ends: 1 to 17 and 20.
+fn ranges(numbers: &[u32]) -> String {
+    let runs = numbers.chunk_by(|a, b| a + 1 == *b);
+    let told = runs.map(|run| match run {
+        [one] => one.to_string(),
+        [first, .., last] => format!("{first} to {last}"),
+        [] => String::new(),
+    });
+    told.collect::<Vec<_>>().join(" and ")
+}
+
 fn explain(arguments: &Explain) -> Result<(), Failure> {
     let number = u32::try_from(arguments.number).ok();
     let Some(number) = number.filter(|number| Refusal::NUMBERS.contains(number)) else {
-        let (first, last) = (Refusal::NUMBERS.start(), Refusal::NUMBERS.end());
-        return Err(Failure::Use(format!(
-            "refusals have the numbers {first} to {last}"
-        )));
+        let numbers = ranges(&Refusal::NUMBERS);
+        return Err(Failure::Use(format!("refusals have the numbers {numbers}")));
     };
     let words = match (arguments.first, Refusal::cause(number)) {
         (None, Some(cause)) => format!("refused by {number}: {cause}\n"),
@@ -100,11 +115,14 @@ fn run() -> Result<(), Failure> {
         Err(error) => return not_parsed(&error),
     };
     match &arguments.subcommand {
+        Subcommands::Deposit(arguments) => deposit::deposit(arguments),
         Subcommands::Write(arguments) => write::write(arguments),
         Subcommands::Read(arguments) => read::read(arguments),
         Subcommands::Header(arguments) => header::header(arguments),
         Subcommands::Ids(arguments) => ids::ids(arguments),
         Subcommands::Explain(arguments) => explain(arguments),
+        Subcommands::Locate(arguments) => slots::locate(arguments),
+        Subcommands::Slots(arguments) => slots::slots(arguments),
         Subcommands::Completions { shell } => completions(*shell),
     }
 }

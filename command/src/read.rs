@@ -1,7 +1,9 @@
 //! `poilures read`: objects by their IDs, from a heap in a file.
 use crate::arguments::Read;
+use crate::dump::dump;
 use crate::failure::Failure;
-use crate::id::{self, HeapId, hex};
+use crate::filters;
+use crate::id::{self, HeapId};
 use crate::inputs::{self, Bytes, Identity};
 use crate::library::{Kind, kind, tiny_object};
 use crate::message;
@@ -112,7 +114,7 @@ impl<'f> Reading<'f> {
         let site = Site::new(file, Some(arguments.place), addressing, remarks)?;
         let heap = site.heap(arguments.place, addressing)?;
         let header = heap.header();
-        let header = header.map_err(|refusal| site::not_parsed(refusal, &heap, site.base))?;
+        let header = header.map_err(|refusal| site::in_file(refusal, site.base, None))?;
         Ok(Reading { site, heap, header })
     }
 
@@ -144,6 +146,9 @@ impl<'f> Reading<'f> {
         let Error::Refused(refusal) = error else {
             return Failure::Not(error.to_string());
         };
+        if refusal == Refusal::UnsupportedFilteredHeapObject {
+            return self.filtered(refusal);
+        }
         // Only under an indirect root the end that is told may be the ID's own.
         let in_heap = self.header.current_rows_in_root_indirect_block > 0;
         match refusal {
@@ -156,6 +161,13 @@ impl<'f> Reading<'f> {
             _ => {}
         }
         site::in_file(refusal, self.site.base, in_heap.then_some(end)).into()
+    }
+
+    /// With what a filtered heap's blocks are, and who reads them.
+    fn filtered(&self, refusal: Refusal) -> Failure {
+        let information = self.heap.io_filter_information(&self.header);
+        let blocks = filters::of_blocks(information.unwrap_or_default());
+        Failure::Not(format!("{refusal}\n{blocks}"))
     }
 
     /// A tiny object, as it lies in its ID.
@@ -260,21 +272,6 @@ impl<'f> Reading<'f> {
         }
         Ok(objects)
     }
-}
-
-/// Lines of sixteen bytes: their position in the object, in hexadecimal, as text.
-fn dump(bytes: &[u8], first: usize) -> String {
-    let mut text = String::new();
-    for (i, line) in bytes.chunks(16).enumerate() {
-        let plain = |&byte: &u8| match byte {
-            b' '..=b'~' => char::from(byte),
-            _ => '.',
-        };
-        let plain: String = line.iter().map(plain).collect();
-        let hex = hex(line, " ");
-        text += &format!("{:08X}  {hex:<47}  |{plain}|\n", first + 16 * i);
-    }
-    text
 }
 
 /// What is done with the objects that were found.
@@ -441,19 +438,5 @@ pub fn read(arguments: &Read) -> Result<(), Failure> {
     match arguments.json {
         true => printing.describe(&objects, bytes_on_standard_output),
         false => Ok(()),
-    }
-}
-
-#[cfg(test)]
-mod tests {
-    use super::*;
-
-    #[test]
-    fn a_dump_counts_on_from_part_to_part() {
-        assert_eq!(
-            dump(b"ABCDEFGHIJKLMNOP\x00\x7f", STRIDE),
-            "00010000  41 42 43 44 45 46 47 48 49 4A 4B 4C 4D 4E 4F 50  |ABCDEFGHIJKLMNOP|\n\
-             00010010  00 7F                                            |..|\n"
-        );
     }
 }

@@ -3,7 +3,7 @@ use crate::arguments::Addressing;
 use crate::failure::Failure;
 use crate::image;
 use crate::talk::tell;
-use fractal_heap::{Header, Heap, Refusal, Superblock, checksum, count, grouped};
+use fractal_heap::{Heap, Refusal, Superblock, count, grouped};
 
 /// What is said on standard error while all is well.
 pub struct Remarks {
@@ -164,55 +164,6 @@ impl<'f> Site<'f> {
             length_size: self.length_size,
         }
     }
-}
-
-/// Why the header is refused. That of a filtered heap is longer, so that its checksum is not where the library seeks it
-/// (docs/DIFFERENCES.md): it may be sound.
-pub fn not_parsed(refusal: Refusal, heap: &Heap, base: u64) -> Failure {
-    let filters = filters(heap).filter(|&length| length > 0);
-    let (Refusal::ChecksumMismatch { .. }, Some(length)) = (refusal, filters) else {
-        return in_file(refusal, base, None).into();
-    };
-    let filtered = format!(
-        "the heap is filtered, by filters that take {} of its header, and filtered heaps are not read yet",
-        count(length.into(), "byte")
-    );
-    Failure::Not(match filtered_sums(heap, length) {
-        Some((stored, computed)) if stored == computed => filtered,
-        Some((stored, computed)) => format!(
-            "{filtered}; or its header is damaged: {stored:08X} is its checksum, {computed:08X} computed"
-        ),
-        None => format!("{filtered}; or its header is damaged: it ends past the file"),
-    })
-}
-
-/// The filters' length, by the header.
-fn filters(heap: &Heap) -> Option<u16> {
-    let at = usize::try_from(heap.header_at).ok()?;
-    let field = heap.file.get(at.checked_add(7)?..at.checked_add(9)?)?;
-    Some(u16::from_le_bytes(field.try_into().ok()?))
-}
-
-/// Whether a header is the sound one of a filtered heap, by the format.
-pub fn is_filtered(heap: &Heap) -> bool {
-    let at = usize::try_from(heap.header_at).ok();
-    let header = at.and_then(|at| heap.file.get(at..)).unwrap_or(&[]);
-    let begins = header.strip_prefix(image::SIGNATURE);
-    let is_known = begins.is_some_and(|rest| rest.first() == Some(&0)); // its version
-    let filters = filters(heap).filter(|&length| length > 0);
-    let sums = filters.and_then(|length| filtered_sums(heap, length));
-    is_known && sums.is_some_and(|(stored, computed)| stored == computed)
-}
-
-/// The checksum that a filtered heap's header has, and the one that it should have. Before it are, beside the fields of
-/// every heap, the size of a filtered root block, its filter mask of four bytes, and the filters.
-fn filtered_sums(heap: &Heap, filters: u16) -> Option<(u32, u32)> {
-    let every = Header::length(heap.offset_size, heap.length_size) - 4;
-    let length = every + usize::from(heap.length_size) + 4 + usize::from(filters);
-    let header = heap.file.get(usize::try_from(heap.header_at).ok()?..)?;
-    let (fields, rest) = header.split_at_checked(length)?;
-    let (stored, _) = rest.split_first_chunk()?;
-    Some((u32::from_le_bytes(*stored), checksum(fields)))
 }
 
 /// A refusal whose positions are positions in the file. The end expected may also be the ID's own in the heap, which

@@ -3,8 +3,9 @@ use Rattle.std.proofs.Common.{◌≡◌, ℕ, suc, ◌+◌, ◌-◌, ◌<◌, �
 use Rattle.checksum.specs.Mix.{mixed}
 use Rattle.checksum.specs.declared.mixing.State.{State}
 use Rattle.checksum.specs.Lookup3.{group_size, grouped, run, groups_of}
-use Rattle.checksum.specs.Laws.{MixedWhileMore, TailsSwitched}
+use Rattle.checksum.specs.Laws.{MixedWhileMore, SwitchedByCase, TailsSwitched}
 use Rattle.checksum.proofs.Switch.{switch-words, tail-group}
+use Rattle.checksum.proofs.Switch.{after_none, after_case, after_above, after_rest}
 use Rattle.checksum.proofs.Walk.{groups-more, groups_none}
 
 turn-mixed : (bytes : List ℕ) (at : ℕ) (s : State) → group_size < length bytes - at
@@ -27,6 +28,14 @@ mixed-while-more = record { more = groups-more; none = groups_none; turn = turn-
 
 pub tails-switched : TailsSwitched
 tails-switched = record {
-  words = λ tail s a b c h. switch-words tail s (record { a = a; b = b; c = c }) h;
-  group = λ bytes at s a b c h. sym (tail-group bytes at h (record { a = a; b = b; c = c }));
+  words = switch-words;
+  group = λ bytes at s f h. sym (tail-group bytes at h f);
+}
+
+pub switched-by-case : SwitchedByCase
+switched-by-case = record {
+  none = after_none;
+  case = after_case;
+  above = after_above;
+  rest = after_rest;
 }

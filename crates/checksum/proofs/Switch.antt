@@ -1,12 +1,90 @@
--- The switch adds what its tail's bytes are as words, four to each: so a tail is added as a group is.
+-- The words after each case of the switch. It adds what its tail's bytes are as words, four to each: so a tail is added
+-- as a group is.
 use Rattle.std.proofs.Common.{◌≡◌, ℕ, ◌+◌, ◌*◌, ◌^◌, ◌<◌, ◌≤◌, List, [], ◌∷◌, length, take, drop, refl, ◌∙◌, add-zero}
-use Rattle.std.proofs.Common.{arith, length-drop, pow-add}
+use Rattle.std.proofs.Common.{zero, suc, ◌-◌, sym, ne_eqb, arith, length-drop, pow-add}
+use Rattle.std.proofs.lemmas.Bool.Decides.{nat_tests}
 use Rattle.fields.specs.LittleEndian.{le_at, value}
 use Rattle.fields.proofs.LittleEndian.{le_at-drop}
 use Rattle.checksum.specs.Words.{add32}
+use Rattle.checksum.specs.Mix.{final_mixed}
 use Rattle.checksum.specs.declared.mixing.State.{State}
-use Rattle.checksum.proofs.Words.{Fit}
-use Rattle.checksum.specs.Lookup3.{group_size, grouped, switched}
+use Rattle.checksum.specs.Undoing.{Fit}
+use Rattle.checksum.specs.Lookup3.{group_size, grouped, case_met, switched, passed, after, plus, ended}
+
+-- ---- the words after each case
+
+pub after_none : (tail : List ℕ) (s : State) → after (group_size + 1) tail s ≡ s
+unfolding after passed
+after_none tail s = refl
+
+pub after_case : (n : ℕ) (tail : List ℕ) (s : State) → 0 < n → n ≤ group_size
+    → after n tail s ≡ case_met n tail (after (n + 1) tail s)
+unfolding after passed
+after_case n tail s p h =
+    let more : 13 - n ≡ suc (12 - n) = omega arith in
+    let same : 12 - (12 - n) ≡ n = omega arith in
+    let next : 13 - (n + 1) ≡ 12 - n = omega arith in
+    rw (more, next, passed, same) refl
+
+-- what is left of the switch behind so many cases makes the whole of the words there
+left : (done : ℕ) (tail : List ℕ) (s : State) → done ≤ group_size
+    → switched group_size tail s ≡ switched (group_size - done) tail (passed done tail s)
+unfolding passed switched
+left zero tail s h = refl
+left (suc done) tail s h =
+    let more : 12 - done ≡ suc (12 - suc done) = omega arith in
+    left done tail s (omega arith) ∙ rw (more, switched) refl
+
+pub after_rest : (n : ℕ) (tail : List ℕ) (s : State) → n ≤ group_size
+    → switched group_size tail s ≡ switched n tail (after (n + 1) tail s)
+unfolding after
+after_rest n tail s h =
+    let done : 13 - (n + 1) ≡ 12 - n = omega arith in
+    let more : 12 - (12 - n) ≡ n = omega arith in
+    left (12 - n) tail s (omega arith) ∙ rw (done, more) refl
+
+after_last : (tail : List ℕ) (s : State) → after 1 tail s ≡ switched group_size tail s
+unfolding switched
+after_last tail s = sym (after_rest 0 tail s (omega arith))
+
+-- a tail enters at the case of its length: the cases above are not met
+not_met : (done : ℕ) (tail : List ℕ) (s : State) → length tail + done ≤ group_size → passed done tail s ≡ s
+unfolding passed
+not_met zero tail s h = refl
+not_met (suc done) tail s h = grind (arith, nat_tests, not_met done tail s (omega arith))
+
+pub after_above : (n : ℕ) (tail : List ℕ) (s : State) → length tail < n → n ≤ group_size + 1
+    → after n tail s ≡ s
+unfolding after
+after_above n tail s h m = not_met (13 - n) tail s (omega arith)
+
+-- ---- what the cases have added, apart from the words before them
+
+pub add_assoc : (x y z : ℕ) → add32 (add32 x y) z ≡ add32 x (add32 y z)
+add_assoc x y z = omega arith
+
+add_none : {x : ℕ} → x < 2 ^ 32 → add32 x 0 ≡ x
+add_none h = omega arith
+
+pub plus_none : (s : State) → Fit s → plus s (record { a = 0; b = 0; c = 0 }) ≡ s
+plus_none s f = λ i. record { a = add_none f.a i; b = add_none f.b i; c = add_none f.c i }
+
+-- ---- the end
+
+pub ended_none : (tail : List ℕ) (s : State) → length tail ≡ 0 → s.c ≡ ended tail s
+ended_none tail s h = grind (arith, nat_tests)
+
+pub ended_some : (tail : List ℕ) (s : State) → 0 < length tail
+    → (final_mixed (after 1 tail s)).c ≡ ended tail s
+ended_some tail s h = rw (ne_eqb (length tail) 0 (λ z. absurd (omega arith)), after_last tail s) refl
+
+-- ---- for a case that falls through to the next, and for the case that a tail enters at
+
+pub ruleset next_case = (after_case, add_assoc)
+
+pub ruleset entering = (after_above, plus_none, ended_none, ended_some)
+
+-- ---- what the switch adds
 
 -- the cases of one word from the last down, the first shifted by k bits
 unfoldable added : ℕ → ℕ → List ℕ → ℕ

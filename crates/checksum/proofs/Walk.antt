@@ -1,11 +1,9 @@
 -- The loop of `jenkins_lookup3` over the groups: how it starts, goes on and ends.
-use Rattle.std.proofs.Common.{◌≡◌, ℕ, suc, ◌+◌, ◌-◌, ◌*◌, ◌^◌, ◌<◌, ◌≤◌, List, [], ◌∷◌, length, drop, sym, ap}
-use Rattle.std.proofs.Common.{◌∙◌, arith, length-drop, ne_eqb}
+use Rattle.std.proofs.Common.{◌≡◌, ℕ, suc, ◌+◌, ◌-◌, ◌*◌, ◌<◌, ◌≤◌, List, length, drop, refl, ap}
+use Rattle.std.proofs.Common.{arith}
 use Rattle.checksum.specs.declared.mixing.State.{State}
-use Rattle.checksum.specs.Requires.{Few}
-use Rattle.checksum.proofs.Switch.{tail-group}
-use Rattle.checksum.specs.Mix.{mixed, final_mixed}
-use Rattle.checksum.specs.Lookup3.{group_size, first_word, grouped, run, groups_of, begun, body, tail_of, switched}
+use Rattle.checksum.specs.Mix.{mixed}
+use Rattle.checksum.specs.Lookup3.{group_size, grouped, run, groups_of, begun, body, tail_of, ended}
 use Rattle.checksum.specs.Lookup3.{hashlittle}
 
 -- ---- the groups
@@ -55,28 +53,11 @@ module _ {bytes : List ℕ} {s : State} {at : ℕ} (w : Walk bytes s at) where
         omega (arith, w.place, groups_none (length bytes - at) h) in
         ap (λ (n : ℕ). drop n bytes) here
 
-    tail-length : length (tail_of bytes) ≡ length bytes - at
-    tail-length = ap length (sym tail-here) ∙ length-drop at bytes
-
-    pub walk-tail : (final_mixed (switched 12 (drop at bytes) s)).c ≡ hashlittle bytes
+    pub walk-tail : ended (drop at bytes) s ≡ hashlittle bytes
     unfolding hashlittle
-    walk-tail =
-        let some = ne_eqb (length (tail_of bytes)) 0 (λ z. absurd (omega (arith, tail-length, w.within, z))) in
-        rw (some, tail-here, words-done)
+    walk-tail = rw (tail-here, words-done) refl
 
 -- no group of few bytes is mixed, and all of them are the tail
-pub few-ended : (bytes : List ℕ) (x : ℕ) → x ≡ first_word (length bytes) → Few bytes
-    → (final_mixed (grouped bytes 0 (record { a = x; b = x; c = x }))).c ≡ hashlittle bytes
-few-ended bytes x e h =
-    let fit : x < 2 ^ 32 = omega (arith, e) in
-    let s : State = record { a = x; b = x; c = x } in
-    let w : Walk bytes s 0 = walk_start bytes s h.nonempty (rw e) in
-    let switch = tail-group bytes 0 (omega (arith, h.at_most_group)) (record { a = fit; b = fit; c = fit }) in
-    ap (λ (t : State). (final_mixed t).c) switch ∙ walk-tail w (omega (arith, h.at_most_group))
-
--- without bytes there is nothing to mix
-pub none-ended : (bytes : List ℕ) (x : ℕ) → x ≡ first_word (length bytes) → length bytes ≡ 0
-    → x ≡ hashlittle bytes
+pub few_ended : (bytes : List ℕ) → length bytes ≤ group_size → ended bytes (begun (length bytes)) ≡ hashlittle bytes
 unfolding hashlittle run
-none-ended [] x e n = e
-none-ended (b ∷ bs) x e n = absurd (omega (arith, n))
+few_ended bytes h = rw (groups_none (length bytes) h) refl

@@ -64,6 +64,19 @@ unfoldable pub switched : (n : ℕ) (tail : List ℕ) (s : State) → State
 switched zero tail s = s
 switched (suc n) tail s = switched n tail (case_met (suc n) tail s)
 
+-- the words after the switch's first cases, so many of them from case 12 down
+unfoldable pub passed : (done : ℕ) (tail : List ℕ) (s : State) → State
+passed zero tail s = s
+passed (suc done) tail s = case_met (group_size - done) tail (passed done tail s)
+
+-- the words after case n: the cases from 12 down to n are done; after case 13, which there is not, none is
+unfoldable pub after : (n : ℕ) (tail : List ℕ) (s : State) → State
+after n tail s = passed (group_size + 1 - n) tail s
+
+-- three words added to three words
+abbrev pub plus : (s added : State) → State
+plus s added = record { a = add32 s.a added.a; b = add32 s.b added.b; c = add32 s.c added.c }
+
 -- case 0 gives c as it is; the other cases give it after the final mix
 abbrev pub ended : (tail : List ℕ) (s : State) → ℕ
 ended tail s = if length tail == 0 then s.c else (final_mixed (switched group_size tail s)).c

@@ -1,5 +1,5 @@
--- 32-bit words, uint32_t in lookup3.c (Bob Jenkins, May 2006, public domain): sums and differences modulo 2^32,
--- exclusive or, and its macro rot.
+-- 32-bit words, uint32_t in lookup3.c (Bob Jenkins, May 2006, public domain): sums and differences
+-- modulo 2^32, exclusive or, and its macro rot.
 use Rattle.std.specs.Prelude.{ℕ, ◌+◌, ◌-◌, ◌%◌, ◌^◌, bit_xor}
 use Rattle.std.specs.Int.{w32, rotate_left}
 

@@ -2,18 +2,19 @@
 #![tactic(auto)]
 
 pub mod mixing;
+pub mod unmixing;
 
-ghost use Rattle.std.specs.Prelude.{◌≡◌, ◌+◌, ◌-◌, ◌*◌, ◌/◌, ◌%◌, ◌^◌, ◌<◌, ◌≤◌, ◌&&◌, length, drop, if◌then◌else◌};
-ghost use Rattle.std.specs.Prelude.{nat_le};
+ghost use Rattle.std.specs.Prelude.{◌≡◌, ◌+◌, ◌-◌, ◌*◌, ◌/◌, ◌%◌, ◌^◌, ◌<◌, ◌≤◌, ◌&&◌, length, drop};
+ghost use Rattle.std.specs.Prelude.{nat_le, if◌then◌else◌};
 ghost use Rattle.fields.specs.LittleEndian.{le_at};
 ghost use Rattle.checksum.specs.Words.{add32};
-ghost use Rattle.checksum.specs.Mix.{final_mixed};
-ghost use Rattle.checksum.specs.Requires.{Tail};
-ghost use Rattle.checksum.specs.Lookup3.{first_word, grouped, switched, hashlittle};
-ghost use Rattle.checksum.specs.Laws.{MixedWhileMore, TailsSwitched};
+ghost use Rattle.checksum.specs.Lookup3.{begun, grouped, plus, after, ended, hashlittle};
+ghost use Rattle.checksum.specs.Laws.{MixedWhileMore, SwitchedByCase, TailsSwitched};
+ghost use Rattle.checksum.specs.Damage.{GroupsShow, PartsShow};
+ghost use Rattle.checksum.specs.declared.mixing.State.{State};
 
 use crate::mixing::{State, final_mix, mix};
-use fields::little_endian::{read_u16_le, read_u32_le, read_u64_le};
+use fields::little_endian::read_u32_le;
 
 /// The bytes of a group, four for each of three words; of a tail there are as many at most.
 const GROUP_SIZE: usize = 12;
@@ -44,129 +45,228 @@ fn add_group(s: State, bytes: &[u8], at: usize) -> State
     }
 }
 
-// A word without its `past` lowest bytes.
-#[tactic(auto, using(crate::proofs::Tails::low_gone))]
-fn drop_low_bytes(x: u32, past: usize) -> u32
-    ensures { result ≡ x / 2 ^ (8 * past) }
+fn add_byte(x: u32, byte: u8, shift: u32) -> u32
+    requires { shift ≤ 24 }
+    ensures { result ≡ add32 x (byte * 2 ^ shift) }
 {
-    if past < 4 { x >> (8 * past) } else { 0 }
+    x.wrapping_add((byte as u32) << shift)
 }
 
-// A word with the bytes at `p` added, four at most and fewer at the end: the last word that there is, shifted
-// down. It has no branch on the length, which a processor could not predict.
-fn add_tail_word(x: u32, bytes: &[u8], p: usize) -> u32
-    requires { 4 ≤ length bytes.now }
-    ensures { result ≡ add32 x (le_at bytes.now p 4) }
+fn add_a(s: State, byte: u8, shift: u32) -> State
+    requires { shift ≤ 24 }
+    ensures { result ≡ record { a = add32 s.a (byte * 2 ^ shift); b = s.b; c = s.c } }
 {
-    let at = p.min(bytes.len() - 4);
-    x.wrapping_add(drop_low_bytes(read_u32_le(bytes, at), p - at))
-}
-
-// The bytes at `p`, eight at most and fewer at the end, as one number: the last eight bytes, shifted down. They are
-// read before the choice, since the compiler moves a load that only one side needs to that side, behind a branch.
-fn last_bytes(bytes: &[u8], p: usize) -> u64
-    requires eight_bytes { 8 ≤ length bytes.now }
-    requires reaches_end { length bytes.now ≤ p + 8 }
-    ensures { result ≡ le_at bytes.now p 8 }
-{
-    let at = bytes.len() - 8;
-    let (last, past) = (read_u64_le(bytes, at), p - at);
-    if past < 8 { last >> (8 * past) } else { 0 }
-}
-
-// The 12 bytes or fewer that are left at `at`, added to the words, four to each: those of the second and the third
-// word are read at once. hashlittle adds them byte by byte, in a switch; as words they need no branch on the length,
-// and the law `tails_are_added_as_words` says that the sums are the same.
-fn add_tail(s: State, bytes: &[u8], at: usize) -> State
-    requires { Tail bytes.now at }
-    ensures { result ≡ switched GROUP_SIZE (drop at bytes.now) s }
-{
-    let rest = last_bytes(bytes, at + 4);
     State {
-        a: add_tail_word(s.a, bytes, at),
-        b: s.b.wrapping_add((rest % WORD_VALUES) as u32),
-        c: s.c.wrapping_add((rest / WORD_VALUES) as u32),
+        a: add_byte(s.a, byte, shift),
+        ..s
     }
 }
 
-// The bytes behind the first four of 4 to 8: the last word that there is, shifted down.
-fn second_word(bytes: &[u8]) -> u32
-    requires at_least_four { 4 ≤ length bytes.now }
-    requires at_most_eight { length bytes.now ≤ 8 }
-    ensures { result ≡ le_at bytes.now 4 4 }
+fn add_b(s: State, byte: u8, shift: u32) -> State
+    requires { shift ≤ 24 }
+    ensures { result ≡ record { a = s.a; b = add32 s.b (byte * 2 ^ shift); c = s.c } }
 {
-    let n = bytes.len();
-    (u64::from(read_u32_le(bytes, n - 4)) >> (8 * (8 - n))) as u32
-}
-
-// The bytes behind the first eight of 9 to 12: likewise.
-fn third_word(bytes: &[u8]) -> u32
-    requires at_least_nine { 9 ≤ length bytes.now }
-    requires at_most_group { length bytes.now ≤ GROUP_SIZE }
-    ensures { result ≡ le_at bytes.now 8 4 }
-{
-    let n = bytes.len();
-    read_u32_le(bytes, n - 4) >> (8 * (GROUP_SIZE - n))
-}
-
-// 4 to 12 bytes, which are all of the tail, added to three words that are `first`. The branch between 8 and 9 stays:
-// without it lengths at random took 0.78 to 0.91 of the time, but 5 bytes of one length 1.05 to 1.19 of the
-// original's, whose jump costs nothing where the processor foresees it.
-fn add_few(first: u32, bytes: &[u8]) -> State
-    requires at_least_four { 4 ≤ length bytes.now }
-    requires at_most_group { length bytes.now ≤ GROUP_SIZE }
-    ensures { result ≡ grouped bytes.now 0 (record { a = first; b = first; c = first }) }
-{
-    let a = add_word(first, bytes, 0);
-    if bytes.len() > 8 {
-        return State {
-            a,
-            b: add_word(first, bytes, 4),
-            c: first.wrapping_add(third_word(bytes)),
-        };
-    }
     State {
-        a,
-        b: first.wrapping_add(second_word(bytes)),
-        c: first,
+        b: add_byte(s.b, byte, shift),
+        ..s
     }
 }
 
-// The third of 2 or 3 bytes, or 0: a product, not a branch, which a processor could not predict.
-fn third_byte(bytes: &[u8]) -> u16
-    requires at_least_two { 2 ≤ length bytes.now }
-    requires at_most_three { length bytes.now ≤ 3 }
-    ensures { result ≡ le_at bytes.now 2 2 }
+fn add_c(s: State, byte: u8, shift: u32) -> State
+    requires { shift ≤ 24 }
+    ensures { result ≡ record { a = s.a; b = s.b; c = add32 s.c (byte * 2 ^ shift) } }
 {
-    let n = bytes.len();
-    (bytes[n - 1] as u16) * ((n - 2) as u16)
-}
-
-// All of 1 to 3 bytes.
-fn short_word(bytes: &[u8]) -> u32
-    requires nonempty { 0 < length bytes.now }
-    requires at_most_three { length bytes.now ≤ 3 }
-    ensures { result ≡ le_at bytes.now 0 4 }
-{
-    if bytes.len() == 1 {
-        return bytes[0] as u32;
+    State {
+        c: add_byte(s.c, byte, shift),
+        ..s
     }
-    (read_u16_le(bytes, 0) as u32) + (third_byte(bytes) as u32) * 0x1_0000
 }
 
-// The final mix, of which the third word is the checksum.
-fn ended(s: State) -> u32
-    ensures { result ≡ (final_mixed s).c }
+fn plus(s: State, added: State) -> State
+    ensures { result ≡ plus s added }
 {
+    State {
+        a: s.a.wrapping_add(added.a),
+        b: s.b.wrapping_add(added.b),
+        c: s.c.wrapping_add(added.c),
+    }
+}
+
+// ---- The switch of hashlittle, a function for each case, below its line of lookup3.c: it adds its byte and falls
+// through to the next. `s` are the words before the switch, and `added` is what its cases have added so far, so that
+// `plus s added` are the switch's three words at each case. The two are kept apart until case 1, since the compiler
+// then makes one load of the bytes of a word.
+
+// case 12: c+=((uint32_t)k[11])<<24;
+#[tactic(auto, using(crate::proofs::Switch::next_case))]
+#[inline(always)]
+fn case_12(s: State, added: State, k: &[u8]) -> State
+    requires met { 12 ≤ length k.now }
+    requires words { plus s added ≡ after 13 k.now s }
+    ensures { result ≡ after 1 k.now s }
+{
+    case_11(s, add_c(added, k[11], 24), k)
+}
+
+// case 11: c+=((uint32_t)k[10])<<16;
+#[tactic(auto, using(crate::proofs::Switch::next_case))]
+#[inline(always)]
+fn case_11(s: State, added: State, k: &[u8]) -> State
+    requires met { 11 ≤ length k.now }
+    requires words { plus s added ≡ after 12 k.now s }
+    ensures { result ≡ after 1 k.now s }
+{
+    case_10(s, add_c(added, k[10], 16), k)
+}
+
+// case 10: c+=((uint32_t)k[9])<<8;
+#[tactic(auto, using(crate::proofs::Switch::next_case))]
+#[inline(always)]
+fn case_10(s: State, added: State, k: &[u8]) -> State
+    requires met { 10 ≤ length k.now }
+    requires words { plus s added ≡ after 11 k.now s }
+    ensures { result ≡ after 1 k.now s }
+{
+    case_9(s, add_c(added, k[9], 8), k)
+}
+
+// case 9 : c+=k[8];
+#[tactic(auto, using(crate::proofs::Switch::next_case))]
+#[inline(always)]
+fn case_9(s: State, added: State, k: &[u8]) -> State
+    requires met { 9 ≤ length k.now }
+    requires words { plus s added ≡ after 10 k.now s }
+    ensures { result ≡ after 1 k.now s }
+{
+    case_8(s, add_c(added, k[8], 0), k)
+}
+
+// case 8 : b+=((uint32_t)k[7])<<24;
+#[tactic(auto, using(crate::proofs::Switch::next_case))]
+#[inline(always)]
+fn case_8(s: State, added: State, k: &[u8]) -> State
+    requires met { 8 ≤ length k.now }
+    requires words { plus s added ≡ after 9 k.now s }
+    ensures { result ≡ after 1 k.now s }
+{
+    case_7(s, add_b(added, k[7], 24), k)
+}
+
+// case 7 : b+=((uint32_t)k[6])<<16;
+#[tactic(auto, using(crate::proofs::Switch::next_case))]
+#[inline(always)]
+fn case_7(s: State, added: State, k: &[u8]) -> State
+    requires met { 7 ≤ length k.now }
+    requires words { plus s added ≡ after 8 k.now s }
+    ensures { result ≡ after 1 k.now s }
+{
+    case_6(s, add_b(added, k[6], 16), k)
+}
+
+// case 6 : b+=((uint32_t)k[5])<<8;
+#[tactic(auto, using(crate::proofs::Switch::next_case))]
+#[inline(always)]
+fn case_6(s: State, added: State, k: &[u8]) -> State
+    requires met { 6 ≤ length k.now }
+    requires words { plus s added ≡ after 7 k.now s }
+    ensures { result ≡ after 1 k.now s }
+{
+    case_5(s, add_b(added, k[5], 8), k)
+}
+
+// case 5 : b+=k[4];
+#[tactic(auto, using(crate::proofs::Switch::next_case))]
+#[inline(always)]
+fn case_5(s: State, added: State, k: &[u8]) -> State
+    requires met { 5 ≤ length k.now }
+    requires words { plus s added ≡ after 6 k.now s }
+    ensures { result ≡ after 1 k.now s }
+{
+    case_4(s, add_b(added, k[4], 0), k)
+}
+
+// case 4 : a+=((uint32_t)k[3])<<24;
+#[tactic(auto, using(crate::proofs::Switch::next_case))]
+#[inline(always)]
+fn case_4(s: State, added: State, k: &[u8]) -> State
+    requires met { 4 ≤ length k.now }
+    requires words { plus s added ≡ after 5 k.now s }
+    ensures { result ≡ after 1 k.now s }
+{
+    case_3(s, add_a(added, k[3], 24), k)
+}
+
+// case 3 : a+=((uint32_t)k[2])<<16;
+#[tactic(auto, using(crate::proofs::Switch::next_case))]
+#[inline(always)]
+fn case_3(s: State, added: State, k: &[u8]) -> State
+    requires met { 3 ≤ length k.now }
+    requires words { plus s added ≡ after 4 k.now s }
+    ensures { result ≡ after 1 k.now s }
+{
+    case_2(s, add_a(added, k[2], 16), k)
+}
+
+// case 2 : a+=((uint32_t)k[1])<<8;
+#[tactic(auto, using(crate::proofs::Switch::next_case))]
+#[inline(always)]
+fn case_2(s: State, added: State, k: &[u8]) -> State
+    requires met { 2 ≤ length k.now }
+    requires words { plus s added ≡ after 3 k.now s }
+    ensures { result ≡ after 1 k.now s }
+{
+    case_1(s, add_a(added, k[1], 8), k)
+}
+
+// case 1 : a+=k[0];
+#[tactic(auto, using(crate::proofs::Switch::next_case))]
+#[inline(always)]
+fn case_1(s: State, added: State, k: &[u8]) -> State
+    requires met { 1 ≤ length k.now }
+    requires words { plus s added ≡ after 2 k.now s }
+    ensures { result ≡ after 1 k.now s }
+{
+    plus(s, add_a(added, k[0], 0))
+}
+
+// The switch, entered at the case of the tail's length, and the final mix; case 0, without bytes, has none. Tried: case
+// 1 as the last arm: one byte takes 0.94 to 0.96 of the original's time and not 1.00 to 1.02, but no byte 1.11 and not
+// 0.80.
+#[tactic(auto, using(crate::proofs::Switch::entering))]
+#[inline(always)]
+fn ended(s: State, k: &[u8]) -> u32
+    requires { length k.now ≤ GROUP_SIZE }
+    ensures { result ≡ ended k.now s }
+{
+    let nothing_added = State { a: 0, b: 0, c: 0 };
+    let s = match k.len() {
+        12 => case_12(s, nothing_added, k),
+        11 => case_11(s, nothing_added, k),
+        10 => case_10(s, nothing_added, k),
+        9 => case_9(s, nothing_added, k),
+        8 => case_8(s, nothing_added, k),
+        7 => case_7(s, nothing_added, k),
+        6 => case_6(s, nothing_added, k),
+        5 => case_5(s, nothing_added, k),
+        4 => case_4(s, nothing_added, k),
+        3 => case_3(s, nothing_added, k),
+        2 => case_2(s, nothing_added, k),
+        1 => case_1(s, nothing_added, k),
+        _ => return s.c,
+    };
     let s = final_mix(s);
     s.c
 }
 
-// What each word is at the start.
-fn begun(n: usize) -> u32
-    ensures { result ≡ first_word n }
+fn begun(n: usize) -> State
+    ensures { result ≡ begun n }
 {
-    START_WORD.wrapping_add((n as u64 % WORD_VALUES) as u32)
+    let first = START_WORD.wrapping_add((n as u64 % WORD_VALUES) as u32);
+    State {
+        a: first,
+        b: first,
+        c: first,
+    }
 }
 
 // More than 12 bytes: groups of 12 are mixed while more remain, and 1 to 12 bytes are left. It is not inlined, so that
@@ -176,40 +276,24 @@ fn mix_groups(bytes: &[u8]) -> u32
     requires { GROUP_SIZE < length bytes.now }
     ensures { result ≡ hashlittle bytes.now }
 {
-    let first = begun(bytes.len());
-    let mut s = State {
-        a: first,
-        b: first,
-        c: first,
-    };
+    let mut s = begun(bytes.len());
     let mut at: usize = 0;
     while bytes.len() - at > GROUP_SIZE {
         s = mix(add_group(s, bytes, at));
         at += GROUP_SIZE;
     }
-    ended(add_tail(s, bytes, at))
+    ended(s, &bytes[at..])
 }
 
-/// The checksum that seals HDF5's metadata: hashlittle(bytes, length, 0). 1 to 3, 4 to 8 and 9 to 12 bytes have ways of
-/// their own. The empty input is told last: tested before the bytes are used, it made every short input 2 ns slower.
+/// The checksum that seals HDF5's metadata: hashlittle(bytes, length, 0).
+#[tactic(auto, using(crate::proofs::Walk::few_ended))]
 pub fn jenkins_lookup3(bytes: &[u8]) -> u32
     ensures { result ≡ hashlittle bytes.now }
 {
     if bytes.len() > GROUP_SIZE {
         return mix_groups(bytes);
     }
-    let first = begun(bytes.len());
-    if bytes.len() >= 4 {
-        return ended(add_few(first, bytes));
-    }
-    if bytes.is_empty() {
-        return first;
-    }
-    ended(State {
-        a: first.wrapping_add(short_word(bytes)),
-        b: first,
-        c: first,
-    })
+    ended(begun(bytes.len()), bytes)
 }
 
 /// A law: the loop of hashlittle mixes a group of 12 bytes exactly while more than 12 remain.
@@ -217,7 +301,24 @@ pub fn groups_are_mixed_while_more_remain()
     ensures { MixedWhileMore }
 {}
 
+/// A law: the words after each case of the switch of hashlittle, by the case's number.
+pub fn the_switch_goes_case_by_case()
+    ensures { SwitchedByCase }
+{}
+
 /// A law: what the switch of hashlittle adds, byte by byte, is what the 1 to 12 bytes of a tail are as words.
 pub fn tails_are_added_as_words()
     ensures { TailsSwitched }
+{}
+
+/// A law: inputs of one length that differ in one group of 12 bytes alone, with more bytes behind it, have different
+/// words after that group's mix.
+pub fn a_changed_group_shows()
+    ensures { GroupsShow }
+{}
+
+/// A law: inputs of one length that differ in one group of 12 bytes alone, or in the tail alone, have different words
+/// at the end. The checksum is the third of them, and may be the same.
+pub fn a_changed_part_shows()
+    ensures { PartsShow }
 {}

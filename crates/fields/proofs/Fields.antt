@@ -4,7 +4,7 @@ use Rattle.std.specs.Prelude.{Ok}
 use Rattle.std.proofs.lemmas.Grind.{common_steps}
 use Rattle.fields.specs.LittleEndian.{le_at}
 use Rattle.fields.specs.Widths.{legal}
-use Rattle.fields.specs.Fields.{len_ensured, number_at, offset_at}
+use Rattle.fields.specs.Fields.{offset_at}
 
 -- a number of a right width with room is read
 pub offset_read : (s : List ℕ) (p w : ℕ) → legal w ≡ true → p + w ≤ length s → offset_at s p w ≡ Ok (le_at s p w)

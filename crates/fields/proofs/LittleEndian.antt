@@ -1,6 +1,7 @@
 -- Laws of little-endian numbers, and of bytes put in the place of others, for every width.
-use Rattle.std.proofs.Common.{◌≡◌, refl, sym, ap, ap₂, ◌∙◌, List, [], ◌∷◌, ◌++◌, append_assoc, ℕ, zero, suc, ◌+◌, ◌-◌, ◌*◌}
-use Rattle.std.proofs.Common.{◌/◌, ◌%◌, ◌^◌, ◌≤◌, ◌<◌, zero-add, arith, length, take, drop, replicate, length-append}
+use Rattle.std.proofs.Common.{◌≡◌, refl, sym, ap, ap₂, ◌∙◌, List, [], ◌∷◌, ◌++◌, append_assoc, ℕ, zero, suc}
+use Rattle.std.proofs.Common.{◌+◌, ◌-◌, ◌*◌, ◌/◌, ◌%◌, ◌^◌, ◌≤◌, ◌<◌, zero-add, arith, length, take, drop}
+use Rattle.std.proofs.Common.{replicate, length-append}
 use Rattle.std.proofs.Common.{length-drop, take-add, drop-drop, drop-cons, take_all, take_at, drop_at, length-take-le}
 use Rattle.std.proofs.Common.{get_or-take, get_or-drop, pow-add, pow_pos, shr-shr}
 use Rattle.std.proofs.Math.Nat.{zero-div}

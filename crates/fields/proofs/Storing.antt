@@ -7,6 +7,7 @@ use Rattle.fields.specs.LittleEndian.{le, value, le_at, put}
 use Rattle.fields.specs.Widths.{legal}
 use Rattle.fields.proofs.LittleEndian.{length-le, value-le, le-undefined, length-put, put-here, put-before, put-after}
 use Rattle.fields.proofs.LittleEndian.{pow-byte}
+use Rattle.fields.proofs.Writing.{legal_narrow, mid_put}
 use Rattle.fields.specs.Fields.{offset_at}
 use Rattle.fields.specs.Undefined.{undefined_address}
 use Rattle.fields.proofs.Fields.{offset_read}
@@ -57,3 +58,9 @@ undefined_reads_back s p w l room =
     let still : p + w ≤ length (put s p ones) = omega (arith, length-put s p ones here) in
     offset_read (put s p ones) p w l still
     ∙ ap Ok (ap value (rw many at (put-here s p ones here)) ∙ value-ones w)
+
+-- for a store of an address
+pub ruleset addresses = (legal_narrow, address_reads_back)
+
+-- and for one of the undefined address
+pub ruleset undefined_addresses = (mid_put, undefined_reads_back)

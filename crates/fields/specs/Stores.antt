@@ -6,8 +6,9 @@ use Rattle.refusals.specs.Steps.{◌>>=◌, required}
 use Rattle.refusals.specs.declared.FormatError.{FormatError}
 use Rattle.refusals.specs.declared.FormatError.TheVariants.{InvalidOffsetSize, SliceTooShort}
 
--- w bytes from p on of n lent ones: 2 where w is no width, 13 where they would end past the lent ones
-abbrev pub store_ensured : ℕ → ℕ → ℕ → Result (Unit {0}) FormatError
-store_ensured n p w = do
-  _ ← required (legal w) (InvalidOffsetSize w)
-  required (nat_le (p + w) n) (SliceTooShort (saturated (p + w)) n)
+-- an address of this width, from the place on of so many lent bytes: first the width is tested,
+-- then that the lent bytes are not too short
+abbrev pub store_ensured : (lent place width : ℕ) → Result (Unit {0}) FormatError
+store_ensured lent place width = do
+  _ ← required (legal width) (InvalidOffsetSize width)
+  required (nat_le (place + width) lent) (SliceTooShort (saturated (place + width)) lent)

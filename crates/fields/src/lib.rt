@@ -22,7 +22,6 @@ pub use stores::Writer;
 pub use width::Width;
 
 // The refusal where no `needed` bytes stand at `offset`. The end that it reports saturates at 2^64 - 1.
-#[tactic(auto, unfolding(numbers::specs::Numbers::saturated))]
 fn end_missing(bytes: &[u8], offset: usize, needed: usize) -> FormatError
     ensures { result ≡ FormatError.UnexpectedEof (saturated (offset + needed)) (length bytes.now) }
 {
@@ -34,7 +33,7 @@ fn end_missing(bytes: &[u8], offset: usize, needed: usize) -> FormatError
 
 /// Tests that `needed` bytes stand at `offset`: else 1, with the end that they would have, and the number of bytes.
 pub fn ensure_len(bytes: &[u8], offset: usize, needed: usize) -> Result<(), FormatError>
-    ensures value { result ≡ len_ensured bytes.now offset needed }
+    ensures tested { result ≡ len_ensured bytes.now offset needed }
     ensures there { OnOk result (offset + needed ≤ length bytes.now) }
 {
     match bytes.len().checked_sub(needed) {
@@ -45,7 +44,7 @@ pub fn ensure_len(bytes: &[u8], offset: usize, needed: usize) -> Result<(), Form
 
 /// The two bytes at `pos` as a number.
 pub fn read_u16(bytes: &[u8], pos: usize) -> Result<u16, FormatError>
-    ensures value { result ≡ plain_at bytes.now pos 2 }
+    ensures read { result ≡ plain_at bytes.now pos 2 }
     ensures there { OnOk result (pos + 2 ≤ length bytes.now) }
 {
     ensure_len(bytes, pos, 2)?;
@@ -54,7 +53,7 @@ pub fn read_u16(bytes: &[u8], pos: usize) -> Result<u16, FormatError>
 
 /// The four bytes at `pos` as a number.
 pub fn read_u32(bytes: &[u8], pos: usize) -> Result<u32, FormatError>
-    ensures value { result ≡ plain_at bytes.now pos 4 }
+    ensures read { result ≡ plain_at bytes.now pos 4 }
     ensures there { OnOk result (pos + 4 ≤ length bytes.now) }
 {
     ensure_len(bytes, pos, 4)?;
@@ -91,7 +90,7 @@ fn read_number(
     width: u8,
     invalid: FormatError,
 ) -> Result<u64, FormatError>
-    ensures value { result ≡ number_at bytes.now pos width invalid }
+    ensures read { result ≡ number_at bytes.now pos width invalid }
     ensures there { OnOk result (pos + width ≤ length bytes.now) }
 {
     if !is_width(width) {
@@ -106,7 +105,7 @@ fn read_number(
 
 /// The address of `offset_size` bytes at `pos`.
 pub fn read_offset(bytes: &[u8], pos: usize, offset_size: u8) -> Result<u64, FormatError>
-    ensures value { result ≡ offset_at bytes.now pos offset_size }
+    ensures read { result ≡ offset_at bytes.now pos offset_size }
     ensures there { OnOk result (pos + offset_size ≤ length bytes.now) }
 {
     read_number(
@@ -119,7 +118,7 @@ pub fn read_offset(bytes: &[u8], pos: usize, offset_size: u8) -> Result<u64, For
 
 /// The length of `length_size` bytes at `pos`.
 pub fn read_length(bytes: &[u8], pos: usize, length_size: u8) -> Result<u64, FormatError>
-    ensures value { result ≡ length_at bytes.now pos length_size }
+    ensures read { result ≡ length_at bytes.now pos length_size }
     ensures there { OnOk result (pos + length_size ≤ length bytes.now) }
 {
     read_number(

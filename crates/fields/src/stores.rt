@@ -24,9 +24,8 @@ fn store_le(bytes: &mut [u8], pos: usize, value: u64, width: usize)
 }
 
 // Tests that an address of `offset_size` bytes can be stored at `pos` of `lent` bytes.
-#[tactic(auto, unfolding(numbers::specs::Numbers::saturated))]
 fn ensure_store(lent: usize, pos: usize, offset_size: u8) -> Result<(), FormatError>
-    ensures value { result ≡ store_ensured lent pos offset_size }
+    ensures tested { result ≡ store_ensured lent pos offset_size }
     ensures width { OnOk result (legal offset_size ≡ true) }
     ensures there { OnOk result (pos + offset_size ≤ lent) }
 {
@@ -44,14 +43,14 @@ fn ensure_store(lent: usize, pos: usize, offset_size: u8) -> Result<(), FormatEr
 /// Stores the low bytes of `value` as an address of `offset_size` bytes at `pos`. A size that is none gives 2, a slice
 /// that ends too early 13, in this order; then the slice stays as it is. Of the original's file writer, whose source is
 /// not at hand, two facts are known: which bytes this stores, and which `write_undef_offset`.
-#[tactic(auto, using(crate::proofs::Writing::legal_narrow, crate::proofs::Storing::address_reads_back))]
+#[tactic(auto, using(crate::proofs::Storing::addresses))]
 pub fn write_offset(
     bytes: &mut [u8],
     pos: usize,
     value: u64,
     offset_size: u8,
 ) -> Result<(), FormatError>
-    ensures value { result ≡ store_ensured (length bytes.old) pos offset_size }
+    ensures tested { result ≡ store_ensured (length bytes.old) pos offset_size }
     ensures stored { OnOk result (bytes.new ≡ put bytes.old pos (le offset_size value)) }
     ensures reads_back { OnOk result (offset_at bytes.new pos offset_size
         ≡ Ok (value % 2 ^ (8 * offset_size))) }
@@ -63,9 +62,9 @@ pub fn write_offset(
 }
 
 /// Stores the undefined address of `offset_size` bytes at `pos`, with the refusals of `write_offset`.
-#[tactic(auto, using(crate::proofs::Writing::mid_put, crate::proofs::Storing::undefined_reads_back))]
+#[tactic(auto, using(crate::proofs::Storing::undefined_addresses))]
 pub fn write_undef_offset(bytes: &mut [u8], pos: usize, offset_size: u8) -> Result<(), FormatError>
-    ensures value { result ≡ store_ensured (length bytes.old) pos offset_size }
+    ensures tested { result ≡ store_ensured (length bytes.old) pos offset_size }
     ensures stored { OnOk result (bytes.new ≡ put bytes.old pos (replicate offset_size 0xFF)) }
     ensures reads_back { OnOk result (offset_at bytes.new pos offset_size
         ≡ Ok (undefined_address offset_size)) }

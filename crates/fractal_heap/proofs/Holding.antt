@@ -6,7 +6,7 @@ use Rattle.std.specs.Prelude.{Ok}
 use Rattle.fields.specs.LittleEndian.{le, le_at}
 use Rattle.fields.specs.Widths.{legal}
 use Rattle.fields.proofs.LittleEndian.{length-le, value-le}
-use Rattle.fractal_heap.specs.Header.{fields_at, header_numbers}
+use Rattle.fractal_heap.specs.Header.{fields_at, header_numbers, without_filters}
 use Rattle.fractal_heap.specs.Spelling.{spelled, AllFit, field_widths}
 use Rattle.fractal_heap.specs.declared.header.FractalHeapHeader.{FractalHeapHeader}
 
@@ -63,6 +63,7 @@ length-spelled (w ∷ ws) (n ∷ ns) q =
 -- ---- what stands there is read
 
 pub held-read : (h : FractalHeapHeader) (s : List ℕ) (p os ls : ℕ) → legal os ≡ true → legal ls ≡ true
-    → Held s p (field_widths os ls) (header_numbers h) → fields_at s p os ls ≡ Ok (h, p + span (field_widths os ls))
+    → Held s p (field_widths os ls) (header_numbers h)
+    → fields_at s p os ls ≡ Ok (without_filters h, p + span (field_widths os ls))
 unfolding Held span
 held-read h s p os ls go gl H = grind (arith, common_steps)

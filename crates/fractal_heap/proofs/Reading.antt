@@ -17,10 +17,11 @@ use Rattle.fields.specs.LittleEndian.{le, value, le_at}
 use Rattle.fields.specs.Widths.{legal}
 use Rattle.fields.specs.Fields.{len_ensured}
 use Rattle.fields.proofs.LittleEndian.{length-le, value-lt}
-use Rattle.fractal_heap.specs.Header.{fields_at, sum_place, header_at, header_numbers}
+use Rattle.fractal_heap.specs.Header.{fields_at, header_at, header_numbers, with_filters, without_filters}
 use Rattle.fractal_heap.specs.SpellingLaws.{ReadIsSpelled}
 use Rattle.fractal_heap.specs.HeaderReader.{offset_field, length_field}
-use Rattle.fractal_heap.specs.Groups.{front_fields, object_fields, table_fields, root_fields}
+use Rattle.fractal_heap.specs.Groups.{front_fields, object_fields, table_fields, root_fields, filters_at, no_filters}
+use Rattle.fractal_heap.specs.declared.header_fields.FilterFields.{FilterFields}
 use Rattle.fractal_heap.specs.Spelling.{spelled, AllFit, field_widths, unsummed, header_spelled}
 use Rattle.fractal_heap.specs.declared.header.FractalHeapHeader.{FractalHeapHeader}
 use Rattle.fractal_heap.specs.declared.header_fields.FrontFields.{FrontFields}
@@ -324,29 +325,85 @@ module _ (h : FractalHeapHeader) (s : List ℕ) (p os ls : ℕ) (bytes : IsBytes
             ∙ ap (λ (k : ℕ). header_spelled h os ls ++ drop k s) end,
       )
 
-pub read-spelled : ReadIsSpelled
-read-spelled h s p os ls bytes plain e =
+-- ---- the filters
+
+-- where there are none, nothing stands for them
+none-at : (s : List ℕ) (p f ls : ℕ) (filters : FilterFields) (q : ℕ) → f ≡ 0 → filters_at s p f ls ≡ Ok (filters, q)
+    → (filters ≡ no_filters) × (q ≡ p)
+none-at s p f ls filters q none e = grind (arith, nat_tests, common_steps)
+
+-- what a header is read from: its start, its fields, its filters, its sum
+pub record Parts (h : FractalHeapHeader) (s : List ℕ) (p os ls : ℕ) : Type 0 where
+  pub next : ℕ
+  pub start : start_checked s p ≡ Ok next
+  pub plain : FractalHeapHeader
+  pub end : ℕ
+  pub fields : fields_at s next os ls ≡ Ok (plain, end)
+  pub filters : FilterFields
+  pub place : ℕ
+  pub filtered : filters_at s end plain.io_filter_encoded_length ls ≡ Ok (filters, place)
+  pub sum : sum_checked s p place ≡ Ok tt
+  pub whole : with_filters plain filters ≡ h
+
+pub parts : (h : FractalHeapHeader) (s : List ℕ) (p os ls : ℕ) → header_at s p os ls ≡ Ok h → Parts h s p os ls
+parts h s p os ls e =
     let a = bind_ok (start_checked s p) _ h e in
     let b = bind_ok (fields_at s a.0 os ls) _ h a.2 in
-    let c = bind_ok (sum_checked s p (sum_place b.0.0.io_filter_encoded_length ls b.0.1)) _ h b.2 in
-    let same : b.0.0 ≡ h = ok_is b.0.0 h c.2 in
-    let start = start-gave s p a.0 a.1 in
-    let gave : Gave s (p + 5) b.0.1 (field_widths os ls) (header_numbers h) =
-    subst (λ (x : ℕ). Gave s x b.0.1 (field_widths os ls) (header_numbers h)) start.first
-    (subst (λ (y : FractalHeapHeader). Gave s a.0 b.0.1 (field_widths os ls) (header_numbers y)) same
-    (fields-gave s a.0 b.0.1 os ls b.0.0 b.1)) in
-    let no_filter : b.0.0.io_filter_encoded_length ≡ 0 =
-    ap (λ (y : FractalHeapHeader). y.io_filter_encoded_length) same ∙ plain in
-    let right : sum_checked s p b.0.1 ≡ Ok tt =
-    sym (ap (λ (f : ℕ). sum_checked s p (sum_place f ls b.0.1)) no_filter) ∙ c.1 in
+    let c = bind_ok (filters_at s b.0.1 b.0.0.io_filter_encoded_length ls) _ h b.2 in
+    let d = bind_ok (sum_checked s p c.0.1) _ h c.2 in
+    record {
+      next = a.0;
+      start = a.1;
+      plain = b.0.0;
+      end = b.0.1;
+      fields = b.1;
+      filters = c.0.0;
+      place = c.0.1;
+      filtered = c.1;
+      sum = d.1;
+      whole = ok_is (with_filters b.0.0 c.0.0) h d.2;
+    }
+
+-- the fields that are read first have the three at 0
+fields-plain : (s : List ℕ) (p os ls : ℕ) (h : FractalHeapHeader) (q : ℕ) → fields_at s p os ls ≡ Ok (h, q)
+    → without_filters h ≡ h
+fields-plain s p os ls h q e =
+    let a = bind_ok (front_fields s p) _ (h, q) e in
+    let b = bind_ok (object_fields s a.0.1 os ls) _ (h, q) a.2 in
+    let c = bind_ok (table_fields s b.0.1 ls) _ (h, q) b.2 in
+    let d = bind_ok (root_fields s c.0.1 os) _ (h, q) c.2 in
+    subst (λ (y : FractalHeapHeader × ℕ). without_filters y.0 ≡ y.0) (ok_is _ (h, q) d.2) refl
+
+-- a header without filters that is read has the three at 0
+pub read-plain : (h : FractalHeapHeader) (s : List ℕ) (p os ls : ℕ) → header_at s p os ls ≡ Ok h
+    → h.io_filter_encoded_length ≡ 0 → without_filters h ≡ h
+read-plain h s p os ls e none =
+    let P = parts h s p os ls e in
+    let no_filter : P.plain.io_filter_encoded_length ≡ 0 =
+    ap (λ (y : FractalHeapHeader). y.io_filter_encoded_length) P.whole ∙ none in
+    let f = none-at s P.end P.plain.io_filter_encoded_length ls P.filters P.place no_filter P.filtered in
+    let is : without_filters P.plain ≡ h = ap (with_filters P.plain) (sym f.0) ∙ P.whole in
+    subst (λ (y : FractalHeapHeader). without_filters y ≡ y) is refl
+
+pub read-spelled : ReadIsSpelled
+read-spelled h s p os ls bytes plain e =
+    let P = parts h s p os ls e in
+    let start = start-gave s p P.next P.start in
+    let no_filter : P.plain.io_filter_encoded_length ≡ 0 =
+    ap (λ (y : FractalHeapHeader). y.io_filter_encoded_length) P.whole ∙ plain in
+    let f = none-at s P.end P.plain.io_filter_encoded_length ls P.filters P.place no_filter P.filtered in
+    let gave : Gave s (p + 5) P.end (field_widths os ls) (header_numbers h) =
+    subst (λ (x : ℕ). Gave s x P.end (field_widths os ls) (header_numbers h)) start.first
+    (subst (λ (y : FractalHeapHeader). Gave s P.next P.end (field_widths os ls) (header_numbers y)) P.whole
+    (fields-gave s P.next P.end os ls P.plain P.fields)) in
+    let right : sum_checked s p P.end ≡ Ok tt = ap (sum_checked s p) (sym f.1) ∙ P.sum in
     let begun : Started s p (p + 5) = record { first = refl; room = start.room; front = start.front } in
-    spelled-here h s p os ls bytes plain b.0.1 begun gave right
+    spelled-here h s p os ls bytes plain P.end begun gave right
 
 pub read-widths : (h : FractalHeapHeader) (s : List ℕ) (p os ls : ℕ) → header_at s p os ls ≡ Ok h
     → (legal os ≡ true) × (legal ls ≡ true)
 read-widths h s p os ls e =
-    let a = bind_ok (start_checked s p) _ h e in
-    let b = bind_ok (fields_at s a.0 os ls) _ h a.2 in
-    let c = bind_ok (front_fields s a.0) _ b.0 b.1 in
-    let d = bind_ok (object_fields s c.0.1 os ls) _ b.0 c.2 in
+    let P = parts h s p os ls e in
+    let c = bind_ok (front_fields s P.next) _ (P.plain, P.end) P.fields in
+    let d = bind_ok (object_fields s c.0.1 os ls) _ (P.plain, P.end) c.2 in
     object-widths s c.0.1 d.0.1 os ls d.0.0 d.1

@@ -9,7 +9,7 @@ use Rattle.fields.specs.Signatures.{header_signature}
 use Rattle.checksum.specs.Lookup3.{groups_of, tail_of, hashlittle}
 use Rattle.checksum.specs.Mix.{final_mixed}
 use Rattle.fractal_heap.specs.Frame.{start_checked, sum_checked}
-use Rattle.fractal_heap.specs.Header.{fields_at, header_at, header_numbers}
+use Rattle.fractal_heap.specs.Header.{fields_at, header_at, header_numbers, without_filters}
 use Rattle.fractal_heap.specs.Spelling.{spelled, AllFit, field_widths, unsummed, header_spelled}
 use Rattle.fractal_heap.specs.SpellingLaws.{SpelledIsRead}
 use Rattle.fractal_heap.specs.declared.header.FractalHeapHeader.{FractalHeapHeader}
@@ -70,7 +70,7 @@ module _ (h : FractalHeapHeader) (s : List ℕ) (p os ls : ℕ) (rest : List ℕ
   behind-fields =
       omega (arith, behind-start, ap (length {A = ℕ}) start.1, length-drop (p + 5) s, length-append fields (sum ++ rest), length-fields)
 
-  read : fields_at s (p + 5) os ls ≡ Ok (h, end)
+  read : fields_at s (p + 5) os ls ≡ Ok (without_filters h, end)
   read =
       held-read h s (p + 5) os ls go gl
       (spelled-held (field_widths os ls) (header_numbers h) s (p + 5) (sum ++ rest) (paired h os ls) behind-start fits start.1)
@@ -91,7 +91,7 @@ module _ (h : FractalHeapHeader) (s : List ℕ) (p os ls : ℕ) (rest : List ℕ
   sum-right : sum_checked s p end ≡ Ok tt
   sum-right = summed s p end (unsummed h os ls) sum-there.room covered sum-there.reads
 
-  header-read : h.io_filter_encoded_length ≡ 0 → header_at s p os ls ≡ Ok h
+  header-read : h.io_filter_encoded_length ≡ 0 → header_at s p os ls ≡ Ok (without_filters h)
   header-read plain = rw (start.0, read, plain, sum-right) refl
 
 pub spelled-read : SpelledIsRead

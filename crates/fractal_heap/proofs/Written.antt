@@ -10,17 +10,17 @@ use Rattle.refusals.specs.declared.FormatError.TheVariants.{InvalidOffsetSize, I
 use Rattle.fields.specs.Widths.{legal}
 use Rattle.fields.specs.Writing.{Puts, written, behind}
 use Rattle.fields.specs.declared.stores.writer.Writer.{Writer}
-use Rattle.fractal_heap.specs.Header.{fields_size, header_numbers, header_of}
+use Rattle.fractal_heap.specs.Header.{fields_size, header_numbers, header_of, parsed_numbers, without_filters}
 use Rattle.checksum.specs.Lookup3.{hashlittle}
 use Rattle.fields.specs.LittleEndian.{le, put}
 use Rattle.fields.proofs.LittleEndian.{length-le, put_front}
 use Rattle.fractal_heap.specs.Spelling.{AllFit, spelled, field_widths, unsummed, header_spelled}
-use Rattle.fractal_heap.specs.Writing.{header_length, widths_checked, header_checked, header_written, ReadsBack, WrittenBack}
+use Rattle.fractal_heap.specs.Writing.{header_length, widths_checked, header_checked, header_written, ReadsBack, ParsedReadsBack, WrittenBack}
 use Rattle.fractal_heap.specs.declared.write.WrittenHeader.{WrittenHeader}
 use Rattle.fractal_heap.specs.declared.header.FractalHeapHeader.{FractalHeapHeader}
 use Rattle.fractal_heap.proofs.Holding.{span, length-spelled}
 use Rattle.fractal_heap.proofs.Spelling.{paired, spelled-read}
-use Rattle.fractal_heap.proofs.Reading.{bind_ok, required_ok, read-spelled, read-widths}
+use Rattle.fractal_heap.proofs.Reading.{bind_ok, required_ok, read-plain, read-spelled, read-widths}
 
 pub widths_fit : (place : ℕ) (ws ns : List ℕ) → widths_checked place ws ns ≡ Ok tt → AllFit ws ns
 unfolding widths_checked AllFit
@@ -164,16 +164,37 @@ pub parts_put : (b u v : List ℕ) (x y z : List ℕ) (n : ℕ) → x ≡ u → 
     → (x ++ y) ++ z ≡ put b 0 (u ++ v)
 parts_put b u v x y z n e f g k = rw (e, f, g, ← k, put_front b (u ++ v)) refl
 
-fits_is_read_back : (h : FractalHeapHeader) (os ls lent : ℕ) (w : WrittenHeader) (t : Result (Unit {0}) FormatError)
-    → header_checked (header_numbers h) os ls lent ≡ t → OnOk (t >>= λ _. Ok w) (ReadsBack h os ls)
-fits_is_read_back h os ls lent w (Ok tt) e =
-    let a = accepted h os ls lent e in
-    λ s p rest there. spelled-read h s p os ls rest a.offsets a.lengths a.plain a.fits there
-fits_is_read_back h os ls lent w (Err d) e = tt
+-- what follows from the tests holds of what is accepted
+fits_then : (h : FractalHeapHeader) (os ls lent : ℕ) (w : WrittenHeader) (P : Type 0) → (Accepted h os ls lent → P)
+    → (t : Result (Unit {0}) FormatError) → header_checked (header_numbers h) os ls lent ≡ t
+    → OnOk (t >>= λ _. Ok w) P
+fits_then h os ls lent w P then (Ok tt) e = then (accepted h os ls lent e)
+fits_then h os ls lent w P then (Err d) e = tt
+
+written_then : (h : FractalHeapHeader) (os ls lent : ℕ) (r : Result WrittenHeader FormatError) (P : Type 0)
+    → (Accepted h os ls lent → P) → r ≡ header_written h os ls lent → OnOk r P
+written_then h os ls lent r P then e = rw e (fits_then h os ls lent _ P then _ refl)
 
 pub is_read_back : (h : FractalHeapHeader) (os ls lent : ℕ) (r : Result WrittenHeader FormatError)
     → r ≡ header_written h os ls lent → OnOk r (ReadsBack h os ls)
-is_read_back h os ls lent r e = rw e (fits_is_read_back h os ls lent _ _ refl)
+is_read_back h os ls lent r e =
+    written_then h os ls lent r (ReadsBack h os ls)
+    (λ a s p rest there. spelled-read h s p os ls rest a.offsets a.lengths a.plain a.fits there) e
+
+-- a header that was parsed is read itself
+pub parsed_is_read_back : (h : FractalHeapHeader) (os ls lent : ℕ) (r : Result WrittenHeader FormatError)
+    → r ≡ header_written h os ls lent → OnOk r (ParsedReadsBack h os ls)
+parsed_is_read_back h os ls lent r e =
+    written_then h os ls lent r (ParsedReadsBack h os ls)
+    (λ a file pos o l parsed s p rest there.
+    spelled-read h s p os ls rest a.offsets a.lengths a.plain a.fits there
+    ∙ ap Ok (read-plain h file pos o l parsed a.plain)) e
+
+-- what holds of a header without what it has of filters: it is written back itself where it is read
+pub filters_unread : (h : FractalHeapHeader) (os ls : ℕ) (r : Result WrittenHeader FormatError) (new : List ℕ)
+    → WrittenBack (without_filters h) os ls r new → WrittenBack h os ls r new
+filters_unread h os ls r new back = λ file pos bytes parsed plain room.
+    back file pos bytes (parsed ∙ ap Ok (sym (read-plain h file pos os ls parsed plain))) plain room
 
 pub is_written_back : (h : FractalHeapHeader) (os ls : ℕ) (old new : List ℕ) (r : Result WrittenHeader FormatError)
     → r ≡ header_written h os ls (length old) → length new ≡ length old
@@ -194,6 +215,6 @@ is_written_back h os ls old new r e l w = λ s p bytes parsed plain room.
     ap (take (header_length os ls)) there.1 ∙ take_at whole _ (header_length os ls) n in
     (rw accepted_now refl, front ∙ sym file)
 
--- a header is that of its numbers
-pub header_of-numbers : (h : FractalHeapHeader) (ns : List ℕ) → ns ≡ header_numbers h → header_of ns ≡ h
+-- a header is that of its numbers, but for its filters
+pub header_of-numbers : (h : FractalHeapHeader) (ns : List ℕ) → ns ≡ parsed_numbers h → header_of ns ≡ without_filters h
 header_of-numbers h ns e = ap header_of e

@@ -1,23 +1,29 @@
--- The fields of the header in the file s, in four groups and in header order. HDF5 File Format Specification 3.0,
--- III.G, 'Fractal Heap Header'. Each group begins at p, gives its fields and where the next group begins, and makes the
--- original's tests in the original's order. os is Size of Offsets, ls is Size of Lengths; beside each group is how many
--- bytes it has.
-use Rattle.std.specs.Prelude.{ℕ, ◌+◌, ◌*◌, List, Ok}
+-- The fields of the header in a file, in five groups and in header order. HDF5 File Format
+-- Specification 3.0, III.G, 'Fractal Heap Header'. Each group begins at `pos`, gives its fields and
+-- where the next group begins, and makes the original's tests in the original's order; the last one,
+-- which the original reads otherwise, makes one. Beside each group is how many bytes it has.
+use Rattle.std.specs.Prelude.{ℕ, ◌+◌, ◌*◌, ◌==◌, if◌then◌else◌, List, Ok}
 use Rattle.refusals.specs.Steps.{◌>>=◌}
 use Rattle.fields.specs.Fields.{len_ensured}
-use Rattle.fractal_heap.specs.HeaderReader.{Step, plain_field, offset_field, length_field, taken}
+use Rattle.fractal_heap.specs.HeaderReader.{Step, plain_field, offset_field, length_field}
+use Rattle.fractal_heap.specs.HeaderReader.{untested_field}
 use Rattle.fractal_heap.specs.declared.header_fields.FrontFields.{FrontFields}
 use Rattle.fractal_heap.specs.declared.header_fields.ObjectFields.{ObjectFields}
 use Rattle.fractal_heap.specs.declared.header_fields.TableFields.{TableFields}
 use Rattle.fractal_heap.specs.declared.header_fields.RootFields.{RootFields}
+use Rattle.fractal_heap.specs.declared.header_fields.FilterFields.{FilterFields}
 
 -- what stands before the fields whose sizes the file chooses
 abbrev pub front_fields : List ℕ → ℕ → Step FrontFields
-front_fields s p = do
-  (heap_id_length, p) ← plain_field s p 2  -- Heap ID Length
-  (io_filter_encoded_length, p) ← plain_field s p 2  -- I/O Filters' Encoded Length
-  (flags, p) ← plain_field s p 1  -- Flags
-  (max_managed_object_size, p) ← plain_field s p 4  -- Maximum Size of Managed Objects
+front_fields file pos = do
+  -- Heap ID Length
+  (heap_id_length, pos) ← plain_field file pos 2
+  -- I/O Filters' Encoded Length
+  (io_filter_encoded_length, pos) ← plain_field file pos 2
+  -- Flags
+  (flags, pos) ← plain_field file pos 1
+  -- Maximum Size of Managed Objects
+  (max_managed_object_size, pos) ← plain_field file pos 4
   Ok (
     record {
       heap_id_length = heap_id_length;
@@ -25,26 +31,35 @@ front_fields s p = do
       flags = flags;
       max_managed_object_size = max_managed_object_size;
     },
-    p,
+    pos,
   )
 
 abbrev pub front_size : ℕ
 front_size = 9
 
--- the huge objects' IDs and tree, the managed space, and how many managed objects there are; one test is made for the
--- five fields between the tree's address and the number of objects
+-- the huge objects' IDs and tree, the managed space, and how many managed objects there are; one
+-- test is made for the five fields between the tree's address and the number of objects
 abbrev pub object_fields : List ℕ → ℕ → ℕ → ℕ → Step ObjectFields
-object_fields s p os ls = do
-  _ ← len_ensured s p ls
-  (next_huge_object_id, p) ← taken s p ls  -- Next Huge Object ID
-  (btree_huge_objects_address, p) ← offset_field s p os  -- v2 B-tree Address of Huge Objects
-  _ ← len_ensured s p (4 * ls + os)  -- the five:
-  (free_space_managed_blocks, p) ← taken s p ls  -- Amount of Free Space in Managed Blocks
-  (managed_block_free_space_manager_address, p) ← taken s p os  -- Address of Managed Block Free Space Manager
-  (managed_space_in_heap, p) ← taken s p ls  -- Amount of Managed Space in Heap
-  (allocated_managed_space_in_heap, p) ← taken s p ls  -- Amount of Allocated Managed Space in Heap
-  (direct_block_allocation_iterator_offset, p) ← taken s p ls  -- Offset of Direct Block Allocation Iterator in Managed Space
-  (managed_objects_count, p) ← length_field s p ls  -- Number of Managed Objects in Heap
+object_fields file pos offset_size length_size = do
+  _ ← len_ensured file pos length_size
+  -- Next Huge Object ID
+  (next_huge_object_id, pos) ← untested_field file pos length_size
+  -- v2 B-tree Address of Huge Objects
+  (btree_huge_objects_address, pos) ← offset_field file pos offset_size
+  -- the five:
+  _ ← len_ensured file pos (4 * length_size + offset_size)
+  -- Amount of Free Space in Managed Blocks
+  (free_space_managed_blocks, pos) ← untested_field file pos length_size
+  -- Address of Managed Block Free Space Manager
+  (managed_block_free_space_manager_address, pos) ← untested_field file pos offset_size
+  -- Amount of Managed Space in Heap
+  (managed_space_in_heap, pos) ← untested_field file pos length_size
+  -- Amount of Allocated Managed Space in Heap
+  (allocated_managed_space_in_heap, pos) ← untested_field file pos length_size
+  -- Offset of Direct Block Allocation Iterator in Managed Space
+  (direct_block_allocation_iterator_offset, pos) ← untested_field file pos length_size
+  -- Number of Managed Objects in Heap
+  (managed_objects_count, pos) ← length_field file pos length_size
   Ok (
     record {
       next_huge_object_id = next_huge_object_id;
@@ -56,24 +71,32 @@ object_fields s p os ls = do
       direct_block_allocation_iterator_offset = direct_block_allocation_iterator_offset;
       managed_objects_count = managed_objects_count;
     },
-    p,
+    pos,
   )
 
 abbrev pub objects_size : ℕ → ℕ → ℕ
-objects_size os ls = 6 * ls + 2 * os
+objects_size offset_size length_size = 6 * length_size + 2 * offset_size
 
--- the sizes and numbers of huge and of tiny objects, of which nothing is tested, and the doubling table, with whose tests
--- they are there, too
+-- the sizes and numbers of huge and of tiny objects, of which nothing is tested, and the doubling
+-- table, with whose tests they are there, too
 abbrev pub table_fields : List ℕ → ℕ → ℕ → Step TableFields
-table_fields s p ls = do
-  (huge_objects_size, p) ← taken s p ls  -- Size of Huge Objects in Heap
-  (huge_objects_count, p) ← taken s p ls  -- Number of Huge Objects in Heap
-  (tiny_objects_size, p) ← taken s p ls  -- Size of Tiny Objects in Heap
-  (tiny_objects_count, p) ← taken s p ls  -- Number of Tiny Objects in Heap
-  (table_width, p) ← plain_field s p 2  -- Table Width
-  (starting_block_size, p) ← length_field s p ls  -- Starting Block Size
-  (max_direct_block_size, p) ← length_field s p ls  -- Maximum Direct Block Size
-  (max_heap_size, p) ← plain_field s p 2  -- Maximum Heap Size
+table_fields file pos length_size = do
+  -- Size of Huge Objects in Heap
+  (huge_objects_size, pos) ← untested_field file pos length_size
+  -- Number of Huge Objects in Heap
+  (huge_objects_count, pos) ← untested_field file pos length_size
+  -- Size of Tiny Objects in Heap
+  (tiny_objects_size, pos) ← untested_field file pos length_size
+  -- Number of Tiny Objects in Heap
+  (tiny_objects_count, pos) ← untested_field file pos length_size
+  -- Table Width
+  (table_width, pos) ← plain_field file pos 2
+  -- Starting Block Size
+  (starting_block_size, pos) ← length_field file pos length_size
+  -- Maximum Direct Block Size
+  (max_direct_block_size, pos) ← length_field file pos length_size
+  -- Maximum Heap Size
+  (max_heap_size, pos) ← plain_field file pos 2
   Ok (
     record {
       huge_objects_size = huge_objects_size;
@@ -88,26 +111,66 @@ table_fields s p ls = do
             max_heap_size = max_heap_size;
           };
     },
-    p,
+    pos,
   )
 
 abbrev pub table_size : ℕ → ℕ
-table_size ls = 6 * ls + 4
+table_size length_size = 6 * length_size + 4
 
 -- the root block, and how many rows it has
 abbrev pub root_fields : List ℕ → ℕ → ℕ → Step RootFields
-root_fields s p os = do
-  (start_root_rows, p) ← plain_field s p 2  -- Starting # of Rows in Root Indirect Block
-  (root_block_address, p) ← offset_field s p os  -- Address of Root Block
-  (current_rows_in_root_indirect_block, p) ← plain_field s p 2  -- Current # of Rows in Root Indirect Block
+root_fields file pos offset_size = do
+  -- Starting # of Rows in Root Indirect Block
+  (start_root_rows, pos) ← plain_field file pos 2
+  -- Address of Root Block
+  (root_block_address, pos) ← offset_field file pos offset_size
+  -- Current # of Rows in Root Indirect Block
+  (current_rows_in_root_indirect_block, pos) ← plain_field file pos 2
   Ok (
     record {
       start_root_rows = start_root_rows;
       root_block_address = root_block_address;
       current_rows_in_root_indirect_block = current_rows_in_root_indirect_block;
     },
-    p,
+    pos,
   )
 
 abbrev pub root_size : ℕ → ℕ
-root_size os = os + 4
+root_size offset_size = offset_size + 4
+
+-- how many bytes the filters of a heap take that has some, their information being of so many
+abbrev pub filters_size : ℕ → ℕ → ℕ
+filters_size filter_length length_size = length_size + 4 + filter_length
+
+-- the filters of such a heap; one test is made for all of the group and for Checksum, which stands
+-- behind it
+abbrev pub filter_fields : List ℕ → ℕ → ℕ → ℕ → Step FilterFields
+filter_fields file pos filter_length length_size = do
+  _ ← len_ensured file pos (filters_size filter_length length_size + 4)
+  -- Size of Filtered Root Direct Block
+  (filtered_root_direct_block_size, pos) ← untested_field file pos length_size
+  -- I/O Filter Mask
+  (io_filter_mask, pos) ← untested_field file pos 4
+  -- I/O Filter Information: where it begins
+  Ok (
+    record {
+      io_filter_information_position = pos;
+      filtered_root_direct_block_size = filtered_root_direct_block_size;
+      io_filter_mask = io_filter_mask;
+    },
+    pos + filter_length,
+  )
+
+-- what stands for them where I/O Filters' Encoded Length is 0: they are not there
+abbrev pub no_filters : FilterFields
+no_filters = record {
+  io_filter_information_position = 0;
+  filtered_root_direct_block_size = 0;
+  io_filter_mask = 0;
+}
+
+-- the filters, if the heap has some
+abbrev pub filters_at : List ℕ → ℕ → ℕ → ℕ → Step FilterFields
+filters_at file pos filter_length length_size =
+    if filter_length == 0 then Ok (no_filters, pos)
+    else filter_fields file pos filter_length length_size

@@ -1,19 +1,19 @@
 -- How the C functions that parse a header hand it out: its fields as numbers in a lent list.
 use Rattle.std.specs.Prelude.{ℕ, Bool, List, length, nat_lt, if◌then◌else◌, Result}
 use Rattle.fields.specs.LittleEndian.{put}
-use Rattle.refusals.specs.Refusals.{answer, report_of}
+use Rattle.refusals.specs.Refusals.{slice_too_short, answer, report_of}
 use Rattle.refusals.specs.declared.answer.Answer.{Answer}
 use Rattle.refusals.specs.declared.FormatError.{FormatError}
 use Rattle.fractal_heap.specs.declared.header.FractalHeapHeader.{FractalHeapHeader}
-use Rattle.fractal_heap.specs.Header.{header_numbers, field_count}
+use Rattle.fractal_heap.specs.Header.{parsed_numbers, number_count}
 
--- a list that has no place for each field
-abbrev pub is_short : List ℕ → Bool
-is_short list = nat_lt (length list) field_count
+-- a list that has not so many places
+abbrev pub is_short : ℕ → List ℕ → Bool
+is_short count list = nat_lt (length list) count
 
--- the fields in the first places
+-- the fields and what is kept of the filters, in the first places
 abbrev pub listed : List ℕ → FractalHeapHeader → List ℕ
-listed list h = put list 0 (header_numbers h)
+listed list header = put list 0 (parsed_numbers header)
 
 -- a header that is accepted has no values but those in the list
 abbrev pub header_report : Result FractalHeapHeader FormatError → Answer
@@ -21,4 +21,5 @@ header_report = report_of (λ _. answer 0 0 0)
 
 -- a list that is too short gives 13
 abbrev pub header_number : List ℕ → Result FractalHeapHeader FormatError → ℕ
-header_number list r = if is_short list then 13 else (header_report r).number
+header_number list parsed =
+    if is_short number_count list then slice_too_short else (header_report parsed).number

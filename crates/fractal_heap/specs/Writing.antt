@@ -1,61 +1,85 @@
--- Writing a header without filters: its tests, in their order, what is told of it, and what holds of its bytes.
-use Rattle.std.specs.Prelude.{ℕ, ◌+◌, ◌*◌, ◌^◌, ◌<◌, ◌≤◌, ◌≡◌, ◌==◌, ◌||◌, Bool, List, [], ◌∷◌, ◌++◌, length, take, drop, slice_index}
+-- Writing a header without filters: its tests, in their order, what is told of it, and what holds
+-- of its bytes.
+use Rattle.std.specs.Prelude.{ℕ, ◌+◌, ◌*◌, ◌^◌, ◌<◌, ◌≤◌, ◌≡◌, ◌==◌, ◌||◌, Bool}
+use Rattle.std.specs.Prelude.{List, [], ◌∷◌, ◌++◌}
+use Rattle.std.specs.Prelude.{length, take, drop, slice_index}
 use Rattle.std.specs.Prelude.{nat_lt, nat_le, if◌then◌else◌, Result, Ok, Err, IsOk}
 use Rattle.refusals.specs.Steps.{◌>>=◌, required}
 use Rattle.refusals.specs.Refusals.{answer}
 use Rattle.refusals.specs.declared.answer.Answer.{Answer}
 use Rattle.refusals.specs.declared.FormatError.{FormatError}
-use Rattle.refusals.specs.declared.FormatError.TheVariants.{InvalidOffsetSize, InvalidLengthSize, UnsupportedFilteredHeapObject, HeaderFieldTooLarge, SliceTooShort}
+use Rattle.refusals.specs.declared.FormatError.TheVariants.{InvalidOffsetSize, InvalidLengthSize}
+use Rattle.refusals.specs.declared.FormatError.TheVariants.{UnsupportedFilteredHeapObject}
+use Rattle.refusals.specs.declared.FormatError.TheVariants.{HeaderFieldTooLarge, SliceTooShort}
 use Rattle.checksum.specs.Lookup3.{hashlittle}
 use Rattle.fields.specs.Widths.{legal}
-use Rattle.fractal_heap.specs.Header.{header_at, header_end, header_numbers}
+use Rattle.fractal_heap.specs.Header.{header_at, header_end, header_numbers, without_filters}
 use Rattle.fractal_heap.specs.Spelling.{field_widths, header_spelled, unsummed}
 use Rattle.fractal_heap.specs.declared.header.FractalHeapHeader.{FractalHeapHeader}
 use Rattle.fractal_heap.specs.declared.write.WrittenHeader.{WrittenHeader}
 
 -- how many bytes a whole header without filters has
 abbrev pub header_length : ℕ → ℕ → ℕ
-header_length os ls = header_end os ls + 4
+header_length offset_size length_size = header_end offset_size length_size + 4
 
 -- how many bytes a field may have
 abbrev pub field_width : ℕ → Bool
-field_width w = (w == 1) || legal w
+field_width width = (width == 1) || legal width
 
--- the first number that is too large for its width is refused, with its place in header order, which is `place` for the
--- first one here
+-- the first number that is too large for its width is refused, with its place in header order,
+-- which is `place` for the first one here
 unfoldable pub widths_checked : ℕ → List ℕ → List ℕ → Result (Unit {0}) FormatError
-widths_checked place [] ns = Ok tt
-widths_checked place (w ∷ ws) [] = Ok tt
-widths_checked place (w ∷ ws) (n ∷ ns) =
-    if nat_lt n (2 ^ (8 * w)) then widths_checked (place + 1) ws ns else Err (HeaderFieldTooLarge place n)
+widths_checked place [] numbers = Ok tt
+widths_checked place (width ∷ widths) [] = Ok tt
+widths_checked place (width ∷ widths) (number ∷ numbers) =
+    if nat_lt number (2 ^ (8 * width)) then widths_checked (place + 1) widths numbers
+    else Err (HeaderFieldTooLarge place number)
 
 -- the tests of a header of these numbers, in header order, into so many lent bytes
 abbrev pub header_checked : List ℕ → ℕ → ℕ → ℕ → Result (Unit {0}) FormatError
-header_checked numbers os ls lent = do
-  _ ← required (legal os) (InvalidOffsetSize os)
-  _ ← required (legal ls) (InvalidLengthSize ls)
+header_checked numbers offset_size length_size lent = do
+  _ ← required (legal offset_size) (InvalidOffsetSize offset_size)
+  _ ← required (legal length_size) (InvalidLengthSize length_size)
   _ ← required (slice_index numbers 1 == 0) UnsupportedFilteredHeapObject
-  _ ← widths_checked 0 (field_widths os ls) numbers
-  required (nat_le (header_length os ls) lent) (SliceTooShort (header_length os ls) lent)
+  _ ← widths_checked 0 (field_widths offset_size length_size) numbers
+  let needed = header_length offset_size length_size
+  required (nat_le needed lent) (SliceTooShort needed lent)
 
 -- the tests, then what is told of a header that is written: how many bytes it has, and its checksum
 abbrev pub header_written : FractalHeapHeader → ℕ → ℕ → ℕ → Result WrittenHeader FormatError
-header_written h os ls lent = do
-  _ ← header_checked (header_numbers h) os ls lent
-  Ok (record { length = header_length os ls; checksum = hashlittle (unsummed h os ls) })
+header_written header offset_size length_size lent = do
+  _ ← header_checked (header_numbers header) offset_size length_size lent
+  let checksum = hashlittle (unsummed header offset_size length_size)
+  Ok (record { length = header_length offset_size length_size; checksum = checksum })
 
 abbrev pub written_report : WrittenHeader → Answer
-written_report w = answer 0 w.length w.checksum
+written_report written = answer 0 written.length written.checksum
 
--- whatever file the bytes of this header stand in, it is read there
+-- whatever file the bytes of this header stand in, `read` is read there
+abbrev pub ReadAs : FractalHeapHeader → FractalHeapHeader → ℕ → ℕ → Type 0
+ReadAs header read offset_size length_size = (file : List ℕ) (pos : ℕ) (rest : List ℕ)
+    → drop pos file ≡ header_spelled header offset_size length_size ++ rest
+    → header_at file pos offset_size length_size ≡ Ok read
+
+-- this header is read, but for what it has of filters, which is not in its bytes
 abbrev pub ReadsBack : FractalHeapHeader → ℕ → ℕ → Type 0
-ReadsBack h os ls =
-    (s : List ℕ) (p : ℕ) (rest : List ℕ) → drop p s ≡ header_spelled h os ls ++ rest → header_at s p os ls ≡ Ok h
+ReadsBack header = ReadAs header (without_filters header)
 
--- wherever this header is read from a file, and has no filters, it is written into all that is long enough, `new` at the
--- end, and the bytes are the file's
-abbrev pub WrittenBack : FractalHeapHeader → ℕ → ℕ → Result WrittenHeader FormatError → List ℕ → Type 0
-WrittenBack h os ls r new =
-    (s : List ℕ) (p : ℕ) → ((j : ℕ) → slice_index s j < 256) → header_at s p os ls ≡ Ok h
-    → h.io_filter_encoded_length ≡ 0 → header_length os ls ≤ length new
-    → IsOk r × (take (header_length os ls) new ≡ take (header_length os ls) (drop p s))
+-- a header that is read from some file, whatever its place and the sizes there, is read itself
+abbrev pub ParsedReadsBack : FractalHeapHeader → ℕ → ℕ → Type 0
+ParsedReadsBack header offset_size length_size =
+    (file : List ℕ) (pos file_offset_size file_length_size : ℕ)
+    → header_at file pos file_offset_size file_length_size ≡ Ok header
+    → ReadAs header header offset_size length_size
+
+-- wherever this header is read from a file, and has no filters, it is written into all that is long
+-- enough, `new` at the end, and the bytes are the file's
+abbrev pub WrittenBack : FractalHeapHeader → ℕ → ℕ → Result WrittenHeader FormatError → List ℕ
+    → Type 0
+WrittenBack header offset_size length_size result new = (file : List ℕ) (pos : ℕ)
+    → ((j : ℕ) → slice_index file j < 256)
+    → header_at file pos offset_size length_size ≡ Ok header
+    → header.io_filter_encoded_length ≡ 0 → header_length offset_size length_size ≤ length new
+    → IsOk result
+    × (take (header_length offset_size length_size) new
+    ≡ take (header_length offset_size length_size) (drop pos file))

@@ -11,7 +11,7 @@ use refusals::FormatError;
 /// Tests signature FRHP (else 4) and version 0 (else 5) at `at`, and tells where the first field begins.
 #[inline(always)]
 pub fn check_start(file: &[u8], at: usize) -> Result<usize, FormatError>
-    ensures value { result ≡ start_checked file.now at }
+    ensures tested { result ≡ start_checked file.now at }
     ensures first { IfOk result (λ pos. pos ≡ at + 5) }
     ensures there { IfOk result (λ pos. pos ≤ length file.now) }
 {
@@ -30,7 +30,7 @@ pub fn check_start(file: &[u8], at: usize) -> Result<usize, FormatError>
 #[inline(always)]
 pub fn check_sum(file: &[u8], at: usize, pos: usize) -> Result<(), FormatError>
     requires { at ≤ pos }
-    ensures value { result ≡ sum_checked file.now at pos }
+    ensures tested { result ≡ sum_checked file.now at pos }
     ensures there { OnOk result (pos + 4 ≤ length file.now) }
 {
     ensure_len(file, pos, 4)?;

@@ -8,12 +8,15 @@ use crate::header_fields::reader::Reader;
 use reading::DoublingTable;
 use refusals::FormatError;
 
-/// How many fields a header has between version and checksum.
+/// How many fields every header has between version and checksum.
 pub const FIELD_COUNT: usize = 23;
 
-/// The header of a fractal heap: every field between version and checksum of one without filters, in header order. Of
-/// the Rust crate's fields and those that it steps over each has the name that its source gives it; after each is the
-/// format's name. What is called undefined has all bits set.
+/// How many numbers a header has that was parsed: its fields, and the three that are kept of its filters.
+pub const NUMBER_COUNT: usize = 26;
+
+/// The header of a fractal heap: every field between version and checksum of one without filters, in header order, then
+/// what is kept of its filters. Of the Rust crate's fields and those that it steps over each has the name that its
+/// source gives it; after each is the format's name. What is called undefined has all bits set.
 #[derive(Clone, Copy, Debug, PartialEq, Eq)]
 pub struct FractalHeapHeader {
     /// How many bytes an ID of this heap has: Heap ID Length.
@@ -65,6 +68,16 @@ pub struct FractalHeapHeader {
     pub root_block_address: u64,
     /// How many rows the root block has now, 0 where it is a direct block: Current # of Rows in Root Indirect Block.
     pub current_rows_in_root_indirect_block: u16,
+    /// Where the filter information begins, in bytes from the start of `file`, as the header's own place is counted; its
+    /// length is `io_filter_encoded_length`. The information itself, a Filter Pipeline message, is not read. Without
+    /// filters 0: I/O Filter Information.
+    pub io_filter_information_position: u64,
+    /// How many bytes the root block has after filtering, where it is a direct block. Without filters 0: Size of Filtered
+    /// Root Direct Block.
+    pub filtered_root_direct_block_size: u64,
+    /// Which filters the root block was not put through, where it is a direct block: each set bit stands for a filter,
+    /// the lowest for the first. Without filters 0: I/O Filter Mask.
+    pub io_filter_mask: u32,
 }
 
 // Puts numbers into the first places of a list.
@@ -78,9 +91,9 @@ fn put_front(list: &mut [u64], numbers: &[u64])
 }
 
 impl FractalHeapHeader {
-    ghost use Rattle.fractal_heap.specs.Header.{header_numbers, field_count};
+    ghost use Rattle.fractal_heap.specs.Header.{parsed_numbers, number_count};
     ghost use Rattle.fractal_heap.specs.Listed.{listed};
-    ghost use Rattle.fractal_heap.specs.ReadLaws.{HeaderFits};
+    ghost use Rattle.fractal_heap.specs.ReadLaws.{HeaderFits, FiltersFit};
 
     /// The header at `offset` of the file, whose addresses have `offset_size` bytes and whose lengths `length_size`.
     // Inlined, so that a caller reads no field that it does not use.
@@ -91,8 +104,9 @@ impl FractalHeapHeader {
         offset_size: u8,
         length_size: u8,
     ) -> Result<FractalHeapHeader, FormatError>
-        ensures value { result ≡ header_at file.now offset offset_size length_size }
+        ensures parsed { result ≡ header_at file.now offset offset_size length_size }
         ensures in_file { IfOk result (HeaderFits file.now offset offset_size length_size) }
+        ensures filters { IfOk result (FiltersFit offset offset_size length_size) }
     {
         let reader = Reader {
             file,
@@ -104,7 +118,7 @@ impl FractalHeapHeader {
         let (objects, pos) = reader.objects(pos)?;
         let (table, pos) = reader.table(pos)?;
         let (root, pos) = reader.root(pos)?;
-        let pos = reader.sum_place(pos, front.io_filter_encoded_length);
+        let (filters, pos) = reader.filters(pos, front.io_filter_encoded_length)?;
         check_sum(file, offset, pos)?;
         Ok(FractalHeapHeader {
             heap_id_length: front.heap_id_length,
@@ -127,13 +141,16 @@ impl FractalHeapHeader {
             start_root_rows: root.start_root_rows,
             root_block_address: root.root_block_address,
             current_rows_in_root_indirect_block: root.current_rows_in_root_indirect_block,
+            io_filter_information_position: filters.io_filter_information_position,
+            filtered_root_direct_block_size: filters.filtered_root_direct_block_size,
+            io_filter_mask: filters.io_filter_mask,
         })
     }
 
-    /// The fields as numbers, in header order.
+    /// The fields as numbers, in header order, then what is kept of the filters.
     #[inline(always)]
-    pub fn numbers(self) -> [u64; FIELD_COUNT]
-        ensures { result ≡ header_numbers self }
+    pub fn numbers(self) -> [u64; NUMBER_COUNT]
+        ensures { result ≡ parsed_numbers self }
     {
         [
             u64::from(self.heap_id_length),
@@ -159,13 +176,16 @@ impl FractalHeapHeader {
             u64::from(self.start_root_rows),
             self.root_block_address,
             u64::from(self.current_rows_in_root_indirect_block),
+            self.io_filter_information_position,
+            self.filtered_root_direct_block_size,
+            u64::from(self.io_filter_mask),
         ]
     }
 
-    /// Puts the fields into the first places of a list.
+    /// Puts these numbers into the first places of a list.
     #[inline(always)]
     pub fn put_numbers(self, list: &mut [u64])
-        requires { field_count ≤ length list.old }
+        requires { number_count ≤ length list.old }
         ensures { list.new ≡ listed list.old self }
     {
         put_front(list, &self.numbers());

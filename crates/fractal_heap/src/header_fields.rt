@@ -1,13 +1,14 @@
-//! The fields of a heap's header, in groups: its front, the numbers of objects, the doubling table, the root block.
-//! Each reader begins at `pos`, and gives a group and where the next one begins. It refuses as its first field does
-//! that is not all there.
+//! The fields of a heap's header, in groups: its front, the numbers of objects, the doubling table, the root block, the
+//! filters. Each reader begins at `pos`, and gives a group and where the next one begins. It refuses as its first field
+//! does that is not all there, that of the filters by the checksum's end, whatever is missing of them and the checksum.
 
 pub mod reader;
 
-ghost use Rattle.std.specs.Prelude.{◌≡◌, ◌+◌, ◌≤◌, length};
+ghost use Rattle.std.specs.Prelude.{◌≡◌, ◌+◌, ◌^◌, ◌<◌, ◌≤◌, length};
 
 use crate::header_fields::reader::Reader;
 use fields::ensure_len;
+use fields::little_endian::read_u32_le;
 use reading::DoublingTable;
 use refusals::FormatError;
 
@@ -51,17 +52,26 @@ pub struct RootFields {
     pub current_rows_in_root_indirect_block: u16,
 }
 
+/// What a header with filters has behind the root block's rows. Without filters all are 0.
+#[derive(Clone, Copy, Debug, PartialEq, Eq)]
+pub struct FilterFields {
+    pub io_filter_information_position: u64,
+    pub filtered_root_direct_block_size: u64,
+    pub io_filter_mask: u32,
+}
+
 impl Reader<'_> {
     ghost use Rattle.std.specs.Prelude.{true, OnOk, IfOk};
     ghost use Rattle.fields.specs.Widths.{legal};
     ghost use Rattle.fractal_heap.specs.Header.{sum_place};
     ghost use Rattle.fractal_heap.specs.Groups.{front_fields, front_size, object_fields, objects_size, table_fields};
-    ghost use Rattle.fractal_heap.specs.Groups.{table_size, root_fields, root_size};
+    ghost use Rattle.fractal_heap.specs.Groups.{table_size, root_fields, root_size, filter_fields};
+    ghost use Rattle.fractal_heap.specs.Groups.{filters_at, filters_size};
 
     /// From Heap ID Length to Maximum Size of Managed Objects.
     #[inline(always)]
     pub fn front(&self, pos: usize) -> Result<(FrontFields, usize), FormatError>
-        ensures value { result ≡ front_fields self.now.file.now pos }
+        ensures read { result ≡ front_fields self.now.file.now pos }
         ensures size { IfOk result (λ group. group.1 ≡ pos + front_size) }
         ensures there { IfOk result (λ group. group.1 ≤ length self.now.file.now) }
     {
@@ -82,7 +92,7 @@ impl Reader<'_> {
     /// of its width has passed, which a field behind it has.
     #[inline(always)]
     pub fn objects(&self, pos: usize) -> Result<(ObjectFields, usize), FormatError>
-        ensures value { result
+        ensures read { result
             ≡ object_fields self.now.file.now pos self.now.offset_size self.now.length_size }
         ensures size { IfOk result
             (λ group. group.1 ≡ pos + objects_size self.now.offset_size self.now.length_size) }
@@ -96,12 +106,12 @@ impl Reader<'_> {
         let (btree_huge_objects_address, five) = self.offset(pos + ls)?;
         ensure_len(self.file, five, 4 * ls + os)?;
         let (managed_objects_count, end) = self.length(five + 4 * ls + os)?;
-        let (next_huge_object_id, _) = self.taken(pos, self.length_size);
-        let (free_space_managed_blocks, pos) = self.taken(five, self.length_size);
-        let (managed_block_free_space_manager_address, pos) = self.taken(pos, self.offset_size);
-        let (managed_space_in_heap, pos) = self.taken(pos, self.length_size);
-        let (allocated_managed_space_in_heap, pos) = self.taken(pos, self.length_size);
-        let (direct_block_allocation_iterator_offset, _) = self.taken(pos, self.length_size);
+        let (next_huge_object_id, _) = self.untested(pos, self.length_size);
+        let (free_space_managed_blocks, pos) = self.untested(five, self.length_size);
+        let (managed_block_free_space_manager_address, pos) = self.untested(pos, self.offset_size);
+        let (managed_space_in_heap, pos) = self.untested(pos, self.length_size);
+        let (allocated_managed_space_in_heap, pos) = self.untested(pos, self.length_size);
+        let (direct_block_allocation_iterator_offset, _) = self.untested(pos, self.length_size);
         let objects = ObjectFields {
             next_huge_object_id,
             btree_huge_objects_address,
@@ -120,7 +130,7 @@ impl Reader<'_> {
     #[inline(always)]
     pub fn table(&self, pos: usize) -> Result<(TableFields, usize), FormatError>
         requires { pos ≤ length self.now.file.now }
-        ensures value { result ≡ table_fields self.now.file.now pos self.now.length_size }
+        ensures read { result ≡ table_fields self.now.file.now pos self.now.length_size }
         ensures size { IfOk result (λ group. group.1 ≡ pos + table_size self.now.length_size) }
         ensures there { IfOk result (λ group. group.1 ≤ length self.now.file.now) }
     {
@@ -130,10 +140,10 @@ impl Reader<'_> {
         let (starting_block_size, pos) = self.length(pos)?;
         let (max_direct_block_size, pos) = self.length(pos)?;
         let (max_heap_size, end) = self.u16(pos)?;
-        let (huge_objects_size, pos) = self.taken(four, self.length_size);
-        let (huge_objects_count, pos) = self.taken(pos, self.length_size);
-        let (tiny_objects_size, pos) = self.taken(pos, self.length_size);
-        let (tiny_objects_count, _) = self.taken(pos, self.length_size);
+        let (huge_objects_size, pos) = self.untested(four, self.length_size);
+        let (huge_objects_count, pos) = self.untested(pos, self.length_size);
+        let (tiny_objects_size, pos) = self.untested(pos, self.length_size);
+        let (tiny_objects_count, _) = self.untested(pos, self.length_size);
         let fields = TableFields {
             huge_objects_size,
             huge_objects_count,
@@ -152,7 +162,7 @@ impl Reader<'_> {
     /// From Starting # of Rows in Root Indirect Block to Current # of Rows in Root Indirect Block.
     #[inline(always)]
     pub fn root(&self, pos: usize) -> Result<(RootFields, usize), FormatError>
-        ensures value { result ≡ root_fields self.now.file.now pos self.now.offset_size }
+        ensures read { result ≡ root_fields self.now.file.now pos self.now.offset_size }
         ensures size { IfOk result (λ group. group.1 ≡ pos + root_size self.now.offset_size) }
         ensures there { IfOk result (λ group. group.1 ≤ length self.now.file.now) }
     {
@@ -167,18 +177,55 @@ impl Reader<'_> {
         Ok((root, pos))
     }
 
-    /// Where the checksum stands, the last group ending at `pos`: behind Size of Filtered Root Direct Block and I/O
-    /// Filter Mask where there are filters. They are stepped over untested.
+    // From Size of Filtered Root Direct Block to the end of I/O Filter Information, which has so many bytes.
     #[inline(always)]
-    pub fn sum_place(&self, pos: usize, io_filter_encoded_length: u16) -> usize
-        requires { pos ≤ length self.now.file.now }
-        ensures value { result ≡ sum_place io_filter_encoded_length self.now.length_size pos }
-        ensures behind { pos ≤ result }
+    fn filter_fields(
+        &self,
+        pos: usize,
+        filter_length: usize,
+    ) -> Result<(FilterFields, usize), FormatError>
+        requires width { legal self.now.length_size ≡ true }
+        requires short { filter_length < 2 ^ 16 }
+        ensures read { result
+            ≡ filter_fields self.now.file.now pos filter_length self.now.length_size }
+        ensures next { IfOk result
+            (λ group. group.1 ≡ pos + filters_size filter_length self.now.length_size) }
     {
-        if io_filter_encoded_length > 0 {
-            pos + usize::from(self.length_size) + 4
-        } else {
-            pos
+        let length_size = usize::from(self.length_size);
+        ensure_len(self.file, pos, length_size + 4 + filter_length + 4)?;
+        let (filtered_root_direct_block_size, pos) = self.untested(pos, self.length_size);
+        let io_filter_mask = read_u32_le(self.file, pos);
+        let pos = pos + 4;
+        let filters = FilterFields {
+            io_filter_information_position: pos as u64,
+            filtered_root_direct_block_size,
+            io_filter_mask,
+        };
+        Ok((filters, pos + filter_length))
+    }
+
+    /// From Size of Filtered Root Direct Block to I/O Filter Information, if the header has filters, and where the
+    /// checksum stands. One test is made for all of them and the checksum.
+    #[inline(always)]
+    pub fn filters(
+        &self,
+        pos: usize,
+        io_filter_encoded_length: u16,
+    ) -> Result<(FilterFields, usize), FormatError>
+        requires { legal self.now.length_size ≡ true }
+        ensures read { result
+            ≡ filters_at self.now.file.now pos io_filter_encoded_length self.now.length_size }
+        ensures next { IfOk result
+            (λ group. group.1 ≡ sum_place io_filter_encoded_length self.now.length_size pos) }
+    {
+        if io_filter_encoded_length == 0 {
+            let none = FilterFields {
+                io_filter_information_position: 0,
+                filtered_root_direct_block_size: 0,
+                io_filter_mask: 0,
+            };
+            return Ok((none, pos));
         }
+        self.filter_fields(pos, usize::from(io_filter_encoded_length))
     }
 }

@@ -8,7 +8,7 @@ ghost use Rattle.fields.specs.Writing.{Puts};
 ghost use Rattle.fractal_heap.specs.Header.{fields_size, header_end, header_numbers, header_of};
 ghost use Rattle.fractal_heap.specs.Spelling.{field_widths, spelled, unsummed, header_spelled};
 ghost use Rattle.fractal_heap.specs.Writing.{header_length, field_width, widths_checked, header_checked, header_written};
-ghost use Rattle.fractal_heap.specs.Writing.{ReadsBack, WrittenBack};
+ghost use Rattle.fractal_heap.specs.Writing.{ReadsBack, ParsedReadsBack, WrittenBack};
 
 use crate::header::{FIELD_COUNT, FractalHeapHeader};
 use checksum::jenkins_lookup3;
@@ -241,7 +241,7 @@ fn check_header(
     lent: usize,
 ) -> Result<(), FormatError>
     requires { FIELD_COUNT ≤ length numbers.now }
-    ensures value { result ≡ header_checked (header_numbers (header_of numbers.now))
+    ensures tested { result ≡ header_checked (header_numbers (header_of numbers.now))
         offset_size length_size lent }
     ensures offsets { OnOk result (legal offset_size ≡ true) }
     ensures lengths { OnOk result (legal length_size ≡ true) }
@@ -276,7 +276,7 @@ fn store_header(
     bytes: &mut [u8],
 ) -> Result<WrittenHeader, FormatError>
     requires { FIELD_COUNT ≤ length numbers.now }
-    ensures value { result ≡ header_written (header_of numbers.now) offset_size length_size
+    ensures answered { result ≡ header_written (header_of numbers.now) offset_size length_size
         (length bytes.old) }
     ensures written { OnOk result (bytes.new ≡ put bytes.old 0
         (header_spelled (header_of numbers.now) offset_size length_size)) }
@@ -300,7 +300,7 @@ pub fn write_numbers(
     bytes: &mut [u8],
 ) -> Result<WrittenHeader, FormatError>
     requires { FIELD_COUNT ≤ length numbers.now }
-    ensures value { result ≡ header_written (header_of numbers.now) offset_size length_size
+    ensures answered { result ≡ header_written (header_of numbers.now) offset_size length_size
         (length bytes.old) }
     ensures written { OnOk result (bytes.new ≡ put bytes.old 0
         (header_spelled (header_of numbers.now) offset_size length_size)) }
@@ -315,17 +315,20 @@ impl FractalHeapHeader {
     /// Writes the header to the front of `bytes`; addresses have `offset_size` bytes, lengths `length_size`. Refused
     /// are sizes that are not 2, 4 or 8 (2, 3), filters (8), the first field, by its place in header order, that is too
     /// large for its width (17), and fewer bytes than the header has (13), in this order; then `bytes` stay as they are.
-    /// No exception is made for the undefined address, which is all ones in its width.
+    /// No exception is made for the undefined address, which is all ones in its width. What the header has of filters
+    /// behind the root's rows is passed over, neither tested nor written: parsing the bytes gives the header with these
+    /// three at 0, which is itself where it was parsed.
     pub fn write(
         self,
         offset_size: u8,
         length_size: u8,
         bytes: &mut [u8],
     ) -> Result<WrittenHeader, FormatError>
-        ensures value { result ≡ header_written self offset_size length_size (length bytes.old) }
+        ensures answered { result ≡ header_written self offset_size length_size (length bytes.old) }
         ensures written { OnOk result (bytes.new ≡ put bytes.old 0
             (header_spelled self offset_size length_size)) }
         ensures reads_back { OnOk result (ReadsBack self offset_size length_size) }
+        ensures parsed_reads_back { OnOk result (ParsedReadsBack self offset_size length_size) }
         ensures written_back { WrittenBack self offset_size length_size result bytes.new }
         ensures untouched { OnErr result (bytes.new ≡ bytes.old) }
     {

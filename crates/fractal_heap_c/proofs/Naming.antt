@@ -9,9 +9,9 @@ use Rattle.fields.specs.Slot.{slot_number, slot_bytes}
 use Rattle.refusals.specs.Refusals.{answer, report_of}
 use Rattle.fields.specs.Places.{place_report}
 use Rattle.table.specs.Table.{fixed}
-use Rattle.table.specs.Sizes.{offset_bytes}
 use Rattle.ids.specs.Decoded.{decoded_id, id_report}
 use Rattle.ids.proofs.ReadBack.{decodes}
+use Rattle.ids.specs.Written.{HasTable, IsManaged}
 use Rattle.fractal_heap.specs.declared.header.FractalHeapHeader.{FractalHeapHeader}
 use Rattle.fractal_heap.specs.Header.{header_at}
 use Rattle.fractal_heap.specs.Read.{managed_at, id_by, object_by}
@@ -52,7 +52,6 @@ in-file a file bytes s e = omega (arith, ap length e, length-take (length bytes)
 
 -- what the ID writer accepts is small enough for an ID
 small : {id : List ℕ} {offset len : ℕ} → IsWrittenId id offset len → (offset < 2 ^ 40) × (len < 2 ^ 16)
-unfolding offset_bytes
 small I = let e = I.writer_accepts in (grind (arith, nat_tests), grind (arith, nat_tests))
 
 module _ (slot file id : List ℕ) (at offset_size length_size : ℕ) {new : List ℕ} {result : ℕ}
@@ -63,11 +62,11 @@ module _ (slot file id : List ℕ) (at offset_size length_size : ℕ) {new : Lis
       → result ≡ slot_number slot (report_of place_report (object_by file at offset_size length_size id offset_size))
       → new ≡ slot_bytes slot (report_of place_report (object_by file at offset_size length_size id offset_size))
       → ForKept header file offset_size id (λ bytes. 16 ≤ length slot → NamesPlace result new file bytes)
-  names-kept few u v c p k i H I room =
+  names-kept few u v c p k i H I m room =
       let bytes : List ℕ = part_of c.sizes c.objects i in
       let found : object_by file at offset_size length_size id offset_size ≡ managed_at header file id offset_size =
       rw g in
-      let P = kept H I found in
+      let P = kept H I m found in
       let s = in-file P.position file bytes (omega (arith, size-is H I, I.not_empty)) P.bytes_there in
       let q = ap (report_of place_report) P.place_found in
       let N = named slot P.position (length bytes) room (omega (arith, s, few)) (omega (arith, s, few)) in
@@ -79,14 +78,16 @@ module _ (slot file id : List ℕ) (at offset_size length_size : ℕ) {new : Lis
       })
 
   -- and of an ID that was written
-  pub names-pair : header.table.max_heap_size ≡ fixed.heap_bits
+  pub names-pair : HasTable header.table fixed
       → result ≡ slot_number slot (report_of id_report (id_by file at offset_size length_size id))
       → new ≡ slot_bytes slot (report_of id_report (id_by file at offset_size length_size id))
-      → (offset len : ℕ) → IsWrittenId id offset len → 16 ≤ length slot → NamesPair result new offset len
-  names-pair bits u v offset len I room =
+      → (offset len : ℕ) → IsWrittenId id offset len → IsManaged len header.max_managed_object_size
+      → 16 ≤ length slot → NamesPair result new offset len
+  names-pair geometry u v offset len I m room =
       let S = small I in
       let decoded : id_by file at offset_size length_size id ≡ Ok (record { offset = offset; length = len }) =
-      rw g ((λ j. decoded_id (bits j) (I.id_written j)) ∙ decodes offset len S.0 S.1) in
+      rw g ((λ j. decoded_id header.table header.max_managed_object_size (I.id_written j))
+      ∙ decodes offset len S.0 S.1 header.table header.max_managed_object_size geometry m) in
       let q = ap (report_of id_report) decoded in
       rw (u ∙ ap (slot_number slot) q, v ∙ ap (slot_bytes slot) q)
       (named slot offset len room (omega (arith, S.0)) (omega (arith, S.1)))

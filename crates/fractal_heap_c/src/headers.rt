@@ -9,21 +9,23 @@ ghost use Rattle.fractal_heap_c.specs.Parsed.{parsed_number, parsed_slot, parsed
 ghost use Rattle.fractal_heap_c.specs.WrittenHeaders.{written_header_number, written_header_slot};
 
 use fields::convert::to_usize;
-use fields::slot::put_answer;
+use fields::slot::{SLOT_SIZE, put_answer};
 use fractal_heap::write::write_numbers;
-use fractal_heap::{FIELD_COUNT, FractalHeapHeader};
+use fractal_heap::{FIELD_COUNT, FractalHeapHeader, NUMBER_COUNT};
 use refusals::{Answer, FormatError, Reported, SLICE_TOO_SHORT};
 
-// Whether the slot is too short for an answer, or the list for the fields of a header.
-fn lacks_room(slot: &[u8], fields: &[u64]) -> bool
-    ensures { result ≡ (nat_lt (length slot.now) 16 || is_short fields.now) }
+// Whether the slot is too short for an answer, or the list for so many numbers.
+fn lacks_room(slot: &[u8], fields: &[u64], count: usize) -> bool
+    ensures { result ≡ (nat_lt (length slot.now) SLOT_SIZE || is_short count fields.now) }
 {
-    slot.len() < 16 || fields.len() < FIELD_COUNT
+    slot.len() < SLOT_SIZE || fields.len() < count
 }
 
-/// The header at `at`: its 23 fields, in header order, in the first places of `fields`, and two zeros in the slot. A
-/// refusal leaves the list as it was. A slot of fewer than 16 bytes gives 13 before all else, then a list of fewer than
-/// 23 places; both are then left as they were.
+/// The header at `at`: 26 numbers in the first places of `fields`, and two zeros in the slot. The first 23 are its
+/// fields, in header order, the others what is kept of its filters, all 0 where its filter length is 0: where the filter
+/// information begins, in bytes from the start of `file`, the filtered root direct block's size in bytes, and the filter
+/// mask. A refusal leaves the list as it was. A slot of fewer than 16 bytes gives 13 before all else, then a list of
+/// fewer than 26 places; both are then left as they were.
 #[unsafe(no_mangle)]
 pub extern "C" fn fractal_heap_parse_header(
     file: &[u8],
@@ -40,7 +42,7 @@ pub extern "C" fn fractal_heap_parse_header(
     ensures fields_after { fields.new ≡ parsed_list slot.old fields.old
         (header_at file.now at offset_size length_size) }
 {
-    if lacks_room(slot, fields) {
+    if lacks_room(slot, fields, NUMBER_COUNT) {
         return SLICE_TOO_SHORT;
     }
     match FractalHeapHeader::parse(file, to_usize(at), offset_size, length_size) {
@@ -59,8 +61,8 @@ pub extern "C" fn fractal_heap_parse_header(
 /// before all else, then a list of fewer than 23 numbers. Of 13 the slot says nothing, and numbers behind the 23 are not
 /// read.
 ///
-/// Wherever a file holds the bytes, its header is these numbers; and the fields of a header that was parsed give its
-/// bytes.
+/// Wherever a file holds the bytes, its header is these numbers, and what is kept of filters is 0; and the fields of a
+/// header that was parsed give its bytes.
 #[unsafe(no_mangle)]
 pub extern "C" fn fractal_heap_write_header(
     fields: &[u64],
@@ -81,7 +83,7 @@ pub extern "C" fn fractal_heap_write_header(
         (header_written (header_of fields.now) offset_size length_size (length bytes.old)) bytes.new }
     ensures untouched { 0 < result → bytes.new ≡ bytes.old }
 {
-    if lacks_room(slot, fields) {
+    if lacks_room(slot, fields, FIELD_COUNT) {
         return SLICE_TOO_SHORT;
     }
     match write_numbers(fields, offset_size, length_size, bytes) {

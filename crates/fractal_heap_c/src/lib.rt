@@ -21,7 +21,9 @@ ghost use Rattle.fractal_heap.specs.Read.{id_by, object_by};
 ghost use Rattle.heap_kept.specs.FromBytes.{ForWritten};
 ghost use Rattle.heap_kept.specs.Kept.{ForKept};
 ghost use Rattle.fractal_heap_c.specs.InSlot.{NamesPlace, NamesPair};
-ghost use Rattle.fractal_heap_c.specs.WrittenIds.{DecodesOurIds, IsWrittenId};
+ghost use Rattle.ids.specs.Written.{HasTable, IsManaged};
+ghost use Rattle.table.specs.Table.{fixed};
+ghost use Rattle.fractal_heap_c.specs.WrittenIds.{IsWrittenId};
 
 use checksum::jenkins_lookup3;
 use fields::Place;
@@ -58,7 +60,7 @@ fn read(
     length_size: u8,
     id: &[u8],
 ) -> Result<Place, FormatError>
-    ensures value { result ≡ object_by file.now at offset_size length_size id.now offset_size }
+    ensures found { result ≡ object_by file.now at offset_size length_size id.now offset_size }
     ensures in_file { IfOk result (λ place. place.position + place.length ≤ length file.now) }
 {
     let header = FractalHeapHeader::parse(file, to_usize(at), offset_size, length_size)?;
@@ -67,8 +69,8 @@ fn read(
 
 /// Heap offset and length of a managed ID.
 ///
-/// By an ID that our writer wrote, and a header with the heap bits of the fixed geometry, these are the offset and the
-/// length that it was written from.
+/// By an ID that our writer wrote, and a header of the fixed geometry whose largest managed object has at least the
+/// length, these are the offset and the length that it was written from.
 #[unsafe(no_mangle)]
 pub extern "C" fn fractal_heap_decode_managed_id(
     file: &[u8],
@@ -84,8 +86,9 @@ pub extern "C" fn fractal_heap_decode_managed_id(
         (report_of id_report (id_by file.now at offset_size length_size id.now)) }
     ensures kept { (header : FractalHeapHeader)
         → header_at file.now at offset_size length_size ≡ Ok header
-        → DecodesOurIds header
+        → HasTable header.table fixed
         → (offset len : ℕ) → IsWrittenId id.now offset len
+        → IsManaged len header.max_managed_object_size
         → 16 ≤ length slot.old → NamesPair result slot.new offset len }
 {
     put_answer(
@@ -97,7 +100,8 @@ pub extern "C" fn fractal_heap_decode_managed_id(
 /// Position in the file and length of a managed object.
 ///
 /// Of a heap that our writer wrote, and by an ID that it gave, early or at the end, the file has the object's bytes
-/// there, whoever wrote its header: `kept` says so where the header parses, `from_bytes` where its bytes stand.
+/// there, if the object is no longer than the header's largest managed object, whatever else the header says: `kept`
+/// says so where the header parses, `from_bytes` where its bytes stand.
 #[unsafe(no_mangle)]
 pub extern "C" fn fractal_heap_read_managed_object(
     file: &[u8],

@@ -11,7 +11,7 @@ ghost use Rattle.open_plan.specs.Open.{IsPlanOf, Extends, RefusedAsPlanned};
 ghost use Rattle.fractal_heap_c.specs.Opened.{opening_report, addition_report};
 
 use fields::Width;
-use fields::slot::put_answer;
+use fields::slot::{SLOT_SIZE, put_answer};
 use open_plan::OpenPlan;
 use plan::report::put_planned;
 use refusals::{Answer, Reported, SLICE_TOO_SHORT};
@@ -38,7 +38,7 @@ pub extern "C" fn fractal_heap_open_plan(offset_size: u8, slot: &mut [u8]) -> Op
     ensures unopened { 0 < result.number → IsPlanOf 8 result.plan.planner.state result.plan.objects [] }
     ensures width_unopened { 0 < result.number → result.plan.planner.offset_size ≡ 8 }
 {
-    if slot.len() < 16 {
+    if slot.len() < SLOT_SIZE {
         return OpenedPlan {
             number: SLICE_TOO_SHORT,
             plan: OpenPlan::of_width(Width::Eight),
@@ -86,7 +86,7 @@ pub extern "C" fn fractal_heap_plan_add(plan: &mut OpenPlan, size: u64, slot: &m
         → IsPlanOf plan.old.planner.offset_size plan.old.planner.state plan.old.objects sizes
         → RefusedAsPlanned plan.old.planner.offset_size sizes size refusal) }
 {
-    if slot.len() < 16 {
+    if slot.len() < SLOT_SIZE {
         return SLICE_TOO_SHORT;
     }
     match plan.add(size) {

@@ -5,7 +5,9 @@ ghost use Rattle.fractal_heap.specs.declared.header.FractalHeapHeader.{FractalHe
 ghost use Rattle.fractal_heap.specs.Header.{header_at};
 ghost use Rattle.heap_kept.specs.FromBytes.{ForWritten};
 ghost use Rattle.heap_kept.specs.Kept.{ForKept};
-ghost use Rattle.fractal_heap_c.specs.WrittenIds.{DecodesOurIds, IsWrittenId};
+ghost use Rattle.ids.specs.Written.{HasTable, IsManaged};
+ghost use Rattle.table.specs.Table.{fixed};
+ghost use Rattle.fractal_heap_c.specs.WrittenIds.{IsWrittenId};
 
 use super::*;
 use crate::open_plans::{
@@ -54,8 +56,9 @@ fn object_bytes<'a>(
 fn id_pair(file: &[u8], at: u64, offset_size: u8, length_size: u8, id: &[u8]) -> Option<(u64, u64)>
     ensures { (header : FractalHeapHeader)
         → header_at file.now at offset_size length_size ≡ Ok header
-        → DecodesOurIds header
-        → (offset len : ℕ) → IsWrittenId id.now offset len → result ≡ Some (offset, len) }
+        → HasTable header.table fixed
+        → (offset len : ℕ) → IsWrittenId id.now offset len
+        → IsManaged len header.max_managed_object_size → result ≡ Some (offset, len) }
 {
     let mut slot = [0u8; 16];
     let refusal = fractal_heap_decode_managed_id(file, at, offset_size, length_size, id, &mut slot);
@@ -71,6 +74,7 @@ fn header(root: u64, rows: u16) -> [u8; 146] {
     let mut header = [0u8; 146];
     header[..4].copy_from_slice(b"FRHP");
     header[5] = 8;
+    header[10..14].copy_from_slice(&65_514u32.to_le_bytes());
     header[110] = 4;
     header[112..120].copy_from_slice(&1_024u64.to_le_bytes());
     header[120..128].copy_from_slice(&65_536u64.to_le_bytes());

@@ -1,15 +1,14 @@
 //! The ID of an object that is planned, written for the loader.
-ghost use Rattle.std.specs.Prelude.{◌≡◌, ◌<◌, length, Ok};
+ghost use Rattle.std.specs.Prelude.{◌≡◌, ◌<◌, length};
 ghost use Rattle.fields.specs.LittleEndian.{put};
 ghost use Rattle.fields.specs.Slot.{slot_number};
 ghost use Rattle.table.specs.Table.{fixed};
 ghost use Rattle.ids.specs.Checks.{written_id_report};
-ghost use Rattle.ids.specs.Decoded.{decoded_id};
-ghost use Rattle.ids.specs.Written.{managed_id};
+ghost use Rattle.ids.specs.Written.{managed_id, IdReadsBack};
 ghost use Rattle.fractal_heap_c.specs.WrittenIds.{written_id_slot};
 
-use fields::slot::put_answer;
-use ids::write::write_managed_id;
+use fields::slot::{SLOT_SIZE, put_answer};
+use ids::write_managed_id;
 use refusals::{FormatError, Reported, SLICE_TOO_SHORT};
 
 /// Writes the ID of the object of `size` bytes at the heap offset `offset` into the first eight bytes of `id`, and two
@@ -25,11 +24,10 @@ pub extern "C" fn fractal_heap_write_managed_id(
     ensures number { result ≡ slot_number slot.old (written_id_report offset size (length id.old)) }
     ensures slot_after { slot.new ≡ written_id_slot slot.old offset size (length id.old) }
     ensures written { result ≡ 0 → id.new ≡ put id.old 0 (managed_id fixed offset size) }
-    ensures reads_back { result ≡ 0 → decoded_id fixed.heap_bits (managed_id fixed offset size)
-        ≡ Ok (record { offset = offset; length = size }) }
+    ensures reads_back { result ≡ 0 → IdReadsBack offset size }
     ensures untouched { 0 < result → id.new ≡ id.old }
 {
-    if slot.len() < 16 {
+    if slot.len() < SLOT_SIZE {
         return SLICE_TOO_SHORT;
     }
     match write_managed_id(offset, size, id) {

@@ -11,7 +11,6 @@ use Rattle.fields.specs.Undefined.{undefined_address}
 use Rattle.numbers.specs.Sums.{sum}
 use Rattle.plan.specs.declared.ManagedPlan.{ManagedPlan}
 use Rattle.plan.specs.Answer.{planned_for}
-use Rattle.plan.specs.Checks.{input_checked}
 use Rattle.plan.proofs.Answering.{accepted}
 use Rattle.plan.proofs.Laying.{used-sum, still-ok, ran-ok, ran-laid}
 use Rattle.fractal_heap_write.specs.Checks.{Fit}
@@ -51,7 +50,7 @@ planned_sum xs o b w p e =
 
 -- another width than 2, 4 and 8 is refused first
 pub width-refused : (xs : List ℕ) (o b w : ℕ) → (legal w ≡ true → ⊥) → planned_for xs o b w ≡ Err (InvalidOffsetSize w)
-unfolding planned_for input_checked
+unfolding planned_for
 width-refused xs o b w h = grind (arith, common_steps)
 
 pub ruleset planning = (planned_sum, width-refused)

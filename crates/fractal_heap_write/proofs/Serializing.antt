@@ -27,7 +27,6 @@ use Rattle.fractal_heap_write.proofs.Answering.{below-undefined}
 
 -- as many rows as the heap space has
 rows_few : (n : ℕ) → row_offset fixed (suc n) ≤ 2 ^ fixed.heap_bits → suc n ≤ max_rows fixed
-unfolding row_offset
 rows_few n l =
     elim (cases_lt 28 n) [
       | inl many ↦ absurd (omega (arith, pow_mono {i = 41} {j = 12 + n} (omega arith)))

@@ -9,15 +9,16 @@ use Rattle.region_blocks.specs.declared.Site.{Site}
 use Rattle.fractal_heap_write.specs.declared.checks.Lent.{Lent}
 use Rattle.fractal_heap_write.specs.Checks.{Fit, output_checked}
 
--- the answer for the sizes xs, what is lent and the site: planning's refusals, then those of
--- writing
-abbrev pub serialized_for : (xs : List ℕ) (lent : Lent) (site : Site) → Result ManagedPlan FormatError
-serialized_for xs lent site = do
-  plan ← planned_for xs lent.offset_places lent.block_places site.offset_size
-  _ ← output_checked site lent (sum xs) plan.region_size
+-- the answer for these sizes, what is lent and the site: planning's refusals, then those of writing
+abbrev pub serialized_for : (sizes : List ℕ) (lent : Lent) (site : Site)
+    → Result ManagedPlan FormatError
+serialized_for sizes lent site = do
+  plan ← planned_for sizes lent.offset_places lent.block_places site.offset_size
+  _ ← output_checked site lent (sum sizes) plan.region_size
   Ok plan
 
--- p is the plan of the sizes xs, and passed the tests
-pub record Accepted (xs : List ℕ) (lent : Lent) (site : Site) (p : ManagedPlan) : Type 0 where
-  pub planned : planned_for xs lent.offset_places lent.block_places site.offset_size ≡ Ok p
-  pub fit : Fit site lent (sum xs) p.region_size
+-- this is the plan of these sizes, and passed the tests
+pub record Accepted (sizes : List ℕ) (lent : Lent) (site : Site) (plan : ManagedPlan)
+    : Type 0 where
+  pub planned : planned_for sizes lent.offset_places lent.block_places site.offset_size ≡ Ok plan
+  pub fit : Fit site lent (sum sizes) plan.region_size

@@ -3,7 +3,7 @@ use Rattle.std.specs.Prelude.{ℕ, List, length}
 use Rattle.fractal_heap_write.specs.declared.checks.Lent.{Lent}
 
 -- two lists, the objects' bytes, the bytes for the region
-abbrev pub lent_for : List ℕ → List ℕ → List ℕ → List ℕ → Lent
+abbrev pub lent_for : (offsets blocks objects bytes : List ℕ) → Lent
 lent_for offsets blocks objects bytes = record {
   offset_places = length offsets;
   block_places = length blocks;

@@ -33,7 +33,7 @@ fn sum_sizes(sizes: &[u64]) -> u64
 
 // Tests that as many bytes of objects are given as their sizes need: else 14.
 fn check_bytes(needed: u64, given: u64) -> Result<(), FormatError>
-    ensures value { result ≡ bytes_checked needed given }
+    ensures tested { result ≡ bytes_checked needed given }
     ensures all_given { OnOk result (needed ≡ given) }
 {
     if needed != given {
@@ -44,7 +44,7 @@ fn check_bytes(needed: u64, given: u64) -> Result<(), FormatError>
 
 // Tests that the heap's header stands below the undefined address: else 15.
 fn check_header_address(address: u64, width: Width) -> Result<(), FormatError>
-    ensures value { result ≡ header_address_checked (byte_count width) address }
+    ensures tested { result ≡ header_address_checked (byte_count width) address }
     ensures defined { OnOk result (address < undefined_address (byte_count width)) }
 {
     if address >= undefined_address(width) {
@@ -56,7 +56,7 @@ fn check_header_address(address: u64, width: Width) -> Result<(), FormatError>
 // Tests that a region of `size` bytes ends at or before the undefined address: else 15. No sum is formed that could
 // wrap.
 fn check_region_address(address: u64, size: u64, width: Width) -> Result<(), FormatError>
-    ensures value { result ≡ region_address_checked (byte_count width) address size }
+    ensures tested { result ≡ region_address_checked (byte_count width) address size }
     ensures end_defined { OnOk result (address + size ≤ undefined_address (byte_count width)) }
 {
     let undefined = undefined_address(width);

@@ -4,7 +4,7 @@ use Rattle.std.proofs.Common.{Ok, Err, ap, ◌∙◌, arith}
 use Rattle.std.proofs.Math.Decide.{ℕ_discrete, dec_le, dec_lt}
 use Rattle.std.proofs.lemmas.Bool.Decides.{nat_tests}
 use Rattle.refusals.specs.declared.FormatError.TheVariants.{UnexpectedEof, HeapIdTooLarge}
-use Rattle.table.specs.Table.{Table, fixed, row_offset}
+use Rattle.table.specs.Table.{Table, fixed}
 use Rattle.table.specs.Slots.{slot_at}
 use Rattle.table_laws.proofs.Format.{direct-local, fixed-slot}
 use Rattle.plan.specs.declared.ManagedPlan.{ManagedPlan}
@@ -72,13 +72,13 @@ module _ {c : Call} {p : ManagedPlan} (W : WriterAccepts c p) {F : List ℕ} (H 
         in_block F (place n l) (its n l) x 0 (omega arith) (omega arith)
 
     found-there : x < 2 ^ 40 → root_at h F x 0 w ≡ direct_at F (place n l) (its n l) x 0 → EmptyRead F h w x p.root_rows
-    found-there s e = accepts (place n l + (x - its n l)) in-file (by-id T F w x 0 s (omega arith) ∙ e ∙ nothing_read)
+    found-there s e = accepts (place n l + (x - its n l)) in-file (by-id T F w x 0 s (omega arith) (omega arith) ∙ e ∙ nothing_read)
 
   -- where no placed block holds the offset, and the root has rows
   pub missed-there : (n : ℕ) → n < length (starts W) → 0 < p.root_rows → NoneHolds fixed x (starts W) → x < 2 ^ 40
       → managed_at h F (managed_id fixed x 0) w ≡ Err (UnexpectedEof x (length F))
   missed-there n l r C s =
-      by-id T F w x 0 s (omega arith) ∙ by-missing W n l H T x 0 r C
+      by-id T F w x 0 s (omega arith) (omega arith) ∙ by-missing W n l H T x 0 r C
       ∙ ap (λ (y : ℕ). Err (UnexpectedEof y (length F))) (sat-fits (x + 0) (omega arith)
       ∙ (let e : x + 0 ≡ x = omega arith in e))
 
@@ -97,7 +97,6 @@ module _ {c : Call} {p : ManagedPlan} (W : WriterAccepts c p) {F : List ℕ} (H 
 
 -- every empty object
 pub empty-answered : EmptyObjectsAnswered
-unfolding row_offset
 empty-answered c p W file H h T i l e =
     let x = offset_of c.site.offset_size c.sizes i in
     let B = block_of W i l in

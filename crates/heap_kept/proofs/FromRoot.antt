@@ -6,7 +6,7 @@ use Rattle.std.proofs.Math.Decide.{ℕ_discrete}
 use Rattle.std.proofs.lemmas.Grind.{common_steps}
 use Rattle.fields.specs.Widths.{legal}
 use Rattle.fields.proofs.Widths.{legal-small}
-use Rattle.table.specs.Table.{fixed, row_bits, row_offset}
+use Rattle.table.specs.Table.{fixed, row_offset}
 use Rattle.table.specs.Slots.{slot_at}
 use Rattle.numbers.specs.Sums.{sum}
 use Rattle.table.proofs.Rows.{row-mono}
@@ -34,7 +34,7 @@ use Rattle.fractal_heap_write.specs.Checks.{Fit}
 use Rattle.fractal_heap_write.proofs.Answering.{written, fit}
 use Rattle.fields.specs.declared.place.Place.{Place}
 use Rattle.refusals.specs.declared.FormatError.{FormatError}
-use Rattle.reading.specs.Walk.{root_walk, direct_at, walk_from}
+use Rattle.reading.specs.Walk.{direct_at, walk_from}
 use Rattle.fractal_heap.specs.declared.header.FractalHeapHeader.{FractalHeapHeader}
 use Rattle.fractal_heap.specs.Read.{root_at}
 use Rattle.heap_kept.specs.Walking.{HasBytes, GivesRows, IsToCome, NoneHolds, missed, Doubles}
@@ -111,7 +111,6 @@ module _ {c : Call} {p : ManagedPlan} (W : WriterAccepts c p) where
       let c = indirect-bytes xs o b w p planned header in omega arith
 
   direct-length : length direct_part ≤ sizes_at fixed starts
-  unfolding region
   direct-length =
       let a = region-length xs o b w p planned header address js in
       let c = length-append indirect_part direct_part in
@@ -176,7 +175,6 @@ module _ {c : Call} {p : ManagedPlan} (W : WriterAccepts c p) where
 
     module _ {F : List ℕ} (H : HoldsRegion F c p) where
       region-has : HasBytes F address (indirect_part ++ direct_part)
-      unfolding region
       region-has =
           let R : List ℕ = region c.site p.root_rows xs js in
           let m : length R ≡ p.region_size = region-length xs o b w p planned header address js in
@@ -199,10 +197,10 @@ module _ {c : Call} {p : ManagedPlan} (W : WriterAccepts c p) where
       module _ {h : FractalHeapHeader} (T : IsHeaderOf h c p) (t len : ℕ) where
         table_is : h.table ≡ numbers_of fixed
         table_is = λ i. record {
-          table_width = T.table_width i;
-          starting_block_size = T.starting_block_size i;
-          max_direct_block_size = T.max_direct_block_size i;
-          max_heap_size = T.max_heap_size i;
+          table_width = T.fixed_geometry.table_width i;
+          starting_block_size = T.fixed_geometry.starting_block_size i;
+          max_direct_block_size = T.fixed_geometry.max_direct_block_size i;
+          max_heap_size = T.fixed_geometry.max_heap_size i;
         }
 
         below : place_of < 2 ^ (8 * w) - 1
@@ -239,11 +237,9 @@ module _ {c : Call} {p : ManagedPlan} (W : WriterAccepts c p) where
           few = (rooted xs o b w p planned some).few
 
           span_small : 0 + row_offset fixed p.root_rows < 2 ^ 64
-          unfolding row_offset
           span_small = let m = row-mono fixed p.root_rows 29 few in omega arith
 
           agree : GivesRows (numbers_of fixed) fixed 29
-          unfolding row_bits
           agree = agrees fixed (omega arith) (omega arith) (omega arith) 29 (λ r l. omega arith)
 
           is_block : BlockAt fixed p.root_rows 0

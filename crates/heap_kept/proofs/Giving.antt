@@ -52,11 +52,11 @@ given-ids-hold c p W xs later x o E G =
     record {
       is_its_id = its-id c p W xs later x o E G;
       is_early_id = early-id c p W xs later x o E G;
-      comes_back = λ s file H h T.
+      comes_back = λ s file H h T m.
           let part : List ℕ = part_of c.sizes c.objects (length xs) in
           let w : ℕ = c.site.offset_size in
           let size : slice_index c.sizes (length xs) ≡ x = size-is c p W xs later x o E G in
           subst (λ (y : ℕ). ComesBack file h w y x part) (offset-is c p W xs later x o E G)
           (subst (λ (z : ℕ). ComesBack file h w (offset_of w c.sizes (length xs)) z part) size
-          (heap-kept.comes_back c p W file H h T (length xs) (among c p W xs later x o E G) (omega arith)));
+          (heap-kept.comes_back c p W file H h T (length xs) (among c p W xs later x o E G) (omega arith) (omega (arith, size, m))));
     }

@@ -8,9 +8,9 @@ use Rattle.refusals.specs.declared.FormatError.{FormatError}
 use Rattle.fields.specs.declared.place.Place.{Place}
 use Rattle.fractal_heap.specs.declared.header.FractalHeapHeader.{FractalHeapHeader}
 use Rattle.fractal_heap.specs.Read.{managed_at}
-use Rattle.heap_kept.specs.HeapKept.{Call, ObjectComesBack, object_id, part_of}
+use Rattle.heap_kept.specs.HeapKept.{Call, ObjectIsManaged, ObjectComesBack, object_id, part_of}
 use Rattle.heap_kept.proofs.FromRoot.{tests}
-use Rattle.heap_kept.proofs.Theorem.{heap-kept, early-id-holds}
+use Rattle.heap_kept.proofs.Theorem.{heap-kept, early-id-stays}
 use Rattle.heap_kept.specs.Kept.{HoldsHeap, IsIdOf, IsPlaceOf}
 
 module _ {h : FractalHeapHeader} {file : List ℕ} {w : ℕ} {id : List ℕ} {c : Call} {p : ManagedPlan} {k i : ℕ}
@@ -24,14 +24,12 @@ module _ {h : FractalHeapHeader} {file : List ℕ} {w : ℕ} {id : List ℕ} {c 
   among : i < length c.sizes
   among = omega (arith, I.index, I.front)
 
-  back : ObjectComesBack file h c i
-  back = heap-kept.comes_back c p H.writer_accepts file H.holds_region h H.is_header i among I.not_empty
+  back : ObjectIsManaged h c i → ObjectComesBack file h c i
+  back m = heap-kept.comes_back c p H.writer_accepts file H.holds_region h H.is_header i among I.not_empty m
 
   -- it is the ID in the whole run
   id-now : id ≡ object_id wc c.sizes i
-  id-now =
-      I.id_given
-      ∙ (early-id-holds c p H.writer_accepts file H.holds_region h H.is_header k i I.index among I.not_empty).id_stays
+  id-now = I.id_given ∙ early-id-stays H.writer_accepts k i I.index among
 
   -- the object has all its bytes
   pub size-is : length (part_of c.sizes c.objects i) ≡ size
@@ -44,18 +42,19 @@ module _ {h : FractalHeapHeader} {file : List ℕ} {w : ℕ} {id : List ℕ} {c 
       let g = length-drop s c.objects in
       length-take-le size (drop s c.objects) (omega arith)
 
-  place : IsPlaceOf (managed_at h file id w) file (part_of c.sizes c.objects i)
-  place =
+  place : ObjectIsManaged h c i → IsPlaceOf (managed_at h file id w) file (part_of c.sizes c.objects i)
+  place m =
+      let B = back m in
       record {
-        position = back.position;
-        place_found = (λ j. managed_at h file (id-now j) (H.offset_size_is j)) ∙ rw size-is back.reader_accepts;
-        bytes_there = ap (λ (n : ℕ). take n (drop back.position file)) size-is ∙ back.bytes_there;
+        position = B.position;
+        place_found = (λ j. managed_at h file (id-now j) (H.offset_size_is j)) ∙ rw size-is B.reader_accepts;
+        bytes_there = ap (λ (n : ℕ). take n (drop B.position file)) size-is ∙ B.bytes_there;
       }
 
   -- what the reader answers by this ID
-  pub kept : {r : Result Place FormatError} → r ≡ managed_at h file id w
+  pub kept : {r : Result Place FormatError} → ObjectIsManaged h c i → r ≡ managed_at h file id w
       → IsPlaceOf r file (part_of c.sizes c.objects i)
-  kept e = rw e place
+  kept m e = rw e (place m)
 
 -- a place that is answered
 module _ {q : Place} {file bytes : List ℕ} (P : IsPlaceOf (Ok q) file bytes) where

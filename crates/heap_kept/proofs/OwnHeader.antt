@@ -1,14 +1,15 @@
 -- Every field of a plan's own header fits its width, where lengths have eight bytes.
-use Rattle.std.proofs.Common.{◌≡◌, refl, ap, ◌∙◌, ℕ, zero, suc, ◌+◌, ◌-◌, ◌*◌, ◌^◌, ◌<◌, ◌≤◌, ◌⊎◌, ⊎_elim, Bool, List, length, Ok, arith}
+use Rattle.std.proofs.Common.{◌≡◌, refl, ap, ℕ, zero, suc, ◌+◌, ◌*◌, ◌^◌, ◌<◌, ◌≤◌, ◌⊎◌, ⊎_elim, Bool, length, slice_index, Ok, arith}
 use Rattle.std.proofs.Common.{pow_mono, pow_pos}
 use Rattle.std.proofs.lemmas.Bool.Decides.{nat_tests}
 use Rattle.fields.specs.Undefined.{undefined_address}
 use Rattle.fields.proofs.Widths.{legal-small}
 use Rattle.table.specs.Table.{fixed, row_offset}
-use Rattle.table.specs.Sizes.{direct_header, max_managed}
+use Rattle.table.specs.Sizes.{max_managed}
 use Rattle.table_laws.specs.Count.{count}
 use Rattle.planner.specs.declared.State.{State}
 use Rattle.plan.specs.declared.ManagedPlan.{ManagedPlan}
+use Rattle.plan.proofs.Checking.{all_small}
 use Rattle.plan.specs.End.{end_state}
 use Rattle.plan.specs.Answer.{totals}
 use Rattle.plan.proofs.Free.{free-is-count}
@@ -30,11 +31,9 @@ count-most test (suc n) = let before = count-most test n in grind (arith, nat_te
 
 -- the root's place and the blocks lie in the region
 root-before : (w : ℕ) (s : State) → (totals fixed w s).root_place ≤ (totals fixed w s).region_size
-unfolding totals
 root-before w s = grind (arith, nat_tests)
 
 blocks-within : (w : ℕ) (s : State) → (totals fixed w s).allocated_space ≤ (totals fixed w s).region_size
-unfolding totals
 blocks-within w s = grind (arith, nat_tests)
 
 module _ {c : Call} {p : ManagedPlan} (W : WriterAccepts c p) where
@@ -60,13 +59,13 @@ module _ {c : Call} {p : ManagedPlan} (W : WriterAccepts c p) where
   root-in-region : p.root_place ≤ p.region_size
   root-in-region =
       let G = (went W).1 in
-      let e : p ≡ totals fixed w (end_state fixed w G.state) = G.totals-is in
+      let e : p ≡ totals fixed w (end_state fixed w G.state) = G.totals_is in
       rw e (root-before w (end_state fixed w G.state))
 
   blocks-in-region : p.allocated_space ≤ p.region_size
   blocks-in-region =
       let G = (went W).1 in
-      let e : p ≡ totals fixed w (end_state fixed w G.state) = G.totals-is in
+      let e : p ≡ totals fixed w (end_state fixed w G.state) = G.totals_is in
       rw e (blocks-within w (end_state fixed w G.state))
 
   managed-fits : p.managed_space ≤ 2 ^ 40
@@ -92,7 +91,7 @@ module _ {c : Call} {p : ManagedPlan} (W : WriterAccepts c p) where
       go R = (rooted c.sizes c.offset_places c.block_places w p (planned W) (omega (arith, R.rows))).few
 
   own-fits : length c.sizes < 2 ^ 64 → AllFit (field_widths w 8) (header_numbers (own_header c p))
-  unfolding AllFit max_managed direct_header
+  unfolding AllFit
   own-fits few =
       let end = end-fits in
       let undefined = undefined-fits in
@@ -104,6 +103,10 @@ module _ {c : Call} {p : ManagedPlan} (W : WriterAccepts c p) where
       let free = free-fits in
       let rows = rows-fit in
       grind arith
+
+  -- no object is longer than the largest managed one
+  pub sizes-managed : (i : ℕ) → i < length c.sizes → slice_index c.sizes i ≤ max_managed fixed w
+  sizes-managed = all_small (max_managed fixed w) 0 c.sizes (went W).0.sizes
 
   own-passes : length c.sizes < 2 ^ 64 → (lent : ℕ) → header_length w 8 ≤ lent
       → header_checked (header_numbers (own_header c p)) w 8 lent ≡ Ok tt
@@ -119,11 +122,15 @@ own-headers-accepted c p W few =
             unfiltered = refl;
             root_address = refl;
             root_rows = refl;
-            table_width = refl;
-            starting_block_size = refl;
-            max_direct_block_size = refl;
-            max_heap_size = refl;
+            fixed_geometry =
+                record {
+                  table_width = refl;
+                  starting_block_size = refl;
+                  max_direct_block_size = refl;
+                  max_heap_size = refl;
+                };
           };
+      all_managed = sizes-managed W;
       writer_accepts = own-passes W few;
       is_held = λ file at there.
           record {

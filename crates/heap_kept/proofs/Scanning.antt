@@ -86,7 +86,6 @@ module _ (t : Table) (w header : ℕ) (d : DoublingTable) (N : ℕ) (A : GivesRo
   pub scanned : (ss : List ℕ) (pos next e : ℕ) → Holds base ss next
       → Stands F s w pos e (all_slots t w header n base ss pos next)
       → then (child_in_slots d s w target (slot_rows d n 0) e base) ≡ answer
-  unfolding all_slots
   scanned ss pos next e I H =
       rw (same_slots t d A.table_width n 0)
       (from_scanned (rows_of_slots t n 0) base (all-ahead t n base) ss pos next e I H)

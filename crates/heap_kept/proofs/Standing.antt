@@ -4,7 +4,6 @@ use Rattle.std.proofs.Common.{Option, Result, refl, sym, ap, ◌∙◌, subst, a
 use Rattle.std.proofs.lemmas.Grind.{common_steps}
 use Rattle.std.specs.Prelude.{bytes_eq}
 use Rattle.fields.specs.LittleEndian.{le}
-use Rattle.fields.specs.Fields.{len_ensured}
 use Rattle.checksum.specs.Lookup3.{hashlittle}
 use Rattle.table.specs.Table.{Table}
 use Rattle.table.specs.Sizes.{offset_bytes}
@@ -19,7 +18,7 @@ use Rattle.refusals.specs.Steps.{◌>>=◌}
 use Rattle.refusals.specs.declared.FormatError.{FormatError}
 use Rattle.refusals.specs.declared.FormatError.TheVariants.{UnexpectedEof}
 use Rattle.numbers.specs.Numbers.{saturated}
-use Rattle.reading.specs.Blocks.{slot_rows, child_in_slots, entries_place, child_in, child_at}
+use Rattle.reading.specs.Blocks.{slot_rows, child_in_slots}
 use Rattle.reading.specs.Walk.{direct_at, by_child, walk_from}
 use Rattle.heap_kept.specs.Walking.{HasBytes}
 use Rattle.heap_kept.proofs.Holding.{has_left, has_right, has-drop}
@@ -80,7 +79,6 @@ module _ (t : Table) (w header n at : ℕ) (ss : List ℕ) (pos next : ℕ) wher
 module _ (t : Table) (w header : ℕ) (F : List ℕ) (p at : ℕ) (es : List ℕ)
     (H : HasBytes F p (indirect_block t w header at es)) where
   head-has : HasBytes F p (block_head t w indirect_signature header at ++ es)
-  unfolding indirect_block
   head-has = has_left F p (block_head t w indirect_signature header at ++ es)
       (le 4 (hashlittle (block_head t w indirect_signature header at ++ es))) H
 
@@ -132,7 +130,7 @@ pub walk-scans : (t : Table) (w header : ℕ) (d : DoublingTable) → d.max_heap
     → walk_from d F w target len (suc depth) p n at
     ≡ onward d F w target len depth
     (child_in_slots d (drop p F) w target (slot_rows d n 0) (5 + w + offset_bytes t) at)
-unfolding walk_from offset_bytes
+unfolding walk_from
 walk-scans t w header d bits F target len p n at depth es H =
     let r = H.in_file in
     let l = indirect-length t w header at es in

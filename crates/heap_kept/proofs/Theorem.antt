@@ -6,10 +6,9 @@ use Rattle.std.proofs.Math.Decide.{ℕ_discrete}
 use Rattle.std.proofs.lemmas.List.{drop-take}
 use Rattle.std.proofs.lemmas.Bool.Decides.{nat_tests}
 use Rattle.std.proofs.lemmas.Grind.{common_steps}
-use Rattle.fields.specs.Fields.{len_ensured}
-use Rattle.table.specs.Table.{fixed, row_offset}
+use Rattle.table.specs.Table.{fixed}
 use Rattle.table.specs.Slots.{slot_at}
-use Rattle.table.specs.Sizes.{direct_header, max_managed}
+use Rattle.table.specs.Sizes.{max_managed}
 use Rattle.numbers.specs.Sums.{sum}
 use Rattle.numbers.proofs.Sums.{sum-take-suc, sum-take-le}
 use Rattle.table_laws.proofs.Format.{direct-local, fixed-slot}
@@ -21,13 +20,12 @@ use Rattle.plan.proofs.Front.{front-part}
 use Rattle.plan.proofs.Kept.{plan-kept}
 use Rattle.region_directs.proofs.Objects.{objects-at}
 use Rattle.reading.specs.Walk.{direct_at}
-use Rattle.ids.specs.Decoded.{decoded_id}
 use Rattle.fractal_heap.specs.declared.header.FractalHeapHeader.{FractalHeapHeader}
 use Rattle.fractal_heap.specs.Read.{root_at, managed_at}
-use Rattle.ids.specs.Written.{managed_id}
+use Rattle.ids.specs.Written.{managed_id, IsManaged}
 use Rattle.heap_kept.proofs.Holding.{has_part}
 use Rattle.heap_kept.specs.HeapKept.{Call, WriterAccepts, HoldsRegion, IsHeaderOf, offset_of, object_id, ComesBack, part_of}
-use Rattle.heap_kept.specs.HeapKept.{HeapKept, EarlyIdsHold}
+use Rattle.heap_kept.specs.HeapKept.{ObjectIsManaged, HeapKept, EarlyIdsHold}
 use Rattle.ids.proofs.ReadBack.{decodes}
 use Rattle.heap_kept.proofs.Ids.{id-passes}
 use Rattle.heap_kept.proofs.FromRoot.{planned, tests, went, block_of, start, place_of, place-fits, bytes_of}
@@ -37,13 +35,12 @@ use Rattle.heap_kept.proofs.FromRoot.{bytes-least, block-has, block_inside, root
 
 -- by a written ID the reader looks for what it was written for
 pub by-id : {h : FractalHeapHeader} {c : Call} {p : ManagedPlan} → IsHeaderOf h c p → (F : List ℕ) (w o x : ℕ)
-    → o < 2 ^ 40 → x < 2 ^ 16
+    → o < 2 ^ 40 → x < 2 ^ 16 → IsManaged x h.max_managed_object_size
     → managed_at h F (managed_id fixed o x) w ≡ root_at h F o x w
-by-id {h = h} T F w o x lo hi =
-    let e : decoded_id h.table.max_heap_size (managed_id fixed o x)
-    ≡ decoded_id 40 (managed_id fixed o x) =
-    ap (λ (n : ℕ). decoded_id n (managed_id fixed o x)) T.max_heap_size in
-    let d = e ∙ decodes o x lo hi in let z = T.unfiltered in grind (arith, common_steps)
+by-id {h = h} T F w o x lo hi m =
+    let d = decodes o x lo hi h.table h.max_managed_object_size T.fixed_geometry m in
+    let z = T.unfiltered in
+    grind (arith, common_steps)
 
 -- len bytes in a block that the file holds
 pub in_block : (F : List ℕ) (a b t len : ℕ) → a + (t - b) ≤ 2 ^ 64 - 1 → a + (t - b) + len ≤ length F
@@ -83,13 +80,11 @@ module _ {c : Call} {p : ManagedPlan} (W : WriterAccepts c p) {F : List ℕ} (H 
   slot-size = (fixed-slot B.slot).size_is
 
   size_small : size < 2 ^ 16
-  unfolding max_managed direct_header
   size_small = let z = all_small (max_managed fixed w) 0 xs (went W).0.sizes i l in omega arith
 
   -- where its offset lies in the block, and so not at the block's end
   module _ (u : offset < its + B.size) where
     offset-small : offset < 2 ^ 40
-    unfolding row_offset
     offset-small = let z = (direct-local fixed (omega arith) (omega arith) B.slot).inside in omega arith
 
     read : root_at h F offset size w ≡ Ok (record { position = place + (offset - its); length = size })
@@ -127,23 +122,23 @@ module _ {c : Call} {p : ManagedPlan} (W : WriterAccepts c p) {F : List ℕ} (H 
             c.site.heap_header_address its (slot_at fixed its).size i l (omega arith)
             (record { starts = S.starts; inside = S.inside; size_is = refl }) (omega arith) (omega arith)
 
-    back : ComesBack F h w offset size (part_of xs js i)
-    back =
+    back : ObjectIsManaged h c i → ComesBack F h w offset size (part_of xs js i)
+    back m =
         record {
           id_accepted = id-passes offset size offset-small size_small;
           position = place + (offset - its);
-          reader_accepts = by-id T F w offset size offset-small size_small ∙ read;
+          reader_accepts = by-id T F w offset size offset-small size_small m ∙ read;
           bytes_there = bytes;
         }
 
   -- every nonempty object comes back
-  pub nonempty-back : 0 < size → ComesBack F h w offset size (part_of xs js i)
-  nonempty-back s = back (let t = B.ends_inside in omega arith)
+  pub nonempty-back : 0 < size → ObjectIsManaged h c i → ComesBack F h w offset size (part_of xs js i)
+  nonempty-back s m = back (let t = B.ends_inside in omega arith) m
 
 -- ---- the theorem
 
 pub heap-kept : HeapKept
-heap-kept = record { kept_apart = plan-kept; comes_back = λ c p W F H h T i l s. nonempty-back W H T l s }
+heap-kept = record { kept_apart = plan-kept; comes_back = λ c p W F H h T i l s m. nonempty-back W H T l s m }
 
 -- ---- an ID that was given early
 
@@ -187,7 +182,7 @@ early-id-holds c p W file H h T early i l m s =
     let xs : List ℕ = c.sizes in
     record {
       id_stays = early-id-stays W early i l m;
-      comes_back = subst (ComesBack file h w (offset_of w (take early xs) i) (slice_index (take early xs) i))
+      comes_back = λ managed. subst (ComesBack file h w (offset_of w (take early xs) i) (slice_index (take early xs) i))
           (sym (part-early xs c.objects early i l m))
-          (rw (offset-stays W early i l m, size-stays W early i l m) (nonempty-back W H T m s));
+          (rw (offset-stays W early i l m, size-stays W early i l m) (nonempty-back W H T m s managed));
     }

@@ -1,5 +1,5 @@
--- The whole way from bytes: what it means that a file holds a header of ours, and that an object is read from there on
--- (docs/RULES.md, 'What comes back').
+-- The whole way from bytes: what it means that a file holds a header of ours, and that an object is
+-- read from there on (docs/RULES.md, 'What comes back').
 use Rattle.std.specs.Prelude.{ℕ, ◌<◌, ◌≡◌, List, length, take, drop, slice_index, Ok}
 use Rattle.plan.specs.declared.ManagedPlan.{ManagedPlan}
 use Rattle.fractal_heap.specs.declared.header.FractalHeapHeader.{FractalHeapHeader}
@@ -7,11 +7,13 @@ use Rattle.fractal_heap.specs.Header.{header_numbers}
 use Rattle.fractal_heap.specs.Spelling.{header_spelled}
 use Rattle.fractal_heap.specs.Writing.{header_length, header_checked}
 use Rattle.fractal_heap.specs.Read.{object_by}
-use Rattle.heap_kept.specs.HeapKept.{Call, WriterAccepts, HoldsRegion, IsHeaderOf, object_id, part_of}
+use Rattle.heap_kept.specs.HeapKept.{Call, WriterAccepts, HoldsRegion, IsHeaderOf, ObjectIsManaged}
+use Rattle.heap_kept.specs.HeapKept.{object_id, part_of}
 use Rattle.heap_kept.specs.Kept.{ForKept}
 
--- the header writer accepts this header at these widths, for some number of lent bytes, and what it writes stands at
--- this place of the file; its other bytes may be anything
+-- the header writer accepts this header at these widths, for some number of lent bytes, and what it
+-- writes stands at this place of the file; its other bytes may be anything, and so may what the
+-- header has of filters, which is not written
 pub record HoldsHeader (file : List ℕ) (at : ℕ) (header : FractalHeapHeader)
     (offset_size length_size : ℕ) : Type 0 where
   pub lent : ℕ
@@ -20,8 +22,8 @@ pub record HoldsHeader (file : List ℕ) (at : ℕ) (header : FractalHeapHeader)
       take (header_length offset_size length_size) (drop at file)
       ≡ header_spelled header offset_size length_size
 
--- by the ID, and the header that is parsed at this place, the reader accepts, with the size as length, and from the
--- answered position on the file has these bytes
+-- by the ID, and the header that is parsed at this place, the reader accepts, with the size as
+-- length, and from the answered position on the file has these bytes
 pub record IsRead (file : List ℕ) (at offset_size length_size : ℕ) (id : List ℕ) (size : ℕ)
     (bytes : List ℕ) : Type 0 where
   pub position : ℕ
@@ -30,21 +32,24 @@ pub record IsRead (file : List ℕ) (at offset_size length_size : ℕ) (id : Lis
       ≡ Ok (record { position = position; length = size })
   pub bytes_there : take size (drop position file) ≡ bytes
 
--- whatever the writer of regions accepts, and whatever header of that plan the writer of headers: a file that holds
--- both, the region at its address and the header anywhere, gives every nonempty object by its ID
+-- whatever the writer of regions accepts, and whatever header of that plan the writer of headers: a
+-- file that holds both, the region at its address and the header anywhere, gives every nonempty
+-- object by its ID that is managed under the header
 abbrev pub WrittenHeapsAreRead : Type 0
 WrittenHeapsAreRead = (call : Call) (plan : ManagedPlan) → WriterAccepts call plan
     → (header : FractalHeapHeader) → IsHeaderOf header call plan
     → (file : List ℕ) (at length_size : ℕ)
     → HoldsHeader file at header call.site.offset_size length_size → HoldsRegion file call plan
     → (i : ℕ) → i < length call.sizes → 0 < slice_index call.sizes i
+    → ObjectIsManaged header call i
     → IsRead file at call.site.offset_size length_size
     (object_id call.site.offset_size call.sizes i)
     (slice_index call.sizes i)
     (part_of call.sizes call.objects i)
 
--- whatever header of ours the file holds at this place, and whatever heap of ours with that header, and of whatever
--- object of it this is the ID, given early or at the end: P holds of that object's bytes
+-- whatever header of ours the file holds at this place, and whatever heap of ours with that header,
+-- and of whatever object of it, managed under the header, this is the ID, given early or at the
+-- end: P holds of that object's bytes
 abbrev pub ForWritten : List ℕ → ℕ → ℕ → ℕ → List ℕ → (List ℕ → Type 0) → Type 0
 ForWritten file at offset_size length_size id P = (header : FractalHeapHeader)
     → HoldsHeader file at header offset_size length_size

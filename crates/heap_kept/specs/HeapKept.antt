@@ -1,7 +1,7 @@
 -- What it means that a heap keeps its objects (docs/RULES.md, 'What comes back').
-use Rattle.std.specs.Prelude.{ℕ, ◌+◌, ◌^◌, ◌≤◌, ◌<◌, ◌≡◌, List, length, take, drop, slice_index, Ok, Err}
+use Rattle.std.specs.Prelude.{ℕ, ◌+◌, ◌≤◌, ◌<◌, ◌≡◌, List, length, take, drop, slice_index, Ok, Err}
 use Rattle.refusals.specs.declared.FormatError.TheVariants.{UnexpectedEof, HeapIdTooLarge}
-use Rattle.table.specs.Table.{fixed}
+use Rattle.table.specs.Table.{fixed, heap_space}
 use Rattle.numbers.specs.Sums.{sum}
 use Rattle.planner.specs.Steps.{plan_offsets}
 use Rattle.plan.specs.declared.ManagedPlan.{ManagedPlan}
@@ -14,10 +14,10 @@ use Rattle.region_blocks.specs.declared.Site.{Site}
 use Rattle.fractal_heap_write.specs.declared.checks.Lent.{Lent}
 use Rattle.fractal_heap_write.specs.Answer.{serialized_for}
 use Rattle.ids.specs.Checks.{id_checked}
-use Rattle.ids.specs.Written.{managed_id}
+use Rattle.ids.specs.Written.{managed_id, HasTable, IsManaged}
 
--- what the writer is asked: the sizes, the objects' joined bytes, the addresses with their width, and how many places
--- and bytes it is lent for the two lists and the region
+-- what the writer is asked: the sizes, the objects' joined bytes, the addresses with their width,
+-- and how many places and bytes it is lent for the two lists and the region
 pub record Call : Type 0 where
   pub sizes : List ℕ
   pub objects : List ℕ
@@ -39,30 +39,27 @@ lent_by call = record {
 pub record WriterAccepts (call : Call) (plan : ManagedPlan) : Type 0 where
   pub plan_answered : serialized_for call.sizes (lent_by call) call.site ≡ Ok plan
 
--- from the region address on the file holds what the contract of `serialize` says that the lent region holds then; its
--- other bytes may be anything
+-- from the region address on the file holds what the contract of `serialize` says that the lent
+-- region holds then; its other bytes may be anything
 pub record HoldsRegion (file : List ℕ) (call : Call) (plan : ManagedPlan) : Type 0 where
   pub region_there :
       take plan.region_size (drop call.site.region_address file)
       ≡ region call.site plan.root_rows call.sizes call.objects
 
--- the header has filter length 0, the root at the region address plus the root's place, the plan's root rows and the
--- fixed geometry; its other fields may be anything
+-- the header has filter length 0, the root at the region address plus the root's place, the plan's
+-- root rows and the fixed geometry; its other fields may be anything
 pub record IsHeaderOf (header : FractalHeapHeader) (call : Call) (plan : ManagedPlan) : Type 0 where
   pub unfiltered : header.io_filter_encoded_length ≡ 0
   pub root_address : header.root_block_address ≡ call.site.region_address + plan.root_place
   pub root_rows : header.current_rows_in_root_indirect_block ≡ plan.root_rows
-  pub table_width : header.table.table_width ≡ 4
-  pub starting_block_size : header.table.starting_block_size ≡ 1024
-  pub max_direct_block_size : header.table.max_direct_block_size ≡ 65536
-  pub max_heap_size : header.table.max_heap_size ≡ 40
+  pub fixed_geometry : HasTable header.table fixed
 
 -- the heap offset of the i-th object
 abbrev pub offset_of : ℕ → List ℕ → ℕ → ℕ
 offset_of offset_size sizes i = slice_index (plan_offsets fixed offset_size sizes) i
 
--- the ID that the i-th object is given, by its heap offset and its size: its eight bytes alone, since the reader takes
--- a ninth into the length (docs/DIFFERENCES.md)
+-- the ID that the i-th object is given, by its heap offset and its size: its eight bytes alone,
+-- since the reader takes a ninth into the length where the header's sizes need three bytes
 abbrev pub object_id : ℕ → List ℕ → ℕ → List ℕ
 object_id offset_size sizes i =
     managed_id fixed (offset_of offset_size sizes i) (slice_index sizes i)
@@ -71,8 +68,9 @@ object_id offset_size sizes i =
 abbrev pub part_of : List ℕ → List ℕ → ℕ → List ℕ
 part_of sizes objects i = take (slice_index sizes i) (drop (sum (take i sizes)) objects)
 
--- the ID writer accepts offset and size in every lent slice of at least eight bytes; by the ID that it writes
--- `read_managed_object` accepts, with the size as length, and from the answered position on the file has these bytes
+-- the ID writer accepts offset and size in every lent slice of at least eight bytes; by the ID that
+-- it writes `read_managed_object` accepts, with the size as length, and from the answered position
+-- on the file has these bytes
 pub record ComesBack (file : List ℕ) (header : FractalHeapHeader)
     (offset_size offset size : ℕ) (bytes : List ℕ) : Type 0 where
   pub id_accepted : (lent : ℕ) → 8 ≤ lent → id_checked fixed offset size lent ≡ Ok tt
@@ -90,8 +88,13 @@ ObjectComesBack file header call i =
     (slice_index call.sizes i)
     (part_of call.sizes call.objects i)
 
--- what planning accepts is kept apart, and by its ID every nonempty object of what the writer accepts is found in the
--- file, with exactly its bytes
+-- the i-th object of a call is managed under the header: it is no longer than the header's largest
+-- managed object
+abbrev pub ObjectIsManaged : FractalHeapHeader → Call → ℕ → Type 0
+ObjectIsManaged header call i = IsManaged (slice_index call.sizes i) header.max_managed_object_size
+
+-- what planning accepts is kept apart, and by its ID every nonempty object of what the writer
+-- accepts is found in the file, with exactly its bytes, by a header under which it is managed
 pub record HeapKept : Type 0 where
   pub kept_apart : (sizes : List ℕ) (offset_places block_places offset_size : ℕ)
       (plan : ManagedPlan)
@@ -101,7 +104,7 @@ pub record HeapKept : Type 0 where
       → (file : List ℕ) → HoldsRegion file call plan
       → (header : FractalHeapHeader) → IsHeaderOf header call plan
       → (i : ℕ) → i < length call.sizes → 0 < slice_index call.sizes i
-      → ObjectComesBack file header call i
+      → ObjectIsManaged header call i → ObjectComesBack file header call i
 
 -- the call for its first objects alone, `early` of them
 abbrev pub first_of : ℕ → Call → Call
@@ -110,14 +113,16 @@ first_of early call = record call {
   objects = take (sum (take early call.sizes)) call.objects;
 }
 
--- an ID that the i-th object was given when there were the first objects alone: it is the object's ID among all, and by
--- it the file with all of them gives the bytes that the object had then
+-- an ID that the i-th object was given when there were the first objects alone: it is the object's
+-- ID among all, and by it the file with all of them gives the bytes that the object had then, by a
+-- header under which it is managed
 pub record EarlyIdHolds (call : Call) (early : ℕ) (file : List ℕ) (header : FractalHeapHeader)
     (i : ℕ) : Type 0 where
   pub id_stays :
       object_id call.site.offset_size (take early call.sizes) i
       ≡ object_id call.site.offset_size call.sizes i
-  pub comes_back : ObjectComesBack file header (first_of early call) i
+  pub comes_back : ObjectIsManaged header call i
+      → ObjectComesBack file header (first_of early call) i
 
 -- so does the early ID of every object but the empty ones
 abbrev pub EarlyIdsHold : Type 0
@@ -127,8 +132,9 @@ EarlyIdsHold = (call : Call) (plan : ManagedPlan) → WriterAccepts call plan
     → (early i : ℕ) → i < early → i < length call.sizes → 0 < slice_index call.sizes i
     → EarlyIdHolds call early file header i
 
--- what is left free: by the ID of an empty object the reader accepts, with length 0 at a place of the file, or, under
--- an indirect root alone, it refuses by 1 with the object's offset and the file's length
+-- what is left free: by the ID of an empty object the reader accepts, with length 0 at a place of
+-- the file, or, under an indirect root alone, it refuses by 1 with the object's offset and the
+-- file's length
 pub data EmptyRead (file : List ℕ) (header : FractalHeapHeader) (offset_size offset root_rows : ℕ)
     : Type 0 where
   accepts : (position : ℕ) → position ≤ length file
@@ -143,11 +149,13 @@ pub data EmptyRead (file : List ℕ) (header : FractalHeapHeader) (offset_size o
 -- its offset is at most the heap's end, and there alone it has no ID
 pub record EmptyAnswered (file : List ℕ) (header : FractalHeapHeader)
     (offset_size offset root_rows : ℕ) : Type 0 where
-  pub offset_in_heap : offset ≤ 2 ^ 40
-  pub id_accepted : offset < 2 ^ 40 → (lent : ℕ) → 8 ≤ lent → id_checked fixed offset 0 lent ≡ Ok tt
-  pub id_refused : offset ≡ 2 ^ 40 → (lent : ℕ)
+  pub offset_in_heap : offset ≤ heap_space fixed
+  pub id_accepted : offset < heap_space fixed → (lent : ℕ) → 8 ≤ lent
+      → id_checked fixed offset 0 lent ≡ Ok tt
+  pub id_refused : offset ≡ heap_space fixed → (lent : ℕ)
       → id_checked fixed offset 0 lent ≡ Err (HeapIdTooLarge offset 0)
-  pub reader_answers : offset < 2 ^ 40 → EmptyRead file header offset_size offset root_rows
+  pub reader_answers : offset < heap_space fixed
+      → EmptyRead file header offset_size offset root_rows
 
 abbrev pub EmptyObjectsAnswered : Type 0
 EmptyObjectsAnswered = (call : Call) (plan : ManagedPlan) → WriterAccepts call plan

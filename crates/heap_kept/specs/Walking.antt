@@ -1,5 +1,6 @@
--- What the laws say of how the reader goes over written indirect blocks: steps towards the theorem, at any table.
--- Nothing here has to be believed; it stands in specs so that wrong statements of these steps can be tried.
+-- What the laws say of how the reader goes over written indirect blocks: steps towards the theorem,
+-- at any table. Nothing here has to be believed; it stands in specs so that wrong statements of
+-- these steps can be tried.
 use Rattle.std.specs.Prelude.{ℕ, suc, ◌+◌, ◌-◌, ◌^◌, ◌≤◌, ◌<◌, ◌≡◌, true, List, [], ◌∷◌}
 use Rattle.std.specs.Prelude.{length, take, drop, Result, Err}
 use Rattle.fields.specs.Undefined.{undefined_address}
@@ -37,8 +38,9 @@ pub record GivesRows (numbers : DoublingTable) (table : Table) (rows : ℕ) : Ty
       → table.direct_bits < row_bits table row
       → child_of numbers row address start ≡ Indirect address (row - table.width_bits) start
 
--- of the blocks that begin at `starts`, placed from the heap offset `at` on, the first of them at the address `next`,
--- the one at `start` is still to come, and stands at `address`; those at `later` come after it
+-- of the blocks that begin at `starts`, placed from the heap offset `at` on, the first of them at
+-- the address `next`, the one at `start` is still to come, and stands at `address`; those at
+-- `later` come after it
 pub record IsToCome (table : Table) (start address : ℕ) (later : List ℕ)
     (at : ℕ) (starts : List ℕ) (next : ℕ) : Type 0 where
   pub placed : Placed table at starts
@@ -57,15 +59,17 @@ pub data NoneHolds (table : Table) (offset : ℕ) : List ℕ → Type 0 where
 abbrev pub missed : List ℕ → ℕ → ℕ → Result Place FormatError
 missed file target len = Err (UnexpectedEof (saturated (target + len)) (length file))
 
--- the blocks that begin at `starts`, placed from the heap offset `at` on, do not hold the heap offset
+-- the blocks that begin at `starts`, placed from the heap offset `at` on, do not hold the heap
+-- offset
 pub record IsAbsent (table : Table) (offset at : ℕ) (starts : List ℕ) : Type 0 where
   pub placed : Placed table at starts
   pub none_holds : NoneHolds table offset starts
 
 module _ (table : Table) (offset_size heap_header : ℕ) (numbers : DoublingTable) (row_limit : ℕ)
     (file : List ℕ) (target len : ℕ) where
-  -- an indirect block of so many rows that begins at the heap offset `base`, over the placed blocks that begin at
-  -- `starts`, written to a position, with `next` as the address of the first of these blocks
+  -- an indirect block of so many rows that begins at the heap offset `base`, over the placed blocks
+  -- that begin at `starts`, written to a position, with `next` as the address of the first of these
+  -- blocks
   abbrev written_block : ℕ → ℕ → List ℕ → ℕ → ℕ → List ℕ
   written_block rows base starts position next =
       (block table offset_size heap_header rows base starts position next).bytes
@@ -76,7 +80,8 @@ module _ (table : Table) (offset_size heap_header : ℕ) (numbers : DoublingTabl
       position
       + length (all_slots table offset_size heap_header rows base starts position next).bytes
 
-  -- where the file has such a block, and P holds of what is placed in it, the reader gives from it on `answer`
+  -- where the file has such a block, and P holds of what is placed in it, the reader gives from it
+  -- on `answer`
   abbrev ReaderGives : (ℕ → List ℕ → ℕ → Type 0) → Result Place FormatError → ℕ → Type 0
   ReaderGives P answer rows = (base : ℕ) (starts : List ℕ) (position next depth : ℕ)
       → rows ≤ row_limit → rows < depth

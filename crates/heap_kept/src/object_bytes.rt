@@ -12,9 +12,10 @@ use refusals::FormatError;
 /// Copies the bytes of the managed object that an ID names into the front of `found`, and answers how many they are.
 /// Refused as `read_managed_object` refuses, and by 13 where they have no room; then `found` stays as it is.
 ///
-/// Of a heap that our writer wrote, and by an ID that it gave, early or at the end, these are the object's bytes.
-/// What was written is not at hand where something is read, so the clause `kept` says so for every heap of ours that
-/// the file may hold, and for every object of which this is the ID.
+/// Of a heap that our writer wrote, and by an ID that it gave, early or at the end, these are the object's bytes if the
+/// object is no longer than the header's largest managed object. What was written is not at hand where something is
+/// read, so the clause `kept` says so for every heap of ours that the file may hold, and for every such object of which
+/// this is the ID.
 pub fn fetch(
     header: &FractalHeapHeader,
     file: &[u8],
@@ -51,8 +52,8 @@ pub fn fetch(
 /// it is parsed, and refused as `parse` refuses. What `fetch` answers follows.
 ///
 /// Of a file that holds a header and a region of ours, as they were written, and by an ID that was given, early or at
-/// the end, these are the object's bytes: nothing else of the heap is at hand, neither its header's fields nor its
-/// objects.
+/// the end, these are the object's bytes if the object is no longer than the header's largest managed object: nothing
+/// else of the heap is at hand, neither its header's fields nor its objects.
 pub fn fetch_at(
     file: &[u8],
     at: usize,

@@ -1,14 +1,11 @@
--- Laws of IDs: the number in them, and its parts at any number of heap bits.
-use Rattle.std.proofs.Common.{◌≡◌, refl, sym, ap, ◌∙◌, ℕ, ◌+◌, ◌-◌, ◌*◌, ◌^◌, ◌/◌, ◌%◌, ◌≤◌, ◌<◌, min, List}
-use Rattle.std.proofs.Common.{slice_index, length, take, drop, inl, inr, arith}
+-- Laws of IDs: the bits of a number, and the number in a short ID.
+use Rattle.std.proofs.Common.{◌≡◌, refl, ap, ◌∙◌, ℕ, ◌+◌, ◌-◌, ◌*◌, ◌^◌, ◌/◌, ◌%◌, ◌≤◌, ◌<◌, List}
+use Rattle.std.proofs.Common.{slice_index, length, take, drop, arith}
 use Rattle.std.proofs.Math.Nat.{mod-eq_of_lt, div-eq_of_lt}
 use Rattle.std.proofs.Math.Pow.{pow_mono}
-use Rattle.std.proofs.lemmas.Nat.{shr_le}
-use Rattle.std.proofs.lemmas.Bool.{cases_lt}
 use Rattle.std.proofs.lemmas.List.{take_all, length-drop, drop_all, get_or-drop}
 use Rattle.fields.specs.LittleEndian.{value, le_at}
 use Rattle.fields.proofs.LittleEndian.{value-lt, le_at-add, le_at-byte, le_at-end}
-use Rattle.ids.specs.Decoded.{split_id}
 
 -- ---- bits
 
@@ -17,22 +14,6 @@ mod_wide x k h l = mod-eq_of_lt (omega (arith, pow_mono {i = 64} {j = k} l))
 
 pub div_wide : (x k : ℕ) → x < 2 ^ 64 → 64 ≤ k → x / 2 ^ k ≡ 0
 div_wide x k h l = div-eq_of_lt (omega (arith, pow_mono {i = 64} {j = k} l))
-
--- past 65,536 bytes more bytes keep no more bits
-pub split_least : (B n x : ℕ) → x < 2 ^ 64 → B < 65536
-    → split_id B n x ≡ record { offset = x % 2 ^ B; length = x / 2 ^ B % 2 ^ (8 * min n 65536 - B) }
-split_least B n x h l =
-    elim (cases_lt n 65536) [
-      | inl few ↦
-          let e : min n 65536 ≡ n = omega arith in
-          rw e
-      | inr many ↦
-          let high : x / 2 ^ B < 2 ^ 64 = omega (arith, shr_le x B) in
-          rw (
-            mod_wide (x / 2 ^ B) (8 * n - B) high (omega arith),
-            mod_wide (x / 2 ^ B) (8 * min n 65536 - B) high (omega arith),
-          )
-    ]
 
 -- ---- the number of a short ID, from its last byte down
 

@@ -4,12 +4,10 @@ use Rattle.std.proofs.Common.{length-append, arith}
 use Rattle.fields.specs.LittleEndian.{le}
 use Rattle.fields.proofs.LittleEndian.{pow-byte, length-le}
 use Rattle.table.specs.Table.{fixed}
-use Rattle.table.specs.Sizes.{offset_bytes}
 use Rattle.ids.specs.Written.{managed_id}
 
 -- an ID has eight bytes
 pub id-length : (o n : ℕ) → length (managed_id fixed o n) ≡ 8
-unfolding offset_bytes
 id-length o n = simp (length-append, length-le) (omega arith)
 
 -- i bytes of a number, then j of another
@@ -29,7 +27,6 @@ le-add (suc i) j x y h =
 
 -- an ID is the bytes of one number
 pub id_in_one : (o n : ℕ) → o < 2 ^ 40 → le 8 (o * 0x100 + n * 0x1000000000000) ≡ managed_id fixed o n
-unfolding offset_bytes
 id_in_one o n h =
     let e : o * 0x100 + n * 0x1000000000000 ≡ 0 + (o + n * 2 ^ (8 * 5)) * 2 ^ (8 * 1) = omega arith in
     ap (le 8) e ∙ le-add 1 7 0 (o + n * 2 ^ (8 * 5)) (omega arith)

@@ -1,3 +1,4 @@
 pub mod Ids
 pub mod Decoding
 pub mod ReadBack
+pub mod Padding

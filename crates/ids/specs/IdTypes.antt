@@ -1,5 +1,6 @@
--- The type of a heap ID. HDF5 File Format Specification 3.0, III.G, 'Fractal Heap ID for Managed Objects', '.. for Huge
--- Objects': Version and Type; '.. for Tiny Objects': Version, Type, and Length.
+-- The type of a heap ID. HDF5 File Format Specification 3.0, III.G, 'Fractal Heap ID for Managed
+-- Objects', '.. for Huge Objects': Version and Type; '.. for Tiny Objects': Version, Type, and
+-- Length.
 use Rattle.std.specs.Prelude.{ℕ, ◌/◌, ◌%◌, ◌==◌, List, [], ◌∷◌, if◌then◌else◌, Result, Ok, Err}
 use Rattle.refusals.specs.Refusals.{answer}
 use Rattle.refusals.specs.declared.answer.Answer.{Answer}
@@ -8,7 +9,8 @@ use Rattle.refusals.specs.declared.FormatError.TheVariants.{UnexpectedEof, Inval
 use Rattle.ids.specs.declared.decode.types.HeapIdType.{HeapIdType}
 use Rattle.ids.specs.declared.decode.types.HeapIdType.TheVariants.{Managed, Huge, Tiny}
 
--- an ID's type: bits 4 and 5 of its first byte; the version in bits 6 and 7 is not heeded (docs/DIFFERENCES.md)
+-- an ID's type: bits 4 and 5 of its first byte; the version in bits 6 and 7 is not heeded
+-- (docs/DIFFERENCES.md)
 abbrev pub type_of : ℕ → ℕ
 type_of byte = byte / 16 % 4
 

@@ -1,7 +1,9 @@
--- Tiny objects. HDF5 File Format Specification 3.0, III.G, 'Fractal Heap ID for Tiny Objects', sub-types 1, 'Normal',
--- and 2, 'Extended': Version, Type, and Length, Extended Length, Data. Where the original reads an ID otherwise than
--- the format, its reading stands here (docs/DIFFERENCES.md).
-use Rattle.std.specs.Prelude.{ℕ, ◌+◌, ◌*◌, ◌%◌, List, nat_lt, slice_index, if◌then◌else◌, Result, Ok}
+-- Tiny objects. HDF5 File Format Specification 3.0, III.G, 'Fractal Heap ID for Tiny Objects',
+-- sub-types 1, 'Normal', and 2, 'Extended': Version, Type, and Length, Extended Length, Data. Where
+-- the original reads an ID otherwise than the format, its reading stands here
+-- (docs/DIFFERENCES.md).
+use Rattle.std.specs.Prelude.{ℕ, ◌+◌, ◌*◌, ◌%◌, List, nat_lt, slice_index, if◌then◌else◌, Result}
+use Rattle.std.specs.Prelude.{Ok}
 use Rattle.fields.specs.Fields.{len_ensured}
 use Rattle.refusals.specs.Steps.{◌>>=◌}
 use Rattle.refusals.specs.declared.FormatError.{FormatError}

@@ -1,13 +1,18 @@
 //! Decoding heap IDs: the type of an ID (`types`), and the heap offset and the length in a managed one.
 pub mod types;
 
-ghost use Rattle.std.specs.Prelude.{◌≡◌, ◌^◌, ◌%◌, ◌/◌, ◌<◌, length};
+ghost use Rattle.std.specs.Prelude.{◌≡◌, ◌^◌, ◌*◌, ◌%◌, ◌/◌, ◌<◌, ◌≤◌, min, length};
 ghost use Rattle.fields.specs.LittleEndian.{le_at};
-ghost use Rattle.ids.specs.Decoded.{split_id, decoded_id};
+ghost use Rattle.ids.specs.Decoded.{length_bytes_in, split_id, decoded_id, IgnoresPadding};
 
 use crate::decode::types::type_of;
 use fields::little_endian::read_u64_le;
+use numbers::bytes_needed;
+use reading::DoublingTable;
 use refusals::{Answer, FormatError, Reported};
+
+/// How many values a byte has, and so what each byte of a number counts for more than the byte before it.
+const BYTE_VALUES: u64 = 256;
 
 /// Where a managed object lies in the heap space, and how many bytes it has.
 #[derive(Clone, Copy, Debug, PartialEq, Eq)]
@@ -40,22 +45,35 @@ fn high_bits(x: u64, bits: u64) -> u64
     if bits < 64 { x >> bits } else { 0 }
 }
 
-// The offset and the length in the number that `bytes` bytes hold, in a heap with so many bits.
-#[tactic(auto, using(crate::proofs::Decoding::split_least))]
-fn split_id(max_heap_size: u16, bytes: usize, number: u64) -> ManagedId
-    ensures { result ≡ split_id max_heap_size bytes number }
+// The smaller of the two sizes: no managed object is longer.
+fn largest_length(table: DoublingTable, max_managed_object_size: u32) -> u64
+    ensures { result ≡ min table.max_direct_block_size max_managed_object_size }
 {
-    let offset_bits = u64::from(max_heap_size);
-    // more bytes than 65,536 keep no more bits, and their bits could not be counted
-    let length_bits = (8 * bytes.min(0x1_0000) as u64).saturating_sub(offset_bits);
+    let largest_block = table.max_direct_block_size;
+    largest_block.min(u64::from(max_managed_object_size))
+}
+
+// How many bytes Length has in an ID.
+fn length_bytes(table: DoublingTable, max_managed_object_size: u32) -> u64
+    ensures needed { result ≡ length_bytes_in table max_managed_object_size }
+    ensures most { result ≤ 8 }
+{
+    bytes_needed(largest_length(table, max_managed_object_size))
+}
+
+// The offset, in so many low bits of a number, and the length, in so many bytes behind them.
+fn split_id(heap_bits: u16, length_bytes: u64, number: u64) -> ManagedId
+    requires { length_bytes ≤ 8 }
+    ensures { result ≡ split_id heap_bits length_bytes number }
+{
+    let offset_bits = u64::from(heap_bits);
     ManagedId {
         offset: low_bits(number, offset_bits),
-        length: low_bits(high_bits(number, offset_bits), length_bits),
+        length: low_bits(high_bits(number, offset_bits), 8 * length_bytes),
     }
 }
 
-// The number after the first byte of an ID that has fewer than eight bytes, from its last byte down. A copy of its bytes
-// for `from_le_bytes` would be a call, and slow down all that this is inlined into.
+// The number after the first byte of an ID that has fewer than eight bytes, from its last byte down.
 fn short_number(id: &[u8]) -> u64
     requires { (0 < length id.now) × (length id.now < 8) }
     ensures { result ≡ le_at id.now 1 8 }
@@ -64,7 +82,7 @@ fn short_number(id: &[u8]) -> u64
     let mut i = id.len();
     while i > 1 {
         i -= 1;
-        number = number * 256 + u64::from(id[i]);
+        number = number * BYTE_VALUES + u64::from(id[i]);
     }
     number
 }
@@ -74,19 +92,29 @@ fn number_behind_type(id: &[u8]) -> u64
     requires { 0 < length id.now }
     ensures { result ≡ le_at id.now 1 8 }
 {
-    let n = id.len();
-    if n > 8 {
+    let bytes = id.len();
+    if bytes > 8 {
         return read_u64_le(id, 1);
     }
-    if n == 8 {
-        return read_u64_le(id, 0) / 256;
+    if bytes == 8 {
+        return read_u64_le(id, 0) / BYTE_VALUES;
     }
     short_number(id)
 }
 
-/// The heap offset and the length in a managed ID of a heap with so many bits.
-pub fn decode_managed_id(max_heap_size: u16, id: &[u8]) -> Result<ManagedId, FormatError>
-    ensures { result ≡ decoded_id max_heap_size id.now }
+/// The heap offset and the length in a managed ID, by three numbers of the heap's header: the bits of a heap offset and
+/// the largest direct block, both in the table, and the largest size of a managed object. The offset is in the low bits of
+/// the number in the first eight bytes after byte 0, the length in the bits behind them, in as many bytes as the smaller
+/// of the two sizes needs. What an ID has behind these is not looked at, and of what it lacks the bits are 0.
+///
+/// An empty ID gives 1 with (1, 0), one of another type 6 with the type and 0.
+pub fn decode_managed_id(
+    table: DoublingTable,
+    max_managed_object_size: u32,
+    id: &[u8],
+) -> Result<ManagedId, FormatError>
+    ensures decoded { result ≡ decoded_id table max_managed_object_size id.now }
+    ensures ignores_padding { IgnoresPadding table max_managed_object_size id.now result }
 {
     if id.is_empty() {
         return Err(FormatError::UnexpectedEof {
@@ -98,5 +126,6 @@ pub fn decode_managed_id(max_heap_size: u16, id: &[u8]) -> Result<ManagedId, For
     if kind != 0 {
         return Err(FormatError::InvalidHeapIdType(kind));
     }
-    Ok(split_id(max_heap_size, id.len() - 1, number_behind_type(id)))
+    let length_bytes = length_bytes(table, max_managed_object_size);
+    Ok(split_id(table.max_heap_size, length_bytes, number_behind_type(id)))
 }

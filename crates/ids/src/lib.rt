@@ -7,3 +7,4 @@ pub mod write;
 
 pub use decode::ManagedId;
 pub use decode::types::HeapIdType;
+pub use write::write_managed_id;

@@ -8,7 +8,7 @@ use refusals::FormatError;
 
 // Tests that `len` bytes stand at `start` of an ID, by their end alone: of two 16-bit numbers it never overflows.
 fn ensure_end(id: &[u8], start: u16, len: u16) -> Result<(), FormatError>
-    ensures value { result ≡ len_ensured id.now start len }
+    ensures tested { result ≡ len_ensured id.now start len }
     ensures there { OnOk result (start + len ≤ length id.now) }
 {
     ensure_len(id, 0, usize::from(start) + usize::from(len))
@@ -16,7 +16,7 @@ fn ensure_end(id: &[u8], start: u16, len: u16) -> Result<(), FormatError>
 
 // `len` bytes at `start` of an ID.
 fn tiny_in(id: &[u8], start: u16, len: u16) -> Result<Place, FormatError>
-    ensures value { result ≡ tiny_in id.now start len }
+    ensures read { result ≡ tiny_in id.now start len }
     ensures in_id { IfOk result (λ place. place.position + place.length ≤ length id.now) }
 {
     ensure_end(id, start, len)?;
@@ -28,7 +28,7 @@ fn tiny_in(id: &[u8], start: u16, len: u16) -> Result<Place, FormatError>
 
 /// The tiny object in an ID: where it lies there, and its length. The ID's type is not tested.
 pub fn read_tiny_object(heap_id_length: u16, id: &[u8]) -> Result<Place, FormatError>
-    ensures value { result ≡ tiny_at heap_id_length id.now }
+    ensures found { result ≡ tiny_at heap_id_length id.now }
     ensures in_id { IfOk result (λ place. place.position + place.length ≤ length id.now) }
 {
     if heap_id_length > 17 {

@@ -2,12 +2,11 @@
 //! hold the object's heap offset and two its length.
 mod checks;
 
-ghost use Rattle.std.specs.Prelude.{◌≡◌, ◌^◌, ◌<◌, ◌≤◌, length, Ok, OnOk, OnErr};
+ghost use Rattle.std.specs.Prelude.{◌≡◌, ◌^◌, ◌<◌, ◌≤◌, length, OnOk, OnErr};
 ghost use Rattle.fields.specs.LittleEndian.{le, put};
 ghost use Rattle.table.specs.Table.{fixed};
 ghost use Rattle.ids.specs.Checks.{id_checked};
-ghost use Rattle.ids.specs.Decoded.{decoded_id};
-ghost use Rattle.ids.specs.Written.{managed_id};
+ghost use Rattle.ids.specs.Written.{managed_id, IdReadsBack};
 
 use crate::write::checks::check_id;
 use refusals::FormatError;
@@ -52,8 +51,7 @@ fn put_eight(id: &mut [u8], number: u64)
 pub fn write_managed_id(offset: u64, size: u64, id: &mut [u8]) -> Result<(), FormatError>
     ensures answer { result ≡ id_checked fixed offset size (length id.old) }
     ensures written { OnOk result (id.new ≡ put id.old 0 (managed_id fixed offset size)) }
-    ensures reads_back { OnOk result (decoded_id fixed.heap_bits (managed_id fixed offset size)
-        ≡ Ok (record { offset = offset; length = size })) }
+    ensures reads_back { OnOk result (IdReadsBack offset size) }
     ensures untouched { OnErr result (id.new ≡ id.old) }
 {
     check_id(offset, size, id.len())?;

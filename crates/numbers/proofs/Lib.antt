@@ -1,3 +1,4 @@
 pub mod Saturating
 pub mod Log2
 pub mod Sums
+pub mod Bytes

@@ -27,12 +27,6 @@ module _ (limit x : ℕ) where
 
 module _ (t : Table) (w x : ℕ) where
   -- the object is placed
-  pub run-snoc : (xs : List ℕ) (s s₁ s₂ : State) (i o : ℕ) → run_from t w s xs i ≡ Ok s₁
-      → step_of t w s₁ x ≡ Some (s₂, o) → run_from t w s (xs ++ (x ∷ [])) i ≡ Ok s₂
-  unfolding run_from
-  run-snoc [] s s₁ s₂ i o e f = grind arith
-  run-snoc (y ∷ ys) s s₁ s₂ i o e f = grind (arith, λ (s' : State). run-snoc ys s' s₁ s₂ (suc i) o)
-
   pub offsets-snoc : (xs : List ℕ) (s s₁ s₂ : State) (i o : ℕ) → run_from t w s xs i ≡ Ok s₁
       → step_of t w s₁ x ≡ Some (s₂, o)
       → offsets_from t w s (xs ++ (x ∷ [])) ≡ offsets_from t w s xs ++ (o ∷ [])

@@ -1,5 +1,5 @@
-//! A plan that stays open: it is advanced in place by one size at a time, and each object has its heap offset at once, so
-//! that whoever loads a run need not keep the sizes.
+//! A plan that stays open: it is advanced in place by one size at a time, and each object has its heap offset at once,
+//! so that whoever loads objects one after another need not keep their sizes.
 #![tactic(auto)]
 
 ghost use Rattle.std.specs.Prelude.{◌≡◌, ℕ, ◌+◌, ◌≤◌, ◌↔◌, true, max, List, [], length, Ok, Err};
@@ -17,8 +17,8 @@ use planner::Planner;
 use refusals::FormatError;
 use table::block_sizes::max_managed_object;
 
-/// A plan that objects are added to one by one. As opening and additions leave it, it is the plan of the accepted sizes,
-/// in their order; its fields are public for C alone.
+/// A plan that objects are added to one by one. As opening and additions leave it, it is the plan of the accepted
+/// sizes, in their order; its fields are public for C alone.
 //
 // `planner` is the plan under way; its block's end stands for a cursor. The count is what the planner does not keep: it
 // is the index by which a refusal names the object.
@@ -56,8 +56,8 @@ impl OpenPlan {
     }
 
     /// Adds an object of `size` bytes: its heap offset. A size above the largest gives 11, one that no slot is left for
-    /// gives 12, both with the number of accepted objects as the object's index; then nothing changes, and a smaller size
-    /// may follow.
+    /// gives 12, both with the number of accepted objects as the object's index; then nothing changes, and a smaller
+    /// size may follow.
     pub fn add(&mut self, size: u64) -> Result<u64, FormatError>
         ensures accepted { IfOk result (λ offset.
             addition self.old.planner.offset_size self.old.planner.state self.old.objects size
@@ -66,7 +66,7 @@ impl OpenPlan {
         ensures refused { IfErr result (λ refusal.
             addition self.old.planner.offset_size self.old.planner.state self.old.objects size
             ≡ Err refusal) }
-        ensures kept { OnErr result (self.new ≡ self.old) }
+        ensures unchanged { OnErr result (self.new ≡ self.old) }
         ensures width { self.new.planner.offset_size ≡ self.old.planner.offset_size }
 
         // the theorem: the plan is that of the accepted sizes in one list
@@ -96,13 +96,14 @@ impl OpenPlan {
 
     /// What the heap header says of the objects that were accepted so far.
     pub fn totals(&self) -> ManagedPlan
-        ensures value { result ≡ totals fixed self.now.planner.offset_size
+        ensures of_state { result ≡ totals fixed self.now.planner.offset_size
             (end_state fixed self.now.planner.offset_size self.now.planner.state) }
         ensures planned { (sizes : List ℕ)
             → IsPlanOf self.now.planner.offset_size self.now.planner.state self.now.objects sizes
             → (offset_places block_places : ℕ)
             → length sizes ≤ offset_places → max 1 (length sizes) ≤ block_places
-            → planned_for sizes offset_places block_places self.now.planner.offset_size ≡ Ok result }
+            → planned_for sizes offset_places block_places self.now.planner.offset_size
+            ≡ Ok result }
     {
         ManagedPlan::of(&self.planner)
     }

@@ -14,7 +14,7 @@ use Rattle.plan.specs.Answer.{totals, ran_plan, planned_for}
 pub record Went (w : ℕ) (xs : List ℕ) (p : ManagedPlan) : Type 0 where
   pub state : State
   pub ran : run fixed w xs ≡ Ok state
-  pub totals-is : p ≡ totals fixed w (end_state fixed w state)
+  pub totals_is : p ≡ totals fixed w (end_state fixed w state)
 
 module _ (xs : List ℕ) (o b w : ℕ) where
   -- an accepted list passed the tests, and planning went through
@@ -23,7 +23,7 @@ module _ (xs : List ℕ) (o b w : ℕ) where
   accepted p e = (passing xs o b w (grind arith), go (run fixed w xs) refl)
     where
       go : (r : Result State ℕ) → run fixed w xs ≡ r → Went w xs p
-      go (Ok s) q = record { state = s; ran = q; totals-is = grind arith }
+      go (Ok s) q = record { state = s; ran = q; totals_is = grind arith }
       go (Err i) q = absurd (grind arith)
 
   -- and back, with the answer of each run

@@ -56,14 +56,11 @@ pub record Passing (xs : List ℕ) (o b w : ℕ) : Type 0 where
 
 module _ (xs : List ℕ) (o b w : ℕ) where
   pub passing : input_checked xs o b w ≡ Ok tt → Passing xs o b w
-  unfolding input_checked
   passing e = grind (arith, nat_tests)
 
   pub passed : Passing xs o b w → input_checked xs o b w ≡ Ok tt
-  unfolding input_checked
   passed P = grind (arith, nat_tests)
 
   -- no test before planning says so
   pub tests-other : (i : ℕ) → input_checked xs o b w ≡ Err (HeapSpaceExhausted i) → ⊥
-  unfolding input_checked
   tests-other i e = grind (arith, nat_tests, sizes_other (max_managed fixed w) 0 xs i)

@@ -84,10 +84,16 @@ module _ (t : Table) (h : ℕ) (g : t.start_bits ≤ t.direct_bits) (k : t.start
   -- no rows
   span-bare : Span t h 0 (2 ^ t.start_bits) (2 ^ t.start_bits - h)
   span-bare = record {
-    inside = λ x B. grind (arith, nat_tests, B.slot.0, B.slot.1, B.from, B.to, first_body t h g x k);
+    inside = λ x B. grind (arith, nat_tests, B.slot.0, B.slot.1, B.past_header, B.before_end, first_body t h g x k);
     back = λ x u e.
         let l : h ≤ x = grind (arith, nat_tests, first_body t h g x k u) in
-        record { start = 0; size = 2 ^ t.start_bits; slot = (refl, refl); from = omega arith; to = omega arith };
+        record {
+          start = 0;
+          size = 2 ^ t.start_bits;
+          slot = (refl, refl);
+          past_header = omega arith;
+          before_end = omega arith;
+        };
     holds = first-bodies t h g k;
   }
 

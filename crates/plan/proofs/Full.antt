@@ -73,27 +73,26 @@ module _ (t : Table) (g : t.start_bits ≤ t.direct_bits) (k : t.start_bits ≤ 
     (I : Sane t w s) where
   -- x bytes fit neither the current block nor a slot after it
   record Nowhere : Type 0 where
-    not-here : s.size < s.fill + x
+    not_here : s.size < s.fill + x
     nowhere : (c z : ℕ) → SlotOf t c z → block_end s ≤ c → z < direct_header t w + x
 
   -- a step ends exactly there
   step-ends : step_of t w s x ≡ None → Nowhere
-  unfolding step_of
   step-ends e =
       let none : open_at t (direct_header t w + x) (block_end s) ≡ None = grind (arith, nat_tests) in
       record {
-        not-here = grind (arith, nat_tests);
+        not_here = grind (arith, nat_tests);
         nowhere = λ c z S l.
-            grind (arith, full-none t g k (direct_header t w + x) (block_end s) I.next-slot none c S.starts l S.inside);
+            grind (arith, full-none t g k (direct_header t w + x) (block_end s) I.next_slot none c S.starts l S.inside);
       }
 
   ends-step : Nowhere → step_of t w s x ≡ None
-  ends-step N = step-open t w s x N.not-here
+  ends-step N = step-open t w s x N.not_here
       ∙ ap (opened t w s x) (go (open_at t (direct_header t w + x) (block_end s)) refl)
     where
       go : (v : Option Slot) → open_at t (direct_header t w + x) (block_end s) ≡ v → v ≡ None
       go (Some b) q =
-          let F = open-found t g k (direct_header t w + x) (block_end s) I.next-slot b q in
+          let F = open-found t g k (direct_header t w + x) (block_end s) I.next_slot b q in
           absurd (grind (
             arith,
             N.nowhere b.start b.size
@@ -103,10 +102,6 @@ module _ (t : Table) (g : t.start_bits ≤ t.direct_bits) (k : t.start_bits ≤ 
       go None q = refl
 
 -- ---- the fixed table
-
-run_is : (w : ℕ) (xs : List ℕ) → run fixed w xs ≡ run_from fixed w (initial fixed w) xs 0
-unfolding run
-run_is w xs = refl
 
 ok-after : (w : ℕ) (xs : List ℕ) (s : State) → run fixed w xs ≡ Ok s → Sane fixed w s
 ok-after w xs s e = still-ok (ran-ok w) (ran-laid w xs s e)
@@ -119,17 +114,16 @@ ends-iff-none-fits xs o b w i = (only, always)
     only : planned_for xs o b w ≡ Err (HeapSpaceExhausted i) → (input_checked xs o b w ≡ Ok tt) × NoSlotFits w xs i
     only e =
         let E = ended xs o b w i e in
-        let R = stopped fixed w xs (initial fixed w) 0 i (sym (run_is w xs) ∙ E.1) in
+        let R = stopped fixed w xs (initial fixed w) 0 i E.1 in
         let S = subst (Stopped fixed w (initial fixed w) xs 0) (sym (R.1 ∙ zero-add R.0)) R.2 in
-        let before : run fixed w (take i xs) ≡ Ok S.state = run_is w (take i xs) ∙ S.before in
-        let sane = ok-after w (take i xs) S.state before in
+        let sane = ok-after w (take i xs) S.state S.before in
         let N = step-ends fixed (omega arith) (omega arith) w S.state (slice_index xs i) sane S.ends in (
           E.0,
           record {
             is_object = S.object;
             state = S.state;
-            state_before = before;
-            not_in_block = N.not-here;
+            state_before = S.before;
+            not_in_block = N.not_here;
             not_in_later = λ c z D l. N.nowhere c z (fixed-slot D) l;
           },
         )
@@ -140,8 +134,8 @@ ends-iff-none-fits xs o b w i = (only, always)
         let S : Stopped fixed w (initial fixed w) xs 0 i = record {
           object = N.is_object;
           state = N.state;
-          before = sym (run_is w (take i xs)) ∙ N.state_before;
+          before = N.state_before;
           ends = ends-step fixed (omega arith) (omega arith) w N.state (slice_index xs i) sane
-              (record { not-here = N.not_in_block; nowhere = λ c z S l. N.not_in_later c z (slot-fixed S) l });
+              (record { not_here = N.not_in_block; nowhere = λ c z S l. N.not_in_later c z (slot-fixed S) l });
         } in
-        answers xs o b w (Err i) c (run_is w xs ∙ stops fixed w xs (initial fixed w) 0 i S ∙ ap Err (zero-add i))
+        answers xs o b w (Err i) c (stops fixed w xs (initial fixed w) 0 i S ∙ ap Err (zero-add i))

@@ -151,13 +151,9 @@ pub record Blocks (t : Table) (w : ℕ) (bs : List ℕ) (s' : State) : Type 0 wh
   pub last : slice_index bs n ≡ s'.start
   pub only : s'.start ≡ 0 → bs ≡ 0 ∷ []
 
-header-pos : (t : Table) (w : ℕ) → 0 < direct_header t w
-unfolding direct_header
-header-pos t w = omega arith
-
 -- before the first block nothing fits, so the first object opens one
 not_same : (t : Table) (w : ℕ) {s₁ : State} {x o : ℕ} → Placing t w (initial t w) x s₁ o → Same (initial t w) s₁ o → ⊥
-not_same t w P n = omega (arith, header-pos t w, P.to, P.within, n.place, n.start_is, n.size_is)
+not_same t w P n = omega (arith, P.to, P.within, n.place, n.start_is, n.size_is)
 
 module _ {t : Table} {w : ℕ} where
   -- each object lies in the body of a block that opened
@@ -178,7 +174,7 @@ module _ {t : Table} {w : ℕ} where
         many = refl;
         counted = grind (arith, count-starts L);
         last = last-start L;
-        only = λ z. grind (arith, B, later-start L, header-pos t w);
+        only = λ z. grind (arith, B, later-start L);
       }
 
 -- ---- the fixed table
@@ -186,7 +182,6 @@ module _ {t : Table} {w : ℕ} where
 -- the blocks of the whole list, where it has an object
 pub starts-some : (w : ℕ) (xs : List ℕ) → 0 < length xs
     → plan_starts fixed w xs ≡ starts_from fixed w (initial fixed w) xs
-unfolding plan_starts
 starts-some w [] l = absurd (omega arith)
 starts-some w (x ∷ xs) l = refl
 
@@ -196,5 +191,4 @@ ran-ok w = ok-initial fixed w (omega arith)
 -- a whole run that ends well
 pub ran-laid : (w : ℕ) (xs : List ℕ) (s : State) → run fixed w xs ≡ Ok s
     → Laid fixed w (initial fixed w) xs (plan_offsets fixed w xs) (starts_from fixed w (initial fixed w) xs) s
-unfolding run plan_offsets
 ran-laid w xs s e = laid fixed (omega arith) (omega arith) w xs (initial fixed w) 0 s (ran-ok w) e

@@ -4,7 +4,6 @@ use Rattle.fields.proofs.Widths.{legal-small}
 use Rattle.table.specs.Table.{fixed}
 use Rattle.table.specs.Slots.{Direct}
 use Rattle.table.specs.Sizes.{direct_header}
-use Rattle.table.proofs.Sizes.{header_is}
 use Rattle.table_laws.proofs.Format.{slot-least, slots-meet, fixed-slot, slot-fixed}
 use Rattle.plan.specs.declared.ManagedPlan.{ManagedPlan}
 use Rattle.planner.specs.Steps.{plan_offsets}
@@ -58,7 +57,6 @@ module _ (xs : List ℕ) (o b w : ℕ) (p : ManagedPlan) (e : planned_for xs o b
       let S = fixed-slot D in
       grind (
         arith,
-        header_is w,
         legal-small w (accepted xs o b w p e).0.width,
         slot-least fixed (omega arith) S,
         slots-meet fixed (omega arith) x (omega arith) S (fixed-slot B.slot),

@@ -7,11 +7,10 @@ use Rattle.std.proofs.Props.{props}
 use Rattle.std.proofs.lemmas.Bool.Decides.{nat_tests}
 use Rattle.table.specs.Table.{fixed, row_offset, row_of}
 use Rattle.table.specs.Slots.{slot_at}
-use Rattle.table.specs.Sizes.{offset_bytes, direct_header}
+use Rattle.table.specs.Sizes.{direct_header}
 use Rattle.table.proofs.Rows.{row-mono, row_up, row-29, heap-rows}
 use Rattle.table.proofs.RootRows.{covers}
 use Rattle.table.proofs.Slots.{Start}
-use Rattle.table.proofs.Capacity.{header-small}
 use Rattle.table_laws.specs.Count.{count}
 use Rattle.table_laws.proofs.Counting.{count_add, count-all}
 use Rattle.table_laws.proofs.Format.{in_body, slot-body}
@@ -82,7 +81,6 @@ module _ (w : ℕ) (l : w ≤ 255) where
       )
 
   roomy : (xs : List ℕ) (s : State) → run fixed w xs ≡ Ok s → Roomy w s
-  unfolding run
   roomy xs s e = roomy-from xs (initial fixed w) 0 s (record { sound = sound-initial w; room = omega arith }) e
 
 -- ---- the root's rows
@@ -114,14 +112,12 @@ reach e p l n =
 
 module _ (w : ℕ) (l : w ≤ 255) (s : State) where
   one-totalled : Totalled w (one_block fixed w)
-  unfolding direct_header offset_bytes
   one-totalled = grind arith
 
   some-totalled : (s.count ≡ 0 → ⊥) → Roomy w s → Totalled w s
   some-totalled n R =
       let I = R.sound.ok in
       let p : 0 < block_end s = omega (arith, I.taken, I.blocks) in
-      let hs = header-small w l in
       record {
         block_placed = p;
         bounded = sound-bounded w s l R.sound;
@@ -129,7 +125,7 @@ module _ (w : ℕ) (l : w ≤ 255) (s : State) where
         fits_rows = λ e.
             let T = reach (block_end s) p I.heap e in
             let f : row_offset fixed (rows_of_root fixed (block_end s)) ≤ 2 ^ 40 =
-            unfold row_offset in row-mono fixed (rows_of_root fixed (block_end s)) 29 T.most in
+            row-mono fixed (rows_of_root fixed (block_end s)) 29 T.most in
             omega (
               arith,
               R.room,
@@ -139,7 +135,6 @@ module _ (w : ℕ) (l : w ≤ 255) (s : State) where
       }
 
   pub totalled : (xs : List ℕ) → run fixed w xs ≡ Ok s → Totalled w (end_state fixed w s)
-  unfolding end_state
   totalled xs e =
       elim (cases_eq s.count 0) [
         | inl q ↦ rw (eq-eqb s.count 0 q, end_state) one-totalled

@@ -4,11 +4,10 @@ use Rattle.std.proofs.Common.{inl, inr, ⊎_elim, arith}
 use Rattle.std.proofs.lemmas.Bool.{cases_eq}
 use Rattle.std.proofs.lemmas.Bool.Decides.{nat_tests}
 use Rattle.fields.proofs.Widths.{legal-small}
-use Rattle.table.specs.Table.{fixed, row_bits, row_offset, row_in, row_of}
-use Rattle.table.specs.Slots.{Direct, slot_bits_in, slot_bits, slot_at}
+use Rattle.table.specs.Table.{fixed, row_offset, row_in, row_of}
+use Rattle.table.specs.Slots.{Direct, slot_bits_in, slot_at}
 use Rattle.table.specs.Sizes.{direct_header}
 use Rattle.table.specs.Capacity.{capacity}
-use Rattle.table.proofs.Sizes.{header_is}
 use Rattle.table.proofs.Rows.{row-lo, row_up, row-mono, row-29, heap-rows}
 use Rattle.table_laws.proofs.Format.{slot-least, fixed-slot, slot-fixed}
 use Rattle.planner.specs.declared.State.{State}
@@ -26,11 +25,9 @@ use Rattle.plan.proofs.Laying.{filled_to, Blocks, blocks, still-ok, starts-some,
 
 module _ (w : ℕ) (s : State) where
   totals-bare : block_end s ≡ 1024 → totals fixed w s ≡ bare_totals fixed w s
-  unfolding totals
   totals-bare h = grind (arith, nat_tests, no_rows (block_end s) h)
 
   totals-rows : (n : ℕ) → rows_of_root fixed (block_end s) ≡ suc n → totals fixed w s ≡ row_totals fixed w s (suc n)
-  unfolding totals
   totals-rows n e = grind (arith, nat_tests)
 
 -- ---- the two shapes of a root
@@ -59,15 +56,13 @@ pub record Rowed (w : ℕ) (xs : List ℕ) (p : ManagedPlan) (s : State) : Type 
 
 -- nothing ran
 empty-state : (w : ℕ) (s : State) → run fixed w [] ≡ Ok s → initial fixed w ≡ s
-unfolding run run_from
+unfolding run_from
 empty-state w s e = cc
 
 closed_none : (w : ℕ) → end_state fixed w (initial fixed w) ≡ one_block fixed w
-unfolding end_state
 closed_none w = refl
 
 pub starts_none : (w : ℕ) → plan_starts fixed w [] ≡ 0 ∷ []
-unfolding plan_starts
 starts_none w = refl
 
 shape-none : (w : ℕ) (p : ManagedPlan) → w ≤ 8 → (went : Went w [] p) → Bare w [] p went.state
@@ -78,7 +73,6 @@ shape-none w p l went =
       closed_none w,
       starts_none w,
       totals-bare w (one_block fixed w),
-      header_is w,
     )
 
 -- ---- some objects
@@ -90,7 +84,6 @@ module _ (w x : ℕ) (xs : List ℕ) (p : ManagedPlan) (s : State) (ran : run fi
 
   -- some block is placed, so the totals are those of the last state
   totals-some : p ≡ totals fixed w s
-  unfolding end_state
   totals-some = grind (arith, nat_tests, placed.counted)
 
   least : 1024 ≤ s.size
@@ -127,7 +120,7 @@ module _ (w x : ℕ) (xs : List ℕ) (p : ManagedPlan) (s : State) (ran : run fi
           fewer_do_not = λ j k. omega (arith, row-mono fixed j n (omega arith));
         };
         other = λ z. h (sym iterator ∙ z);
-        heap = unfold row_offset in row-mono fixed (suc n) 29 n29;
+        heap = row-mono fixed (suc n) 29 n29;
         inside = omega arith;
       }
 
@@ -138,12 +131,12 @@ module _ (w x : ℕ) (xs : List ℕ) (p : ManagedPlan) (s : State) (ran : run fi
 pub shape : (w : ℕ) (xs : List ℕ) (p : ManagedPlan) → w ≤ 8 → (G : Went w xs p)
     → Bare w xs p G.state ⊎ Rowed w xs p G.state
 shape w [] p l G = inl (shape-none w p l G)
-shape w (x ∷ xs) p l G = shape-some w x xs p G.state G.ran G.totals-is
+shape w (x ∷ xs) p l G = shape-some w x xs p G.state G.ran G.totals_is
 
 -- ---- the root of an accepted plan
 
 slot-zero : (slot_at fixed 0).size ≡ 1024
-unfolding slot_at slot_bits slot_bits_in row_of row_in row_offset row_bits
+unfolding slot_bits_in row_in
 slot-zero = refl
 
 first_slot : Direct fixed 29 0 1024

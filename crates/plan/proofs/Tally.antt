@@ -1,8 +1,8 @@
 -- How many offsets and blocks a plan has, and how large its blocks are together.
 use Rattle.std.proofs.Common.{◌≡◌, ℕ, suc, ◌+◌, ◌⊎◌, List, [], ◌∷◌, length, Ok, refl, ap, arith}
 use Rattle.std.proofs.lemmas.Bool.Decides.{nat_tests}
-use Rattle.table.specs.Table.{fixed, row_bits, row_offset, row_in, row_of}
-use Rattle.table.specs.Slots.{slot_bits_in, slot_bits, slot_at}
+use Rattle.table.specs.Table.{fixed, row_in}
+use Rattle.table.specs.Slots.{slot_bits_in}
 use Rattle.planner.specs.declared.State.{State}
 use Rattle.plan.specs.declared.ManagedPlan.{ManagedPlan}
 use Rattle.planner.specs.Steps.{run, run_from, plan_starts}
@@ -27,15 +27,15 @@ allocated-laid (new P n L) = omega (arith, allocated-laid L, n.allocated-is, n.s
 
 -- the state at the end counts the placed blocks and their sizes
 pub record Counted (w : ℕ) (xs : List ℕ) (s : State) : Type 0 where
-  pub count-is : s.count ≡ length (plan_starts fixed w xs)
-  pub sizes-are : s.allocated ≡ sizes_at fixed (plan_starts fixed w xs)
+  pub count_is : s.count ≡ length (plan_starts fixed w xs)
+  pub sizes_are : s.allocated ≡ sizes_at fixed (plan_starts fixed w xs)
 
 one_size : sizes_at fixed (0 ∷ []) ≡ 1024
-unfolding sizes_at slot_at slot_bits slot_bits_in row_of row_in row_offset row_bits
+unfolding sizes_at slot_bits_in row_in
 one_size = refl
 
 pub counted : (w : ℕ) (xs : List ℕ) (s : State) → run fixed w xs ≡ Ok s → Counted w xs (end_state fixed w s)
-unfolding end_state run run_from plan_starts
+unfolding run_from
 counted w [] s e = grind (arith, nat_tests, one_size)
 counted w (x ∷ xs) s e =
     let L = ran-laid w (x ∷ xs) s e in
@@ -53,7 +53,6 @@ totals-count : (w : ℕ) (s : State)
     → (((totals fixed w s).root_rows ≡ 0) × ((totals fixed w s).block_count ≡ 1)
     × ((totals fixed w s).allocated_space ≡ 1024))
     ⊎ (((totals fixed w s).block_count ≡ s.count) × ((totals fixed w s).allocated_space ≡ s.allocated))
-unfolding totals
 totals-count w s = grind (arith, nat_tests)
 
 -- every object has an offset; the block count and the allocated space are those of the placed blocks

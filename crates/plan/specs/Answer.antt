@@ -1,8 +1,9 @@
--- The answer of planning: the tests and then the run, the totals of the state at its end, and what the lent lists hold
--- after the call. HDF5 File Format Specification 3.0, III.G, 'Fractal Heap Header': root_rows is Current # of Rows in
--- Root Indirect Block, managed_space Amount of Managed Space in Heap, allocated_space Amount of Allocated Managed Space
--- in Heap, free_space Amount of Free Space in Managed Blocks, allocation_iterator Offset of Direct Block Allocation
--- Iterator in Managed Space. Free space and the iterator of a direct root are our rules (docs/DIFFERENCES.md).
+-- The answer of planning: the tests and then the run, the totals of the state at its end, and what
+-- the lent lists hold after the call. HDF5 File Format Specification 3.0, III.G, 'Fractal Heap
+-- Header': root_rows is Current # of Rows in Root Indirect Block, managed_space Amount of Managed
+-- Space in Heap, allocated_space Amount of Allocated Managed Space in Heap, free_space Amount of
+-- Free Space in Managed Blocks, allocation_iterator Offset of Direct Block Allocation Iterator in
+-- Managed Space. Free space and the iterator of a direct root are our rules (docs/DIFFERENCES.md).
 --
 -- An address has offset_size bytes; the state is that at the end.
 use Rattle.std.specs.Prelude.{ℕ, ◌+◌, ◌-◌, ◌==◌, if◌then◌else◌, List, [], ◌∷◌, Result, Ok, Err}
@@ -33,8 +34,8 @@ bare_totals table offset_size state = record {
   allocation_iterator = 0;
 }
 
--- the root is an indirect block of so many rows. In the region all other indirect blocks come before it, and the direct
--- blocks after it
+-- the root is an indirect block of so many rows. In the region all other indirect blocks come
+-- before it, and the direct blocks after it
 abbrev pub row_totals : (table : Table) (offset_size : ℕ) (state : State) (rows : ℕ) → ManagedPlan
 row_totals table offset_size state rows = record {
   block_count = state.count;
@@ -48,7 +49,7 @@ row_totals table offset_size state rows = record {
 }
 
 -- one of the two, by the root's rows
-unfoldable pub totals : (table : Table) (offset_size : ℕ) (state : State) → ManagedPlan
+abbrev pub totals : (table : Table) (offset_size : ℕ) (state : State) → ManagedPlan
 totals table offset_size state =
     if rows_of_root table (block_end state) == 0
     then bare_totals table offset_size state
@@ -59,8 +60,10 @@ abbrev pub ran_plan : (offset_size : ℕ) → Result State ℕ → Result Manage
 ran_plan offset_size (Ok state) = Ok (totals fixed offset_size (end_state fixed offset_size state))
 ran_plan offset_size (Err index) = Err (HeapSpaceExhausted index)
 
--- the answer for these sizes, and lists of so many places for offsets and blocks: 12 after the tests
-unfoldable pub planned_for : (sizes : List ℕ) (offsets blocks offset_size : ℕ) → Result ManagedPlan FormatError
+-- the answer for these sizes, and lists of so many places for offsets and blocks: 12 after the
+-- tests
+unfoldable pub planned_for : (sizes : List ℕ) (offsets blocks offset_size : ℕ)
+    → Result ManagedPlan FormatError
 planned_for sizes offsets blocks offset_size = do
   _ ← input_checked sizes offsets blocks offset_size
   ran_plan offset_size (run fixed offset_size sizes)
@@ -81,7 +84,8 @@ abbrev pub planned_values : Result ManagedPlan FormatError → List ℕ
 planned_values (Ok plan) = numbers plan
 planned_values (Err error) = (refusal error).first ∷ (refusal error).second ∷ []
 
--- what a lent list holds after the call: new numbers in front where the plan is accepted, else what it held
+-- what a lent list holds after the call: new numbers in front where the plan is accepted, else what
+-- it held
 abbrev pub list_after : Result ManagedPlan FormatError → (new old : List ℕ) → List ℕ
 list_after (Ok plan) new old = put old 0 new
 list_after (Err error) new old = old

@@ -3,7 +3,8 @@ use Rattle.std.specs.Prelude.{ℕ, suc, max, List, [], ◌∷◌, length, nat_le
 use Rattle.fields.specs.Widths.{legal}
 use Rattle.refusals.specs.Steps.{◌>>=◌, required}
 use Rattle.refusals.specs.declared.FormatError.{FormatError}
-use Rattle.refusals.specs.declared.FormatError.TheVariants.{InvalidOffsetSize, ObjectTooLarge, SliceTooShort}
+use Rattle.refusals.specs.declared.FormatError.TheVariants.{InvalidOffsetSize, ObjectTooLarge}
+use Rattle.refusals.specs.declared.FormatError.TheVariants.{SliceTooShort}
 use Rattle.table.specs.Table.{fixed}
 use Rattle.table.specs.Sizes.{max_managed}
 
@@ -22,9 +23,10 @@ places_checked needed lent = required (nat_le needed lent) (SliceTooShort needed
 abbrev pub width_checked : (offset_size : ℕ) → Result (Unit {0}) FormatError
 width_checked offset_size = required (legal offset_size) (InvalidOffsetSize offset_size)
 
--- the tests before any planning, for lists of so many places for offsets and blocks: 2, 13 offsets, 13 blocks, 11.
--- Without objects there is still one block
-unfoldable pub input_checked : (sizes : List ℕ) (offsets blocks offset_size : ℕ) → Result (Unit {0}) FormatError
+-- the tests before any planning, for lists of so many places for offsets and blocks: 2, 13 offsets,
+-- 13 blocks, 11. Without objects there is still one block
+abbrev pub input_checked : (sizes : List ℕ) (offsets blocks offset_size : ℕ)
+    → Result (Unit {0}) FormatError
 input_checked sizes offsets blocks offset_size = do
   _ ← width_checked offset_size
   _ ← places_checked (length sizes) offsets

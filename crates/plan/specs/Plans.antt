@@ -1,6 +1,7 @@
 -- What the theorems say of a plan. The objects have these sizes, in bytes, and addresses
 -- offset_size bytes.
-use Rattle.std.specs.Prelude.{ℕ, ◌+◌, ◌≤◌, ◌<◌, ◌≡◌, ◌↔◌, max, Bool, true, List, [], ◌∷◌, ◌++◌, length, take}
+use Rattle.std.specs.Prelude.{ℕ, ◌+◌, ◌≤◌, ◌<◌, ◌≡◌, ◌↔◌, max, Bool, true, List, [], ◌∷◌, ◌++◌}
+use Rattle.std.specs.Prelude.{length, take}
 use Rattle.std.specs.Prelude.{slice_index, Ok, Err}
 use Rattle.refusals.specs.declared.FormatError.TheVariants.{HeapSpaceExhausted}
 use Rattle.table.specs.Table.{Table, fixed, starting_size, row_offset, max_rows}
@@ -56,7 +57,8 @@ pub record InPlacedBlock (offset_size : ℕ) (sizes : List ℕ) (i : ℕ) : Type
 
 -- the heap offset x lies in the body of a direct slot of the managed space of a heap with so many
 -- root rows, past its header, and in no object
-pub record FreeByte (table : Table) (header rows : ℕ) (offsets sizes : List ℕ) (x : ℕ) : Type 0 where
+pub record FreeByte (table : Table) (header rows : ℕ) (offsets sizes : List ℕ) (x : ℕ)
+    : Type 0 where
   pub in_body : InBody table header rows x
   pub in_no_object : (i : ℕ) → InObject offsets sizes i x → ⊥
 
@@ -90,7 +92,8 @@ pub record PlanKept (sizes : List ℕ) (offset_size : ℕ) (plan : ManagedPlan) 
   pub in_a_body : (i : ℕ) → i < length sizes → InPlacedBlock offset_size sizes i
   -- none has a byte in a block header
   pub no_header_touched : (i x : ℕ) → InPlannedObject offset_size sizes i x → (start size : ℕ)
-      → Direct fixed (max_rows fixed) start size → start ≤ x → x < start + direct_header fixed offset_size → ⊥
+      → Direct fixed (max_rows fixed) start size → start ≤ x
+      → x < start + direct_header fixed offset_size → ⊥
   -- the free space is the number of heap offsets in bodies and in no object
   pub free_space : FreeCounted offset_size sizes plan
 
@@ -108,8 +111,8 @@ pub record NoSlotFits (offset_size : ℕ) (sizes : List ℕ) (i : ℕ) : Type 0 
   pub state : State
   pub state_before : run fixed offset_size (take i sizes) ≡ Ok state
   pub not_in_block : state.size < state.fill + slice_index sizes i
-  pub not_in_later : (start size : ℕ) → Direct fixed (max_rows fixed) start size → block_end state ≤ start
-      → size < direct_header fixed offset_size + slice_index sizes i
+  pub not_in_later : (start size : ℕ) → Direct fixed (max_rows fixed) start size
+      → block_end state ≤ start → size < direct_header fixed offset_size + slice_index sizes i
 
 -- the answer is 12 at the i-th object exactly if the tests before pass and no slot that is left
 -- fits it

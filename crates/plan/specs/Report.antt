@@ -1,6 +1,8 @@
 -- What the C functions for planning and writing hand back: the answer in a list of totals.
 use Rattle.std.specs.Prelude.{ℕ, List, length, nat_lt, if◌then◌else◌, Result}
+use Rattle.refusals.specs.Refusals.{refusal}
 use Rattle.refusals.specs.declared.FormatError.{FormatError}
+use Rattle.refusals.specs.declared.FormatError.TheVariants.{SliceTooShort}
 use Rattle.plan.specs.Answer.{planned_number, planned_values}
 use Rattle.fields.specs.LittleEndian.{put}
 use Rattle.plan.specs.declared.ManagedPlan.{ManagedPlan}
@@ -15,7 +17,11 @@ number_count = 8
 
 -- a list of totals that is too short for them gives 13 before all else
 abbrev pub plan_number : (totals : List ℕ) (answer : Result ManagedPlan FormatError) → ℕ
-plan_number totals answer = if nat_lt (length totals) number_count then 13 else planned_number answer
+plan_number totals answer =
+    if nat_lt (length totals) number_count
+    then (refusal (SliceTooShort number_count (length totals))).number
+    else planned_number answer
 
 abbrev pub plan_totals : (totals : List ℕ) (answer : Result ManagedPlan FormatError) → List ℕ
-plan_totals totals answer = if nat_lt (length totals) number_count then totals else planned_totals totals answer
+plan_totals totals answer =
+    if nat_lt (length totals) number_count then totals else planned_totals totals answer

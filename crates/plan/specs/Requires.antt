@@ -15,4 +15,5 @@ pub record Totalled (offset_size : ℕ) (state : State) : Type 0 where
   pub fits_one_block : block_end state ≡ starting_size fixed
       → direct_header fixed offset_size + state.used ≤ starting_size fixed
   pub fits_rows : (block_end state ≡ starting_size fixed → ⊥)
-      → state.used ≤ capacity fixed (direct_header fixed offset_size) (rows_of_root fixed (block_end state))
+      → state.used
+      ≤ capacity fixed (direct_header fixed offset_size) (rows_of_root fixed (block_end state))

@@ -9,7 +9,6 @@ use table::block_sizes::direct_block_header;
 use table::row_counts::root_rows_covering;
 
 /// The state after the last object. Without objects one block of the starting size is placed, at 0.
-#[tactic(auto, unfolding(crate::specs::End::end_state))]
 pub fn close(state: State, offset_size: u8) -> State
     ensures { result ≡ end_state fixed offset_size state }
 {

@@ -23,6 +23,7 @@ use crate::ending::{close, root_rows};
 use fields::{Width, offset_width};
 use planner::{Counted, Planner, State, Written};
 use refusals::FormatError;
+pub use report::NUMBER_COUNT;
 use table::block_sizes::{direct_block_header, indirect_block_size};
 use table::capacities::{capacity_sum, rows_capacity};
 use table::{STARTING_BLOCK_SIZE, row_offset};
@@ -81,7 +82,7 @@ fn totals(state: State, offset_size: u8) -> ManagedPlan
 
 /// The plan for lists of `offsets` and `blocks` places, or 13, 11 or 12, in this order; nothing is written, so that a
 /// refusal leaves the lists as they were. The writer calls it too.
-#[tactic(auto, unfolding(crate::specs::Answer::planned_for, planner::specs::Steps::run))]
+#[tactic(auto, unfolding(crate::specs::Answer::planned_for))]
 pub fn planned_for(
     sizes: &[u64],
     offsets: usize,
@@ -136,7 +137,7 @@ impl ManagedPlan {
     /// the first that applies, leaves both as they were.
     //
     // The sizes are planned twice: once without touching a list, which gives 12 or the totals, and then to write them.
-    #[tactic(auto, unfolding(crate::specs::Answer::planned_for, crate::specs::Checks::input_checked))]
+    #[tactic(auto, unfolding(crate::specs::Answer::planned_for))]
     pub fn new(
         sizes: &[u64],
         offsets: &mut [u64],

@@ -1,5 +1,5 @@
 -- One object: the step of its definition, from the numbers that the code has.
-use Rattle.std.proofs.Common.{◌≡◌, ℕ, ◌+◌, ◌<◌, IfNone, Some, None, Option, refl, arith}
+use Rattle.std.proofs.Common.{◌≡◌, ℕ, ◌+◌, ◌<◌, Some, None, Option, refl, arith}
 use Rattle.table.specs.Table.{fixed}
 use Rattle.table.specs.Slots.{entered_bytes}
 use Rattle.table.specs.Sizes.{direct_header}
@@ -25,14 +25,6 @@ module _ (w : ℕ) (s : State) (x : ℕ) (full : s.size < s.fill + x) {h : ℕ} 
   pub opens-at : {e : ℕ} {b : Slot} → e ≡ entered_bytes fixed w (block_end s) b.start
       → Some b ≡ open_at fixed (h + x) (block_end s) → step_of fixed w s x ≡ Some (after s x h e b, b.start + h)
   opens-at ei q = grind (arith, step-open fixed w s x full)
-
-  pub opens-none : None ≡ open_at fixed (h + x) (block_end s) → step_of fixed w s x ≡ None
-  opens-none q = grind (arith, step-open fixed w s x full)
-
--- what holds anyway holds where there is no value
-pub if_none : (r : Option ℕ) (P : Type 0) → P → IfNone r P
-if_none None P p = p
-if_none (Some x) P p = tt
 
 -- an object that the current block has no room for opens one block
 pub opens-one : (w : ℕ) (s : State) (x : ℕ) (s' : State) (o : ℕ) → s.size < s.fill + x

@@ -27,10 +27,10 @@ module _ (s : State) (x : ℕ) (xs : List ℕ) where
 -- s' is the state after the first of the sizes xs, which have the offsets os and open no block
 pub record Fill (t : Table) (w : ℕ) (s : State) (xs : List ℕ) (s' : State) (os : List ℕ) : Type 0 where
   pub inside : length os ≤ length xs
-  pub same-run : (ys : List ℕ) (i : ℕ)
+  pub same_run : (ys : List ℕ) (i : ℕ)
       → run_from t w s (take (length os) xs ++ ys) i ≡ run_from t w s' ys (i + length os)
-  pub same-offsets : offsets_from t w s xs ≡ os ++ offsets_from t w s' (drop (length os) xs)
-  pub same-starts : starts_from t w s xs ≡ starts_from t w s' (drop (length os) xs)
+  pub same_offsets : offsets_from t w s xs ≡ os ++ offsets_from t w s' (drop (length os) xs)
+  pub same_starts : starts_from t w s xs ≡ starts_from t w s' (drop (length os) xs)
   pub same_count : s'.count ≡ s.count
   pub stops : length os < length xs → s'.size < s'.fill + slice_index xs (length os)
 
@@ -114,7 +114,7 @@ module _ (w : ℕ) (xs : List ℕ) (s : State) (i : ℕ) (s' : State) (j : ℕ) 
   -- the objects that fit, and any others behind them
   pub run-then : (ys : List ℕ)
       → run_from fixed w s (take (length (fill_offsets s (drop i xs))) (drop i xs) ++ ys) i ≡ run_from fixed w s' ys j
-  run-then ys = grind (arith, (fill fixed w (drop i xs) s).same-run ys i)
+  run-then ys = grind (arith, (fill fixed w (drop i xs) s).same_run ys i)
 
   -- the objects up to the next
   pub take-next : take j xs ≡ take i xs ++ take (length (fill_offsets s (drop i xs))) (drop i xs)
@@ -131,10 +131,10 @@ module _ (w : ℕ) (xs : List ℕ) (s : State) (i : ℕ) (s' : State) (j : ℕ) 
 
   pub offsets-from-next : offsets_from fixed w s (drop i xs)
       ≡ fill_offsets s (drop i xs) ++ offsets_from fixed w s' (drop j xs)
-  offsets-from-next = grind (arith, rest-is, (fill fixed w (drop i xs) s).same-offsets)
+  offsets-from-next = grind (arith, rest-is, (fill fixed w (drop i xs) s).same_offsets)
 
   pub starts-from-next : starts_from fixed w s (drop i xs) ≡ starts_from fixed w s' (drop j xs)
-  starts-from-next = grind (arith, rest-is, (fill fixed w (drop i xs) s).same-starts)
+  starts-from-next = grind (arith, rest-is, (fill fixed w (drop i xs) s).same_starts)
 
   pub count_kept : s'.count ≡ s.count
   count_kept = grind (arith, (fill fixed w (drop i xs) s).same_count)

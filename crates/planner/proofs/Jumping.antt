@@ -28,7 +28,6 @@ module _ (t : Table) (g : t.start_bits ≤ t.direct_bits) (k : t.start_bits ≤ 
   -- a slot that begins before a multiple of 2 ^ e ends at it or before, unless it is as large as 2 ^ e
   slot-before : (c q e : ℕ) → Start t c → c < 2 ^ t.heap_bits → c < q * 2 ^ e → q * 2 ^ e < c + 2 ^ e
       → (slot_bits t c < e) × (slot_end (slot_at t c) ≤ q * 2 ^ e)
-  unfolding slot_at
   slot-before c q e s h l u =
       grind (
         arith,
@@ -41,7 +40,6 @@ module _ (t : Table) (g : t.start_bits ≤ t.direct_bits) (k : t.start_bits ≤ 
   pub jump : (f n e c q : ℕ) → Start t c → q * 2 ^ e ≤ c + f → c ≤ q * 2 ^ e → q * 2 ^ e < c + 2 ^ e
       → q * 2 ^ e ≤ 2 ^ t.heap_bits
       → ((j : ℕ) → n ≤ 2 ^ j → e ≤ j) → open_at t n c ≡ open_at t n (q * 2 ^ e)
-  unfolding slot_at
   jump zero n e c q s a l u w least = grind arith
   jump (suc f) n e c q s a l u w least =
       grind (

@@ -18,7 +18,6 @@ module _ (t : Table) where
 
   -- one slot of the walk: the fuel that is left is enough from the slot's end on
   open-one : (f n c : ℕ) → 2 ^ t.heap_bits ≤ c + suc f → open_at t n c ≡ open_in t (suc f) n c
-  unfolding open_at
   open-one f n c h = open-fuel (2 ^ t.heap_bits - c) (suc f) n c (omega arith) h
 
   pub open-here : (n c : ℕ) → c < 2 ^ t.heap_bits → n ≤ (slot_at t c).size → open_at t n c ≡ Some (slot_at t c)
@@ -27,7 +26,7 @@ module _ (t : Table) where
 
   pub open-pass : (n c : ℕ) → c < 2 ^ t.heap_bits → (slot_at t c).size < n
       → open_at t n c ≡ open_at t n (slot_end (slot_at t c))
-  unfolding open_at open_in
+  unfolding open_in
   open-pass n c h l =
       grind (
         arith,
@@ -64,7 +63,6 @@ module _ (t : Table) (g : t.start_bits ≤ t.direct_bits) (k : t.start_bits ≤ 
       )
 
   pub open-found : (n c : ℕ) → Start t c → (b : Slot) → open_at t n c ≡ Some b → Found n c b
-  unfolding open_at
   open-found n c s b e = open-in-found (2 ^ t.heap_bits - c) n c b s e
 
   full-in : (f n c : ℕ) → 2 ^ t.heap_bits ≤ c + f → Start t c → open_in t f n c ≡ None
@@ -84,5 +82,4 @@ module _ (t : Table) (g : t.start_bits ≤ t.direct_bits) (k : t.start_bits ≤ 
   -- the heap is full for n bytes only if no slot from c on has n bytes
   pub full-none : (n c : ℕ) → Start t c → open_at t n c ≡ None
       → (b : ℕ) → Start t b → c ≤ b → b < 2 ^ t.heap_bits → (slot_at t b).size < n
-  unfolding open_at
   full-none n c s e b r l u = full-in (2 ^ t.heap_bits - c) n c (omega arith) s e b r l u

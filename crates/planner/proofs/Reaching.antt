@@ -4,7 +4,7 @@ use Rattle.std.proofs.Math.Logic.{∥∥₁_elim, ∥∥₁_map}
 use Rattle.std.proofs.Props.{props}
 use Rattle.std.proofs.lemmas.Bool.{cases_lt}
 use Rattle.table.specs.Table.{Table, fixed}
-use Rattle.planner.specs.Steps.{initial, filled, step_of, run_from, run}
+use Rattle.planner.specs.Steps.{initial, filled, step_of, run_from}
 use Rattle.planner.specs.Filling.{fill_state}
 use Rattle.planner.specs.Requires.{Bounded, IsReached}
 use Rattle.planner.specs.declared.State.{State}
@@ -13,7 +13,7 @@ use Rattle.planner.proofs.FillingBlocks.{state-fits, state-full}
 use Rattle.planner.proofs.Running.{Sound, sound-initial, sound-bounded, sound-step}
 
 -- one object more at the end
-run-snoc : (t : Table) (w : ℕ) (xs : List ℕ) (s s₁ s₂ : State) (i x o : ℕ) → run_from t w s xs i ≡ Ok s₁
+pub run-snoc : (t : Table) (w : ℕ) (xs : List ℕ) (s s₁ s₂ : State) (i x o : ℕ) → run_from t w s xs i ≡ Ok s₁
     → step_of t w s₁ x ≡ Some (s₂, o) → run_from t w s (xs ++ (x ∷ [])) i ≡ Ok s₂
 unfolding run_from
 run-snoc t w [] s s₁ s₂ i x o e f = grind arith
@@ -32,7 +32,7 @@ run-sound w l (x ∷ xs) s i s' S e =
 
 -- before the first object
 pub reached-initial : (w : ℕ) → IsReached w (initial fixed w)
-unfolding run run_from
+unfolding run_from
 reached-initial w = ∣ ([], refl) ∣₁
 
 bounded-prop : (s : State) → IsProp (Bounded s)
@@ -41,14 +41,12 @@ bounded-prop s = hlevel props
 module _ (w : ℕ) (s : State) (R : IsReached w s) where
   -- all sums stay within 64 bits
   pub reached-bounded : w ≤ 255 → Bounded s
-  unfolding run
   reached-bounded l =
       ∥∥₁_elim R (bounded-prop s)
       (λ p. sound-bounded w s l (run-sound w l p.0 (initial fixed w) 0 s (sound-initial w) p.1))
 
   -- one object more
   pub reached-step : (x : ℕ) (s' : State) (o : ℕ) → step_of fixed w s x ≡ Some (s', o) → IsReached w s'
-  unfolding run
   reached-step x s' o e =
       ∥∥₁_map R (λ p. (p.0 ++ (x ∷ []), run-snoc fixed w p.0 (initial fixed w) s s' 0 x o p.1 e))
 

@@ -4,7 +4,6 @@ use Rattle.std.proofs.Common.{None, Ok, Err, refl, arith}
 use Rattle.std.proofs.lemmas.Bool.Decides.{nat_tests}
 use Rattle.std.proofs.lemmas.List.{drop_more, drop_all}
 use Rattle.table.specs.Table.{Table, fixed}
-use Rattle.table.specs.Sizes.{offset_bytes, direct_header}
 use Rattle.table.proofs.Locating.{entered-small}
 use Rattle.planner.specs.Steps.{block_end, initial, step_of, run_from, offsets_from, starts_from, run}
 use Rattle.planner.specs.Requires.{Bounded}
@@ -88,7 +87,6 @@ pub sound-initial : (w : ℕ) → Sound w (initial fixed w)
 sound-initial w = record { ok = ok-initial fixed w (omega arith); deep = omega arith }
 
 pub sound-bounded : (w : ℕ) (s : State) → w ≤ 255 → Sound w s → Bounded s
-unfolding direct_header offset_bytes
 sound-bounded w s l S = grind arith
 
 module _ (w : ℕ) (s : State) (x : ℕ) (s' : State) (o : ℕ) (l : w ≤ 255) (S : Sound w s)
@@ -107,7 +105,6 @@ pub record Going (w : ℕ) (xs : List ℕ) (s : State) (i : ℕ) : Type 0 where
   pub rest : run fixed w xs ≡ run_from fixed w s (drop i xs) i
 
 pub going_start : (w : ℕ) (xs : List ℕ) → Going w xs (initial fixed w) 0
-unfolding run
 going_start w xs = record { inside = omega arith; sound = sound-initial w; rest = refl }
 
 module _ (w : ℕ) (xs : List ℕ) (s : State) (i : ℕ) (I : Going w xs s i) where

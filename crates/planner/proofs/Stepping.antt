@@ -4,7 +4,7 @@ use Rattle.std.proofs.Common.{arith, pow_pos}
 use Rattle.std.proofs.lemmas.Bool.Decides.{nat_tests}
 use Rattle.table.specs.Table.{Table, fixed}
 use Rattle.table.specs.Slots.{slot_at, entered_bytes}
-use Rattle.table.specs.Sizes.{offset_bytes, direct_header, max_managed}
+use Rattle.table.specs.Sizes.{direct_header, max_managed}
 use Rattle.table.specs.declared.Slot.{Slot}
 use Rattle.table.proofs.Slots.{Start, top_start, end-le, start-next}
 use Rattle.table_laws.proofs.Format.{slot-least}
@@ -16,7 +16,7 @@ use Rattle.planner.proofs.Opening.{Found, open-found}
 -- a state that planning can reach; before the first block `fill` is past the block of no bytes
 pub record Sane (t : Table) (w : ℕ) (s : State) : Type 0 where
   pub heap : block_end s ≤ 2 ^ t.heap_bits
-  pub next-slot : Start t (block_end s)
+  pub next_slot : Start t (block_end s)
   pub fits : s.fill ≤ s.size + direct_header t w
   pub spent : s.used + (s.size - s.fill) ≤ s.allocated
   pub taken : s.allocated ≤ block_end s
@@ -60,7 +60,7 @@ module _ (t : Table) (g : t.start_bits ≤ t.direct_bits) (k : t.start_bits ≤ 
         → Placing t w s x (in_new t w s x b) (b.start + direct_header t w)
     placed-new b e =
         let F : Found t g k (direct_header t w + x) (block_end s) b =
-        open-found t g k (direct_header t w + x) (block_end s) I.next-slot b e in
+        open-found t g k (direct_header t w + x) (block_end s) I.next_slot b e in
         grind (
           arith,
           end-le t b.start g k F.inside,
@@ -70,7 +70,6 @@ module _ (t : Table) (g : t.start_bits ≤ t.direct_bits) (k : t.start_bits ≤ 
 
     -- what a step that places an object does
     pub step-placed : (s' : State) (o : ℕ) → step_of t w s x ≡ Some (s', o) → Placing t w s x s' o
-    unfolding step_of
     step-placed s' o e = go (open_at t (direct_header t w + x) (block_end s)) refl
       where
         go : (v : Option Slot) → open_at t (direct_header t w + x) (block_end s) ≡ v → Placing t w s x s' o
@@ -79,12 +78,10 @@ module _ (t : Table) (g : t.start_bits ≤ t.direct_bits) (k : t.start_bits ≤ 
 
 module _ (t : Table) (w : ℕ) (s : State) (x : ℕ) where
   pub step_same : s.fill + x ≤ s.size → step_of t w s x ≡ Some (filled s x, s.start + s.fill)
-  unfolding step_of
   step_same l = grind (arith, nat_tests)
 
   pub step-open : s.size < s.fill + x
       → step_of t w s x ≡ opened t w s x (open_at t (direct_header t w + x) (block_end s))
-  unfolding step_of
   step-open l = grind (arith, nat_tests)
 
 -- ---- the first state
@@ -101,11 +98,6 @@ ok-initial t w g = grind (arith, start-zero t g)
 
 -- ---- the same of the code's numbers
 
-pub size_fits : (w x : ℕ) → w ≤ 255 → x ≤ max_managed fixed w → direct_header fixed w + x ≤ 65536
-unfolding max_managed direct_header offset_bytes
-size_fits w x l h = omega arith
-
 -- sizes within the limit are below 65,536
 pub limit-small : (w : ℕ) (xs : List ℕ) → Small (max_managed fixed w) xs → Small 65536 xs
-unfolding max_managed
 limit-small w xs S = grind arith

@@ -2,8 +2,8 @@
 use Rattle.std.specs.Prelude.{ℕ, ◌+◌, ◌<◌, List, [], ◌∷◌}
 
 -- a list after these numbers were listed in it from an index on, each as `listed` says
-unfoldable pub listed_from : (listed : List ℕ → ℕ → ℕ → List ℕ) (places : List ℕ) (index : ℕ) (numbers : List ℕ)
-    → List ℕ
+unfoldable pub listed_from : (listed : List ℕ → ℕ → ℕ → List ℕ)
+    → (places : List ℕ) (index : ℕ) (numbers : List ℕ) → List ℕ
 listed_from listed places index [] = places
 listed_from listed places index (number ∷ numbers) =
     listed_from listed (listed places index number) (index + 1) numbers

@@ -6,15 +6,20 @@ use Rattle.table.specs.declared.Slot.{Slot}
 use Rattle.planner.specs.declared.State.{State}
 use Rattle.planner.specs.Steps.{block_end, run}
 
--- a state that planning can reach: its blocks lie in the heap, each with the bytes of the smallest at least. Indirect
--- blocks are told apart from 2 ^ 64 alone
+-- more bytes than the indirect blocks of a heap have, and so few that the bytes of a whole region
+-- are counted in 64 bits
+abbrev pub indirect_limit : ℕ
+indirect_limit = 2 ^ 62
+
+-- a state that planning can reach: its blocks lie in the heap, each with the bytes of the smallest
+-- at least
 pub record Bounded (state : State) : Type 0 where
   pub ends_in_heap : block_end state ≤ heap_space fixed
   pub fill_small : state.fill ≤ heap_space fixed + heap_space fixed
   pub blocks_few : state.count ≤ heap_space fixed / starting_size fixed
   pub blocks_in_heap : state.allocated ≤ heap_space fixed
   pub objects_in_heap : state.used + (state.size - state.fill) ≤ heap_space fixed
-  pub indirect_small : state.indirect ≤ 2 ^ 62
+  pub indirect_small : state.indirect ≤ indirect_limit
 
 -- a slot of the heap
 pub record InHeap (slot : Slot) : Type 0 where

@@ -1,10 +1,12 @@
--- Planning, object by object. Each object goes into the current block if it fits there. Otherwise slots are tried in
--- heap order, each that is too small is passed for good, and the first whose body fits opens. This rule is ours: the
--- HDF5 File Format Specification does not say which block an object goes into.
+-- Planning, object by object. Each object goes into the current block if it fits there. Otherwise
+-- slots are tried in heap order, each that is too small is passed for good, and the first whose
+-- body fits opens. This rule is ours: the HDF5 File Format Specification does not say which block
+-- an object goes into.
 --
--- An address has offset_size bytes; a state says where planning stands; a run goes through the sizes of objects, one
--- after another.
-use Rattle.std.specs.Prelude.{ℕ, zero, suc, ◌+◌, ◌-◌, true, false, nat_le, nat_lt, if◌then◌else◌, List, [], ◌∷◌, Ok}
+-- An address has offset_size bytes; a state says where planning stands; a run goes through the
+-- sizes of objects, one after another.
+use Rattle.std.specs.Prelude.{ℕ, zero, suc, ◌+◌, ◌-◌, true, false, nat_le, nat_lt, if◌then◌else◌}
+use Rattle.std.specs.Prelude.{List, [], ◌∷◌, Ok}
 use Rattle.std.specs.Prelude.{Err}
 use Rattle.std.specs.Prelude.{Option, Some, None, Result}
 use Rattle.table.specs.Table.{Table, heap_space}
@@ -13,7 +15,8 @@ use Rattle.table.specs.Sizes.{direct_header}
 use Rattle.table.specs.declared.Slot.{Slot}
 use Rattle.planner.specs.declared.State.{State}
 
--- of so many slots from the heap offset cursor on the first that has the needed bytes, if the heap has one
+-- of so many slots from the heap offset cursor on the first that has the needed bytes, if the heap
+-- has one
 unfoldable pub open_in : (table : Table) (slots needed cursor : ℕ) → Option Slot
 open_in table zero needed cursor = None
 open_in table (suc slots) needed cursor =
@@ -27,7 +30,7 @@ open_in table (suc slots) needed cursor =
     ]
 
 -- the first slot from the heap offset cursor on that has the needed bytes
-unfoldable pub open_at : (table : Table) (needed cursor : ℕ) → Option Slot
+abbrev pub open_at : (table : Table) (needed cursor : ℕ) → Option Slot
 open_at table needed cursor = open_in table (heap_space table - cursor) needed cursor
 
 -- where the current block ends, and the next slot begins
@@ -51,7 +54,8 @@ abbrev pub filled : (state : State) (size : ℕ) → State
 filled state size = record state { fill = state.fill + size; used = state.used + size }
 
 -- after an object in a new block, in this slot
-abbrev pub in_new : (table : Table) (offset_size : ℕ) (state : State) (size : ℕ) (slot : Slot) → State
+abbrev pub in_new : (table : Table) (offset_size : ℕ)
+    → (state : State) (size : ℕ) (slot : Slot) → State
 in_new table offset_size state size slot = record {
   start = slot.start;
   size = slot.size;
@@ -63,13 +67,15 @@ in_new table offset_size state size slot = record {
 }
 
 -- an object in a new block, if there is a slot for it: the state after it and its heap offset
-abbrev pub opened : (table : Table) (offset_size : ℕ) (state : State) (size : ℕ) → Option Slot → Option (State × ℕ)
+abbrev pub opened : (table : Table) (offset_size : ℕ)
+    → (state : State) (size : ℕ) → Option Slot → Option (State × ℕ)
 opened table offset_size state size (Some slot) =
     Some (in_new table offset_size state size slot, slot.start + direct_header table offset_size)
 opened table offset_size state size None = None
 
 -- one object: the state after it and its heap offset, or the heap space ends
-unfoldable pub step_of : (table : Table) (offset_size : ℕ) (state : State) (size : ℕ) → Option (State × ℕ)
+abbrev pub step_of : (table : Table) (offset_size : ℕ)
+    → (state : State) (size : ℕ) → Option (State × ℕ)
 step_of table offset_size state size =
     elim (nat_le (state.fill + size) state.size) [
       | true ↦ Some (filled state size, state.start + state.fill)
@@ -78,10 +84,10 @@ step_of table offset_size state size =
           (open_at table (direct_header table offset_size + size) (block_end state))
     ]
 
--- a run from a state on, through the sizes from an index on: the state after all of them, or the index at which the
--- heap space ends
-unfoldable pub run_from : (table : Table) (offset_size : ℕ) (state : State) (sizes : List ℕ) (index : ℕ)
-    → Result State ℕ
+-- a run from a state on, through the sizes from an index on: the state after all of them, or the
+-- index at which the heap space ends
+unfoldable pub run_from : (table : Table) (offset_size : ℕ)
+    → (state : State) (sizes : List ℕ) (index : ℕ) → Result State ℕ
 run_from table offset_size state [] index = Ok state
 run_from table offset_size state (size ∷ sizes) index =
     elim (step_of table offset_size state size) [
@@ -90,7 +96,8 @@ run_from table offset_size state (size ∷ sizes) index =
     ]
 
 -- the heap offsets of its objects
-unfoldable pub offsets_from : (table : Table) (offset_size : ℕ) (state : State) (sizes : List ℕ) → List ℕ
+unfoldable pub offsets_from : (table : Table) (offset_size : ℕ)
+    → (state : State) (sizes : List ℕ) → List ℕ
 offsets_from table offset_size state [] = []
 offsets_from table offset_size state (size ∷ sizes) =
     elim (step_of table offset_size state size) [
@@ -98,12 +105,14 @@ offsets_from table offset_size state (size ∷ sizes) =
       | None ↦ []
     ]
 
--- the start of the block that a step from one state to the next opens, if it opens one, in front of later ones
+-- the start of the block that a step from one state to the next opens, if it opens one, in front of
+-- later ones
 abbrev pub start_if_new : (state next : State) (later : List ℕ) → List ℕ
 start_if_new state next later = if nat_lt state.count next.count then next.start ∷ later else later
 
 -- the heap offsets of the blocks that the run opens
-unfoldable pub starts_from : (table : Table) (offset_size : ℕ) (state : State) (sizes : List ℕ) → List ℕ
+unfoldable pub starts_from : (table : Table) (offset_size : ℕ)
+    → (state : State) (sizes : List ℕ) → List ℕ
 starts_from table offset_size state [] = []
 starts_from table offset_size state (size ∷ sizes) =
     elim (step_of table offset_size state size) [
@@ -112,15 +121,16 @@ starts_from table offset_size state (size ∷ sizes) =
     ]
 
 -- the run of a whole list
-unfoldable pub run : (table : Table) (offset_size : ℕ) (sizes : List ℕ) → Result State ℕ
+abbrev pub run : (table : Table) (offset_size : ℕ) (sizes : List ℕ) → Result State ℕ
 run table offset_size sizes = run_from table offset_size (initial table offset_size) sizes 0
 
 -- the heap offsets of its objects
-unfoldable pub plan_offsets : (table : Table) (offset_size : ℕ) (sizes : List ℕ) → List ℕ
-plan_offsets table offset_size sizes = offsets_from table offset_size (initial table offset_size) sizes
+abbrev pub plan_offsets : (table : Table) (offset_size : ℕ) (sizes : List ℕ) → List ℕ
+plan_offsets table offset_size sizes =
+    offsets_from table offset_size (initial table offset_size) sizes
 
 -- the heap offsets of its blocks: without objects there is one, at 0
-unfoldable pub plan_starts : (table : Table) (offset_size : ℕ) (sizes : List ℕ) → List ℕ
+abbrev pub plan_starts : (table : Table) (offset_size : ℕ) (sizes : List ℕ) → List ℕ
 plan_starts table offset_size [] = 0 ∷ []
 plan_starts table offset_size (size ∷ sizes) =
     starts_from table offset_size (initial table offset_size) (size ∷ sizes)

@@ -39,8 +39,9 @@ pub struct State {
     pub indirect: u64,
 }
 
-/// A plan that objects are added to, one by one or many at once, for addresses of `offset_size` bytes. It is always the
-/// plan of some list of sizes, so that nothing that is built on it asks for a bound.
+/// A plan that objects are added to, one by one or many at once, for addresses of `offset_size` bytes. Its state is one
+/// that planning some list of sizes ends in (`reached`), and so within bounds (`bounded`): who makes or changes a plan
+/// proves both, and a function that takes one need not ask. Of a plan that C lends they are C's word.
 #[derive(Drop)]
 #[repr(C)]
 pub struct Planner {
@@ -100,7 +101,6 @@ impl Planner {
     //
     // Indirect blocks are counted as direct ones open: the new one brings those that hold it and begin at or after the
     // end of the block before.
-    #[tactic(auto, using(crate::proofs::Stepping::size_fits))]
     pub fn open(&mut self, size: u64) -> Option<u64>
         requires fits_some_block { size ≤ max_managed fixed self.old.offset_size }
         requires no_room_here { self.old.state.size < self.old.state.fill + size }

@@ -7,7 +7,8 @@ use Rattle.std.proofs.lemmas.Grind.{common_steps}
 use Rattle.fields.specs.Widths.{legal}
 use Rattle.fields.specs.LittleEndian.{le_at}
 use Rattle.numbers.specs.Numbers.{saturated}
-use Rattle.fields.specs.Fields.{len_ensured, number_at, offset_at}
+use Rattle.fields.specs.Fields.{offset_at}
+use Rattle.fields.proofs.Fields.{offset_read}
 use Rattle.refusals.specs.declared.FormatError.{FormatError}
 use Rattle.reading.specs.declared.rows.DoublingTable.{DoublingTable}
 use Rattle.reading.specs.Rows.{slot_size}
@@ -51,10 +52,6 @@ pub row_begun : (table : DoublingTable) (s : List ℕ) (w t n k m row p start : 
 unfolding slot_rows
 row_begun table s w t n k m row p start e f = rw (e, f)
 
--- an address that is there
-pub offset_read : (s : List ℕ) (p w : ℕ) → legal w ≡ true → p + w ≤ length s → offset_at s p w ≡ Ok (le_at s p w)
-offset_read s p w l room = rw l (grind (arith, common_steps))
-
 -- a slot that ends at or before the target does not hold it
 pub not_held : (a w start end t : ℕ) → end ≤ t → holds_offset a w start end t ≡ false
 not_held a w start end t h = grind (arith, common_steps)
@@ -64,7 +61,7 @@ slots_passed : (table : DoublingTable) (s : List ℕ) (w t row n : ℕ) (rows : 
     → start < 2 ^ 64 → p + n * w ≤ length s → saturated (start + slot_size table row * n) ≤ t
     → child_in_slots table s w t (replicate n row ++ rows) p start
     ≡ child_in_slots table s w t rows (p + n * w) (saturated (start + slot_size table row * n))
-unfolding saturated child_in_slots
+unfolding child_in_slots
 slots_passed table s w t row zero rows p start l b room end =
     ap₂ (child_in_slots table s w t rows) (omega arith) (omega arith)
 slots_passed table s w t row (suc n) rows p start l b room end =

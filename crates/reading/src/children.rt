@@ -58,7 +58,7 @@ impl Search<'_> {
     // The child that holds the target, of the rows whose entries begin at `at` of a block. A row that ends at or before
     // the target is passed at once, where all its entries are there; the definition, as the original, goes slot by
     // slot.
-    #[tactic(auto, using(crate::proofs::Scanning::scanning), unfolding(numbers::specs::Numbers::saturated))]
+    #[tactic(auto, using(crate::proofs::Scanning::scanning))]
     fn find_child_in_rows(
         &self,
         block: &[u8],

@@ -12,7 +12,7 @@ impl Search<'_> {
     // The object in the direct block at `addr` that begins at heap offset `start`. The target is never before it; the
     // difference is cut at 0, so that this need not be asked.
     fn read_from_direct_block(&self, addr: u64, start: u64) -> Result<Place, FormatError>
-        ensures value { result
+        ensures placed { result
             ≡ direct_at self.now.file.now addr start self.now.target self.now.len }
         ensures in_file { IfOk result (λ place. place.position + place.length
             ≤ length self.now.file.now) }
@@ -31,20 +31,24 @@ impl Search<'_> {
     }
 
     // The object below the indirect root block at `root`: child by child, in a loop over the original's counter, which
-    // is 64 at the root and one less at each child.
-    #[tactic(auto, using(crate::proofs::Walking::walking), unfolding(numbers::specs::Numbers::saturated))]
+    // is 64 at the root and one less at each child. It is not inlined, so that a direct root, which has no walk, does
+    // not pay for the loop's registers.
+    #[inline(never)]
+    #[tactic(auto, using(crate::proofs::Walking::walking))]
     fn read_from_indirect_block(&self, root: u64, root_rows: u64) -> Result<Place, FormatError>
-        ensures value { result ≡ walk_from self.now.table self.now.file.now self.now.offset_size
+        ensures walked { result ≡ walk_from self.now.table self.now.file.now self.now.offset_size
             self.now.target self.now.len 64 root root_rows 0 }
         ensures in_file { IfOk result (λ place. place.position + place.length
             ≤ length self.now.file.now) }
     {
+        // A copy of its own, which the loop has in registers.
+        let search = *self;
         let (mut block, mut rows, mut start) = (root, root_rows, 0);
         for _depth in 0..64u64 {
-            let Some(child) = self.find_child_at(block, rows, start)? else {
+            let Some(child) = search.find_child_at(block, rows, start)? else {
                 return Err(FormatError::UnexpectedEof {
-                    expected: self.target.saturating_add(self.len),
-                    available: self.file.len() as u64,
+                    expected: search.target.saturating_add(search.len),
+                    available: search.file.len() as u64,
                 });
             };
             match child {
@@ -53,7 +57,7 @@ impl Search<'_> {
                     heap_offset,
                     ..
                 } => {
-                    return self.read_from_direct_block(addr, heap_offset);
+                    return search.read_from_direct_block(addr, heap_offset);
                 }
                 HeapChild::Indirect {
                     addr,
@@ -72,7 +76,7 @@ impl Search<'_> {
     /// The object, from the root block of `nrows` rows at `root` on. A direct root, which has no rows, is read without
     /// a look at the offset size.
     pub fn read_from_root(&self, root: u64, nrows: u16) -> Result<Place, FormatError>
-        ensures value { result ≡ root_walk self.now.table self.now.file.now root nrows
+        ensures walked { result ≡ root_walk self.now.table self.now.file.now root nrows
             self.now.target self.now.len self.now.offset_size }
         ensures in_file { IfOk result (λ place. place.position + place.length
             ≤ length self.now.file.now) }

@@ -90,6 +90,7 @@ impl Reported for FormatError {
             FormatError::RegionAddressTooLarge { address, size } => (15, address, size),
             FormatError::HeapIdTooLarge { offset, length } => (16, offset, length),
             FormatError::HeaderFieldTooLarge { place, value } => (17, place, value),
+            FormatError::OutsideHeap(number) => (20, number, 0),
         };
         Answer {
             number,

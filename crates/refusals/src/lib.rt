@@ -23,7 +23,7 @@ pub enum FormatError {
     InvalidHeapIdType(u8),
     #[error("the header's checksum differs: {stored} is stored, {computed} computed")]
     ChecksumMismatch { stored: u32, computed: u32 },
-    #[error("the heap is filtered, and objects of a filtered heap are not read")]
+    #[error("the heap is filtered, and objects of a filtered heap are not read, nor is its header written")]
     UnsupportedFilteredHeapObject,
     #[error("a block's address {address} plus a distance of {distance} is past 2^64 - 1")]
     OffsetOverflow { address: u64, distance: u64 },
@@ -45,4 +45,6 @@ pub enum FormatError {
     HeapIdTooLarge { offset: u64, length: u64 },
     #[error("the header's field at place {place}, counted from 0, is {value}, too large for its width")]
     HeaderFieldTooLarge { place: u64, value: u64 },
+    #[error("{0} is outside the heap: no offset below its end, or no number of rows that a root has")]
+    OutsideHeap(u64),
 }

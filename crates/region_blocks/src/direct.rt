@@ -11,7 +11,6 @@ use fields::Writer;
 use table::block_sizes::direct_block_header;
 
 // All but the checksum, whose field is zero.
-#[tactic(auto, unfolding(table::specs::Sizes::direct_header))]
 fn write_unsummed(block: &mut [u8], offset: u64, objects: &[u8], site: Site)
     requires narrow { site.offset_size ≤ 8 }
     requires room { direct_header fixed site.offset_size + length objects.now ≤ length block.old }
@@ -30,7 +29,6 @@ fn write_unsummed(block: &mut [u8], offset: u64, objects: &[u8], site: Site)
 
 /// Writes a direct block over all of `block`: head, objects and zeros, then the checksum of it all, taken while its own
 /// field is zero. `offset` is the block's heap offset, `objects` the bytes of its objects.
-#[tactic(auto, unfolding(table::specs::Sizes::direct_header))]
 pub fn write_direct_block(block: &mut [u8], offset: u64, objects: &[u8], site: Site)
     requires narrow { site.offset_size ≤ 8 }
     requires room { direct_header fixed site.offset_size + length objects.now ≤ length block.old }

@@ -10,7 +10,7 @@ use checksum::jenkins_lookup3;
 /// Writes the head of an indirect block at the heap offset `offset`, whose entries stand in their place in `block`
 /// (the walk has stored them, and knows no sooner where the blocks in the slots stand), and behind them the checksum of
 /// head and entries.
-#[tactic(auto, unfolding(crate::specs::Blocks::indirect_block), using(fields::proofs::Writing::le_four))]
+#[tactic(auto, using(fields::proofs::Writing::le_four))]
 pub fn seal_indirect(block: &mut [u8], offset: u64, site: Site)
     requires narrow { site.offset_size ≤ 8 }
     requires room { head_size fixed site.offset_size + 4 ≤ length block.old }

@@ -23,7 +23,6 @@ pub struct Site {
 
 /// The bytes of a block's head, with which both kinds begin: signature (4), version (1), heap header address, block
 /// offset.
-#[tactic(auto, unfolding(table::specs::Sizes::offset_bytes))]
 pub fn head_size(offset_size: u8) -> u64
     ensures { result ≡ head_size fixed offset_size }
 {
@@ -31,7 +30,6 @@ pub fn head_size(offset_size: u8) -> u64
 }
 
 // How both kinds begin: signature, version 0, the heap header's address, the block's heap offset.
-#[tactic(auto, unfolding(table::specs::Sizes::offset_bytes))]
 fn put_head(writer: &mut Writer<'_>, signature: &[u8; 4], offset: u64, site: Site)
     requires narrow { site.offset_size ≤ 8 }
     requires room { writer.old.at + head_size fixed site.offset_size ≤ length writer.old.bytes.now }

@@ -26,11 +26,9 @@ use Rattle.region_indirects.specs.Requires.{rows_left, span_left}
 
 pub begins_some : (ss : List ℕ) (i end : ℕ) → i < length ss
     → nat_lt (slice_index ss i) end ≡ begins_before (drop i ss) end
-unfolding begins_before
 begins_some ss i end h = rw (drop_more ss i 0 h)
 
 pub begins_none : (ss : List ℕ) (i end : ℕ) → length ss ≤ i → false ≡ begins_before (drop i ss) end
-unfolding begins_before
 begins_none ss i end h = rw (drop_all i ss h)
 
 -- ---- the definition's equations, at any table
@@ -57,7 +55,7 @@ module _ (t : Table) (w header : ℕ) where
   -- the blocks of fewer than n rows are the blocks
   pub smaller-block : (n j : ℕ) → j < n → (at : ℕ) (ss : List ℕ) (pos next : ℕ)
       → smaller t w header n j at ss pos next ≡ block t w header j at ss pos next
-  unfolding smaller block all_slots
+  unfolding smaller block
   smaller-block zero j h at ss pos next = absurd (omega arith)
   smaller-block (suc n) j h at ss pos next = grind (arith, nat_tests, smaller-block n j)
 
@@ -78,7 +76,6 @@ module _ (t : Table) (w header : ℕ) where
 -- ---- slots without a block, passed at once
 
 before-less : (ss : List ℕ) (a b : ℕ) → a ≤ b → begins_before ss b ≡ false → begins_before ss a ≡ false
-unfolding begins_before
 before-less [] a b l e = refl
 before-less (s ∷ ss) a b l e = grind (arith, nat_tests)
 
@@ -162,7 +159,6 @@ module _ (t : Table) (w header : ℕ) where
 
   pub block-entries : (n at : ℕ) (ss : List ℕ) (pos next : ℕ)
       → length (all_slots t w header n at ss pos next).entries ≡ n * 2 ^ t.width_bits * w
-  unfolding all_slots
   block-entries n at ss pos next =
       let sound = slots-sound (smaller t w header n) (smaller-sound n) (rows_of_slots t n 0) at ss pos next in
       rw (length-rows n 0) at sound.wide
@@ -171,7 +167,7 @@ module _ (t : Table) (w header : ℕ) where
   pub block-length : (n at : ℕ) (ss : List ℕ) (pos next : ℕ)
       → length (block t w header n at ss pos next).bytes
       ≡ length (all_slots t w header n at ss pos next).bytes + indirect_size t w n
-  unfolding block indirect_size
+  unfolding block
   block-length n at ss pos next =
       let inner : Walked = all_slots t w header n at ss pos next in
       let own = indirect-length t w header at inner.entries in
@@ -181,18 +177,17 @@ module _ (t : Table) (w header : ℕ) where
 -- ---- the rows of the slots that are left
 
 pub rows_none : (n : ℕ) (s : Slots) → n ≤ s.row → rows_left n s ≡ []
-unfolding rows_left
 rows_none n s h = grind (arith, nat_tests)
 
 pub rows_all : (n off : ℕ) → rows_left n (block_slots off) ≡ rows_of_slots fixed n 0
-unfolding rows_left rows_of_slots
+unfolding rows_of_slots
 rows_all zero off = refl
 rows_all (suc n) off = grind (arith, nat_tests)
 
 -- the rows from one on, where a row begins
 rows-from : (n row off : ℕ)
     → rows_of_slots fixed (n - row) row ≡ rows_left n (record { row = row; left = 2 ^ fixed.width_bits; offset = off })
-unfolding rows_left rows_of_slots
+unfolding rows_of_slots
 rows-from n row off =
     elim (cases_lt row n) [
       | inl l ↦ (let some : n - row ≡ suc (n - (row + 1)) = omega arith in rw some (grind (arith, nat_tests)))
@@ -202,13 +197,11 @@ rows-from n row off =
 -- the rest of a row, and the rows after it
 pub rows_row : (n : ℕ) (s : Slots) (off : ℕ) → s.row < n
     → rows_left n s ≡ replicate s.left s.row ++ rows_left n (next_rows s off)
-unfolding rows_left
 rows_row n s off h = let rest = rows-from n (s.row + 1) off in grind (arith, nat_tests)
 
 rows-next-at : (n row left off size : ℕ) → row < n → 0 < left
     → let s : Slots = record { row = row; left = left; offset = off } in
     rows_left n s ≡ row ∷ rows_left n (next_slots s size)
-unfolding rows_left
 rows-next-at n row zero off size h l = absurd (omega arith)
 rows-next-at n row (suc zero) off size h l = let rest = rows-from n (row + 1) off in grind (arith, nat_tests)
 rows-next-at n row (suc (suc k)) off size h l =
@@ -242,7 +235,6 @@ rows-span t (suc m) r =
     ))
 
 pub span_block : (n off : ℕ) → span_left n (block_slots off) ≡ row_offset fixed n
-unfolding row_offset
 span_block n off =
     let here : 0 + n ≡ n = omega arith in
     let all = rw here at (rows-span fixed n 0) in
@@ -303,5 +295,4 @@ next-slot {n} {s} {size = size} h l f e =
 
 -- an indirect slot's row
 pub row-high : {row : ℕ} → nat_le (row_bits fixed row) fixed.direct_bits ≡ false → 8 ≤ row
-unfolding row_bits
 row-high {row} d = grind (arith, nat_tests)

@@ -11,7 +11,7 @@ use Rattle.region_indirects.specs.declared.Output.{Output}
 use Rattle.region_indirects.specs.Walk.{Walked, rows_of_slots, slot, slots, smaller, block}
 
 -- the rows of these slots, the last of a block of n rows
-unfoldable pub rows_left : ℕ → Slots → List ℕ
+abbrev pub rows_left : ℕ → Slots → List ℕ
 rows_left n s =
     let next = s.row + 1 in
     if nat_lt s.row n then replicate s.left s.row ++ rows_of_slots fixed (n - next) next else []

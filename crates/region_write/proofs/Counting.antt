@@ -42,7 +42,6 @@ module _ (t : Table) (w s : ℕ) {n base r at : ℕ} (C : SlotAt t n base r at) 
       row-of-is t (s - base) r (heap-rows t (s - base) (omega arith)) (omega arith) (omega arith)
 
   start_is : base + slot_start t (s - base) ≡ at
-  unfolding slot_start
   start_is =
       let b = row_bits t r in
       let m = (row t r).m + C.col in
@@ -119,7 +118,6 @@ module _ (t : Table) (w f : ℕ) {n base r at : ℕ} (C : SlotAt t n base r at) 
 
 -- rows 0 and 1 have the starting size
 first-row : (t : Table) (r : ℕ) → t.start_bits ≤ t.direct_bits → r ≤ 1 → row_bits t r ≤ t.direct_bits
-unfolding row_bits
 first-row t r g l = omega arith
 
 module _ (t : Table) (g : t.start_bits ≤ t.direct_bits) (wd : t.width_bits + t.start_bits ≤ suc t.direct_bits)
@@ -167,7 +165,6 @@ module _ (t : Table) (g : t.start_bits ≤ t.direct_bits) (wd : t.width_bits + t
         sized-both (slot-end t S) C.rest-is Z (slots-sized _ _ A (cut-placed C P) Z.ends)
 
   slots-of-sized : (n : ℕ) → SizedBlock n
-  unfolding all_slots
   slots-of-sized =
       by-smaller SizedBlock
       (λ n blocks f at e ss pos next m B P k. slots-sized f blocks m B pos next (all-ahead t n at) P k)
@@ -180,7 +177,7 @@ opened_by t w e [] = 0
 opened_by t w e (s ∷ ss) = entered_bytes t w e s + opened_by t w (s + (slot_at t s).size) ss
 
 counted-root : (t : Table) (w e : ℕ) (ss : List ℕ) → counted t w t.heap_bits 0 e ss ≡ opened_by t w e ss
-unfolding counted opened_by entered_bytes
+unfolding counted opened_by
 counted-root t w e [] = refl
 counted-root t w e (s ∷ ss) =
     let a = ap (entered_bytes_in t w t.heap_bits e 0) (sub-zero s) in

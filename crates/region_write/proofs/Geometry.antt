@@ -5,7 +5,7 @@ use Rattle.std.proofs.Common.{[], ◌∷◌}
 use Rattle.std.proofs.Common.{◌++◌, arith, mul-le-mul_right, replicate, pow_pos}
 use Rattle.std.proofs.Math.Nat.{sub-zero}
 use Rattle.table.specs.Table.{Table, row_bits, row_offset}
-use Rattle.table.specs.Slots.{Direct, own, inner, slot_at}
+use Rattle.table.specs.Slots.{Direct, own, inner}
 use Rattle.table.proofs.Rows.{row, row-mono, row_one, slot-rows}
 use Rattle.table.proofs.Slots.{slot-bits-is, start-here}
 use Rattle.table_laws.proofs.Format.{SlotOf, direct-local, slotted-direct}
@@ -63,7 +63,6 @@ module _ (t : Table) where
 
   -- all slots of a block
   pub all-ahead : (n base : ℕ) → Ahead t n base base (rows_of_slots t n 0)
-  unfolding row_offset
   all-ahead n base =
       rw add-zero at (rows-ahead n base n 0 (omega arith))
 
@@ -123,7 +122,6 @@ module _ (t : Table) (g : t.start_bits ≤ t.direct_bits) (wd : t.width_bits + t
       })
 
   root-direct : (n s z : ℕ) → t.start_bits ≤ t.heap_bits → SlotOf t s z → s < row_offset t n → Direct t n s z
-  unfolding slot_at
   root-direct n s z k S u =
       let i = S.inside in
       subst₂ (Direct t n) (start-here t g k s S.starts i) (sym S.size_is)

@@ -51,12 +51,10 @@ module _ {t : Table} {w : ℕ} where
 -- ---- the totals
 
 totals-bare : (w : ℕ) (s : State) → rows_of_root fixed (block_end s) ≡ 0 → totals fixed w s ≡ bare_totals fixed w s
-unfolding totals
 totals-bare w s bare = grind (arith, nat_tests)
 
 totals-rows : (w : ℕ) (s : State) → (rows_of_root fixed (block_end s) ≡ 0 → ⊥)
     → totals fixed w s ≡ row_totals fixed w s (rows_of_root fixed (block_end s))
-unfolding totals
 totals-rows w s some = grind (arith, nat_tests)
 
 -- no rows mean the totals of a bare root
@@ -84,7 +82,6 @@ module _ (w x : ℕ) (xs : List ℕ) (p : ManagedPlan) (s : State) (ran : run fi
       (sym (starts-some w (x ∷ xs) (omega arith))) (ran-laid w (x ∷ xs) s ran)
 
   is-closed : end_state fixed w s ≡ s
-  unfolding end_state
   is-closed = grind (arith, nat_tests, (blocks laid-all).counted)
 
   rows-reach : rows_of_root fixed (block_end s) ≡ p.root_rows → Reach (block_end s)
@@ -114,7 +111,7 @@ pub rooted : (xs : List ℕ) (o b w : ℕ) (p : ManagedPlan) → planned_for xs 
     → RootRowed w xs p
 rooted [] o b w p e l = absurd (let z = one-block [] o b w p e (starts_none w) in omega arith)
 rooted (x ∷ xs) o b w p e l = let G = (accepted (x ∷ xs) o b w p e).1 in
-    rooted-some w x xs p G.state G.ran G.totals-is l
+    rooted-some w x xs p G.state G.ran G.totals_is l
 
 -- ---- the theorems
 
@@ -149,7 +146,7 @@ module _ (xs : List ℕ) (o b w : ℕ) (p : ManagedPlan) (e : planned_for xs o b
   pub bare-planned : p.root_rows ≡ 0 → BareRegion w xs p
   bare-planned z =
       let G = (accepted xs o b w p e).1 in
-      let q = bare-totals w p (end_state fixed w G.state) G.totals-is z in
+      let q = bare-totals w p (end_state fixed w G.state) G.totals_is z in
       record {
         blocks = (no-root-rows xs o b w p e z).blocks;
         region = ap (λ (y : ManagedPlan). y.region_size) q;

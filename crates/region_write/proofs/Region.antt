@@ -19,7 +19,6 @@ use Rattle.region_write.proofs.Root.{indirects-none, indirects-some, root-bare, 
 use Rattle.region_write.proofs.Indirect.{indirect-planned, region-planned, bare-planned}
 
 closed-space : (w : ℕ) (s : State) → (end_state fixed w s).allocated ≡ (if s.count == 0 then 1024 else s.allocated)
-unfolding end_state
 closed-space w s = grind (arith, nat_tests)
 
 module _ (xs : List ℕ) (o b w : ℕ) (p : ManagedPlan) (e : planned_for xs o b w ≡ Ok p) where
@@ -36,7 +35,7 @@ module _ (xs : List ℕ) (o b w : ℕ) (p : ManagedPlan) (e : planned_for xs o b
       let G = A.1 in
       let l = legal-small w A.0.width in
       directs-length w header js xs G.state (omega arith) G.ran ∙ sym (closed-space w G.state)
-      ∙ (counted w xs G.state G.ran).sizes-are
+      ∙ (counted w xs G.state G.ran).sizes_are
       ∙ sym (tallied xs o b w p e).allocated
 
   -- the indirect blocks are what the direct ones leave of the region, whatever the addresses in them
@@ -57,13 +56,11 @@ module _ (xs : List ℕ) (o b w : ℕ) (p : ManagedPlan) (e : planned_for xs o b
           omega arith
 
   pub indirect-bytes : (header : ℕ) → indirect_bytes w header n ss + p.allocated_space ≡ p.region_size
-  unfolding indirect_bytes
   indirect-bytes header = indirects-planned header 0 0
 
   module _ (header address : ℕ) (js : List ℕ) where
     -- the region is as long as planned, for objects of any bytes
     pub region-length : length (region (site_of w header address) n xs js) ≡ p.region_size
-    unfolding region
     region-length =
         let d : ℕ = address + indirect_bytes w header n ss in
         length-append (indirects w header n ss address d) (directs fixed w header (plan_offsets fixed w xs) xs js ss)

@@ -32,7 +32,6 @@ directs-fill w header xs js s l e = directs-length w header js xs s l e
 -- where a slot is found at its own start
 slot-of : (t : Table) → t.start_bits ≤ t.direct_bits → (c z : ℕ) → c < 2 ^ t.heap_bits
     → slot_at t c ≡ record { start = c; size = z } → SlotOf t c z
-unfolding slot_at
 slot-of t g c z l e = record {
   starts =
       record {

@@ -6,8 +6,8 @@ use Rattle.std.proofs.lemmas.Bool.Decides.{nat_tests}
 use Rattle.table.specs.Table.{Table, row_bits, row_offset}
 use Rattle.table.specs.Slots.{slot_at}
 use Rattle.plan.specs.Plans.{sizes_at}
-use Rattle.region_indirects.specs.Walk.{Walked, WalkedFrom, begins_before, unplaced, direct, nothing, slot}
-use Rattle.region_indirects.specs.Walk.{slots, smaller, all_slots, block}
+use Rattle.region_indirects.specs.Walk.{Walked, WalkedFrom, unplaced, direct, nothing, slot}
+use Rattle.region_indirects.specs.Walk.{slots, smaller, block}
 use Rattle.region_indirects.proofs.Walking.{slot-unplaced, slot-direct, slot-inner, smaller-block}
 use Rattle.region_write.proofs.Geometry.{SlotAt, Ahead, done, slot_of, slot-end, all-ahead, BlockAt, inner-span}
 use Rattle.region_write.proofs.Geometry.{own-slot, inner_block}
@@ -43,7 +43,7 @@ module _ (t : Table) (g : t.start_bits ≤ t.direct_bits) (wd : t.width_bits + t
     (w header : ℕ) where
   pub way : {n base r at : ℕ} {ss : List ℕ} → BlockAt t n base → SlotAt t n base r at → Placed t at ss
       → (pos next : ℕ) → Way t w header n r at pos next ss
-  unfolding begins_before before from
+  unfolding before from
   way {n} {base} {r} {at} B C none pos next =
       empty refl refl (slot-unplaced t w header (smaller t w header n) r at [] pos next refl refl)
   way {n} {base} {r} {at} B C (more {s = s} {ss = ss} v S P) pos next =
@@ -141,7 +141,7 @@ module _ (t : Table) (g : t.start_bits ≤ t.direct_bits) (wd : t.width_bits + t
         record { rest-is = O.rest-is; next-is = O.next-is }
 
   block-cut-from : (n : ℕ) → ((j : ℕ) → j < n → CutBlock j) → CutBlock n
-  unfolding block all_slots
+  unfolding block
   block-cut-from n blocks at ss pos next B P = let C = slots-cut-from blocks B (all-ahead t n at) pos next P in
       record { rest-is = C.rest-is; next-is = C.next-is }
 

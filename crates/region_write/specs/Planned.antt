@@ -6,32 +6,36 @@ use Rattle.plan.specs.declared.ManagedPlan.{ManagedPlan}
 use Rattle.planner.specs.Steps.{plan_starts}
 use Rattle.region_indirects.specs.Walk.{Walked, all_slots, block}
 
--- the slots of the root of the plan p of the sizes xs, and the root, the first indirect block at the
+-- the slots of the root of a plan of these sizes, and the root, the first indirect block at the
 -- address `first`, where the direct blocks begin at the address `directs`
-abbrev pub slots_planned : (w : ℕ) (xs : List ℕ) (p : ManagedPlan) (header first directs : ℕ) → Walked
-slots_planned w xs p header first directs =
-    all_slots fixed w header p.root_rows 0 (plan_starts fixed w xs) first directs
+abbrev pub slots_planned : (offset_size : ℕ) (sizes : List ℕ) (plan : ManagedPlan)
+    (header first directs : ℕ) → Walked
+slots_planned offset_size sizes plan header first directs =
+    let starts = plan_starts fixed offset_size sizes in
+    all_slots fixed offset_size header plan.root_rows 0 starts first directs
 
-abbrev pub root_planned : (w : ℕ) (xs : List ℕ) (p : ManagedPlan) (header first directs : ℕ) → Walked
-root_planned w xs p header first directs =
-    block fixed w header p.root_rows 0 (plan_starts fixed w xs) first directs
+abbrev pub root_planned : (offset_size : ℕ) (sizes : List ℕ) (plan : ManagedPlan)
+    (header first directs : ℕ) → Walked
+root_planned offset_size sizes plan header first directs =
+    let starts = plan_starts fixed offset_size sizes in
+    block fixed offset_size header plan.root_rows 0 starts first directs
 
--- the indirect blocks of the plan p of the sizes xs, the first at the address `first`, where the
--- direct blocks begin at the address `directs`: how long those before the root are, and all of
--- them, the address behind the direct blocks, and no direct block without an entry
-pub record IndirectPlanned (w : ℕ) (xs : List ℕ) (p : ManagedPlan) (header first directs : ℕ)
-    : Type 0 where
-  pub children : length (slots_planned w xs p header first directs).bytes
-      ≡ p.root_place
-  pub bytes : length (root_planned w xs p header first directs).bytes
-      ≡ p.root_place + indirect_size fixed w p.root_rows
-  pub next : (root_planned w xs p header first directs).next
-      ≡ directs + p.allocated_space
-  pub rest : (root_planned w xs p header first directs).rest ≡ []
+-- the indirect blocks of a plan of these sizes, the first at the address `first`, where the direct
+-- blocks begin at the address `directs`: how long those before the root are, and all of them, the
+-- address behind the direct blocks, and no direct block without an entry
+pub record IndirectPlanned (offset_size : ℕ) (sizes : List ℕ) (plan : ManagedPlan)
+    (header first directs : ℕ) : Type 0 where
+  pub children : length (slots_planned offset_size sizes plan header first directs).bytes
+      ≡ plan.root_place
+  pub bytes : length (root_planned offset_size sizes plan header first directs).bytes
+      ≡ plan.root_place + indirect_size fixed offset_size plan.root_rows
+  pub next : (root_planned offset_size sizes plan header first directs).next
+      ≡ directs + plan.allocated_space
+  pub rest : (root_planned offset_size sizes plan header first directs).rest ≡ []
 
 -- the region of a root without rows is the one block
-pub record BareRegion (w : ℕ) (xs : List ℕ) (p : ManagedPlan) : Type 0 where
-  pub blocks : plan_starts fixed w xs ≡ 0 ∷ []
-  pub region : p.region_size ≡ 2 ^ fixed.start_bits
-  pub allocated : p.allocated_space ≡ 2 ^ fixed.start_bits
-  pub place : p.root_place ≡ 0
+pub record BareRegion (offset_size : ℕ) (sizes : List ℕ) (plan : ManagedPlan) : Type 0 where
+  pub blocks : plan_starts fixed offset_size sizes ≡ 0 ∷ []
+  pub region : plan.region_size ≡ 2 ^ fixed.start_bits
+  pub allocated : plan.allocated_space ≡ 2 ^ fixed.start_bits
+  pub place : plan.root_place ≡ 0

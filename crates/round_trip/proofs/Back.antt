@@ -8,7 +8,6 @@ use Rattle.std.proofs.Math.ListN.{get_or-append}
 use Rattle.std.proofs.lemmas.Bool.Decides.{nat_tests}
 use Rattle.std.proofs.lemmas.Slice.Eq.{bytes_eq-Decides}
 use Rattle.table.specs.Table.{fixed}
-use Rattle.table.specs.Sizes.{offset_bytes}
 use Rattle.numbers.specs.Sums.{sum, bit}
 use Rattle.planner.specs.Steps.{plan_offsets}
 use Rattle.fields.specs.LittleEndian.{put}
@@ -22,7 +21,7 @@ use Rattle.fractal_heap_write.proofs.Answering.{below-undefined}
 use Rattle.fractal_heap.specs.declared.header.FractalHeapHeader.{FractalHeapHeader}
 use Rattle.round_trip.specs.Backs.{comes_back, returned_count}
 use Rattle.round_trip.specs.RoundTrip.{nonempty_count}
-use Rattle.heap_kept.specs.HeapKept.{Call, WriterAccepts, HoldsRegion, IsHeaderOf, ComesBack, part_of}
+use Rattle.heap_kept.specs.HeapKept.{Call, WriterAccepts, HoldsRegion, IsHeaderOf, ObjectIsManaged, ComesBack, part_of}
 use Rattle.heap_kept.proofs.FromRoot.{planned, tests, width-legal}
 use Rattle.heap_kept.proofs.Theorem.{heap-kept}
 
@@ -30,7 +29,6 @@ module _ (h : FractalHeapHeader) (F : List ℕ) (w : ℕ) where
   -- ---- one object
 
   came : {o x : ℕ} {bs : List ℕ} → 0 < x → ComesBack F h w o x bs → comes_back h F w o x bs ≡ true
-  unfolding offset_bytes
   came {bs = bs} s C = rw
       (C.id_accepted 8 (omega arith), C.reader_accepts, C.bytes_there, (bytes_eq-Decides bs bs).1 refl)
       (grind (arith, nat_tests))
@@ -83,9 +81,10 @@ module _ {c : Call} {p : ManagedPlan} (W : WriterAccepts c p) where
   address = c.site.region_address
 
   -- by the offsets that it leaves all nonempty objects come back
-  pub written_back : {F : List ℕ} {h : FractalHeapHeader} → HoldsRegion F c p → IsHeaderOf h c p → (old : List ℕ)
+  pub written_back : {F : List ℕ} {h : FractalHeapHeader} → HoldsRegion F c p → IsHeaderOf h c p
+      → ((i : ℕ) → i < length c.sizes → ObjectIsManaged h c i) → (old : List ℕ)
       → returned_count h F w xs (put old 0 (plan_offsets fixed w xs)) c.objects ≡ nonempty_count xs
-  written_back {F} {h} H T old =
+  written_back {F} {h} H T managed old =
       let os : List ℕ = plan_offsets fixed w xs in
       let n : length os ≡ length xs = (tallied xs c.offset_places c.block_places w p (planned W)).offsets in
       let m = length-append os (drop (length os) old) in
@@ -93,7 +92,7 @@ module _ {c : Call} {p : ManagedPlan} (W : WriterAccepts c p) where
       ∙ all_back h F w xs (os ++ drop (length os) old) c.objects (omega arith)
       (λ i l s. subst (λ (o : ℕ). ComesBack F h w o (slice_index xs i) (part_of xs c.objects i))
       (sym (get_or-append os (drop (length os) old) 0 i (omega arith)))
-      (heap-kept.comes_back c p W F H h T i l s))
+      (heap-kept.comes_back c p W F H h T i l s (managed i l)))
 
   -- the root stands in the region
   root-inside : p.root_place ≤ p.region_size

@@ -2,7 +2,6 @@
 use Rattle.std.proofs.Common.{◌≡◌, ℕ, ◌<◌, List, ◌++◌, length, drop, slice_index, Result, Ok, sym, ap, ◌∙◌, arith}
 use Rattle.std.proofs.Math.ListN.{length-append, get_or-append}
 use Rattle.table.specs.Table.{fixed}
-use Rattle.table.specs.Sizes.{offset_bytes}
 use Rattle.refusals.specs.Steps.{◌>>=◌}
 use Rattle.refusals.specs.declared.FormatError.{FormatError}
 use Rattle.fields.specs.LittleEndian.{put}
@@ -39,7 +38,6 @@ module _ (xs os : List ℕ) (o b w : ℕ) {left : List ℕ} {i : ℕ} {p : Manag
   -- where planning accepts the ID writer decides
   pub decided : {r : Result (Unit {0}) FormatError} → r ≡ id_checked fixed (slice_index left i) (slice_index xs i) 8
       → early_id xs i o b w ≡ (r >>= λ _. Ok (managed_id fixed (slice_index left i) (slice_index xs i)))
-  unfolding offset_bytes
   decided d =
       rw e
       (ap (λ (x : ℕ). id_checked fixed x (slice_index xs i) 8 >>= λ _. Ok (managed_id fixed x (slice_index xs i)))

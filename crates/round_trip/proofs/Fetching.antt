@@ -3,7 +3,6 @@ use Rattle.std.proofs.Common.{◌≡◌, ℕ, ◌<◌, ◌≤◌, List, ◌++◌
 use Rattle.std.proofs.Common.{refl, sym, ap, ◌∙◌, arith, append_assoc, drop_at, take-append-drop}
 use Rattle.refusals.specs.declared.FormatError.{FormatError}
 use Rattle.table.specs.Table.{fixed}
-use Rattle.table.specs.Sizes.{offset_bytes}
 use Rattle.fields.specs.LittleEndian.{put}
 use Rattle.fields.proofs.LittleEndian.{put_front}
 use Rattle.planner.specs.Steps.{plan_offsets, plan_starts}
@@ -13,15 +12,15 @@ use Rattle.plan.proofs.Kept.{front-parts-fit}
 use Rattle.region_blocks.specs.declared.Site.{Site}
 use Rattle.fractal_heap.specs.declared.header.FractalHeapHeader.{FractalHeapHeader}
 use Rattle.ids.specs.Checks.{id_checked}
-use Rattle.heap_kept.specs.HeapKept.{Call, HoldsRegion, offset_of, object_id}
+use Rattle.heap_kept.specs.HeapKept.{Call, HoldsRegion, ObjectIsManaged, offset_of, object_id}
 use Rattle.heap_kept.specs.Kept.{HoldsHeap, IsIdOf}
 use Rattle.heap_kept.proofs.FromRoot.{planned}
 use Rattle.heap_kept.proofs.Theorem.{early-id-holds}
 use Rattle.round_trip.specs.InFile.{file_with, ListsHavePlan}
 use Rattle.round_trip.specs.Early.{early_id}
-use Rattle.round_trip.specs.Objects.{header_of}
+use Rattle.round_trip.specs.Objects.{root_header}
 use Rattle.round_trip.proofs.Back.{holds-there}
-use Rattle.round_trip.proofs.WholeWay.{Accepted, call_in, accepted, header_is}
+use Rattle.round_trip.proofs.WholeWay.{Accepted, call_in, accepted, header_is, all-managed}
 
 -- a front part, put over the whole
 front-again : (all front later old : List ℕ) → all ≡ front ++ later → put (put old 0 all) 0 front ≡ put old 0 all
@@ -58,7 +57,7 @@ module _ {xs js os bs F : List ℕ} {site : Site} {p : ManagedPlan} (A : Accepte
   plans = planned (accepted A)
 
   -- a file that still holds the region holds the heap
-  pub holds : {h : FractalHeapHeader} {G : List ℕ} → h ≡ header_of site p → HoldsRegion G call p
+  pub holds : {h : FractalHeapHeader} {G : List ℕ} → h ≡ root_header site p → HoldsRegion G call p
       → HoldsHeap h G w call p
   holds k r =
       record {
@@ -68,6 +67,11 @@ module _ {xs js os bs F : List ℕ} {site : Site} {p : ManagedPlan} (A : Accepte
         offset_size_is = refl;
       }
 
+  -- under this header its objects are managed
+  pub managed : {h : FractalHeapHeader} {k i : ℕ} → h ≡ root_header site p → i < k → k ≤ length xs
+      → ObjectIsManaged h call i
+  managed {i = i} is l m = rw is (all-managed A i (omega arith))
+
   pub its-id : {k i : ℕ} {id : List ℕ} → i < k → k ≤ length xs → 0 < slice_index xs i
       → id ≡ object_id w (take k xs) i → IsIdOf id call k i
   its-id l m s d = record { index = l; front = m; not_empty = s; id_given = d }
@@ -75,14 +79,14 @@ module _ {xs js os bs F : List ℕ} {site : Site} {p : ManagedPlan} (A : Accepte
   module _ {k i o b : ℕ} (D : Drawn xs os bs k i o b) where
     accepted-id : id_checked fixed (offset_of w (take k xs) i) (slice_index (take k xs) i) 8 ≡ Ok tt
     accepted-id =
-        (early-id-holds call p (accepted A) (file_with site p xs js F) (holds-there (accepted A) F refl)
-        (header_of site p) (header_is A) k i D.index
-        (omega (arith, D.index, D.front)) D.not_empty).comes_back.id_accepted
+        ((early-id-holds call p (accepted A) (file_with site p xs js F) (holds-there (accepted A) F refl)
+        (root_header site p) (header_is A) k i D.index
+        (omega (arith, D.index, D.front)) D.not_empty).comes_back
+        (all-managed A i (omega (arith, D.index, D.front)))).id_accepted
         8 (omega arith)
 
     -- it is given this ID
     id-given : early_id (take k xs) i o b w ≡ Ok (object_id w (take k xs) i)
-    unfolding offset_bytes
     id-given =
         (λ j. early_id (take k xs) i (D.offset_places j) (D.block_places j) w)
         ∙ rw ((front-parts-fit xs (length os) (length bs) w p plans k).accepted, accepted-id)

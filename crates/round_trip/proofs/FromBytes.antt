@@ -11,7 +11,7 @@ use Rattle.fractal_heap.specs.declared.write.WrittenHeader.{WrittenHeader}
 use Rattle.fractal_heap.specs.Spelling.{header_spelled}
 use Rattle.fractal_heap.specs.Writing.{header_length, header_written}
 use Rattle.fractal_heap.proofs.Written.{length-header_spelled}
-use Rattle.heap_kept.specs.HeapKept.{Call, part_of}
+use Rattle.heap_kept.specs.HeapKept.{Call, ObjectIsManaged, part_of}
 use Rattle.heap_kept.specs.Kept.{HoldsHeap, IsIdOf, IsFetched}
 use Rattle.heap_kept.specs.FromBytes.{HoldsHeader}
 use Rattle.heap_kept.specs.OwnHeader.{planned_header, OwnHeaderAccepted}
@@ -98,6 +98,9 @@ module _ {xs js os bs F : List ℕ} {site : Site} {p : ManagedPlan} (A : Accepte
           is_header = rw is own.is_header;
           offset_size_is = refl;
         }
+
+    pub heap-managed : {k i : ℕ} → i < k → k ≤ length xs → ObjectIsManaged h call i
+    heap-managed {i = i} l m = rw is (own.all_managed i (omega arith))
 
     -- and an object that is fetched there has its bytes
     pub came : {id : List ℕ} {k i : ℕ} (old new : List ℕ) {result : Result ℕ FormatError} → IsIdOf id call k i

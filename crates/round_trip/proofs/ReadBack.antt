@@ -5,7 +5,6 @@ use Rattle.table.specs.Table.{fixed}
 use Rattle.ids.specs.Written.{managed_id}
 use Rattle.ids.proofs.Ids.{id-length}
 use Rattle.ids.specs.Checks.{id_checked}
-use Rattle.table.specs.Sizes.{offset_bytes}
 use Rattle.fractal_heap.specs.declared.header.FractalHeapHeader.{FractalHeapHeader}
 use Rattle.fractal_heap.specs.Read.{managed_at}
 use Rattle.round_trip.specs.Objects.{object_at}
@@ -19,5 +18,4 @@ id_written s o n e =
 -- an object is read by the ID that the writer accepts
 pub read-by : (h : FractalHeapHeader) (s : List ℕ) (w o n : ℕ) → id_checked fixed o n 8 ≡ Ok tt
     → object_at h s w o n ≡ managed_at h s (managed_id fixed o n) w
-unfolding offset_bytes
 read-by h s w o n e = rw e refl

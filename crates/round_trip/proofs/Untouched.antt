@@ -10,7 +10,7 @@ use Rattle.heap_kept.specs.Kept.{IsFetched}
 use Rattle.heap_kept.proofs.Keeping.{size-is}
 use Rattle.round_trip.specs.InFile.{serialized_in, file_with, ListsHavePlan}
 use Rattle.round_trip.specs.Backs.{returned_count}
-use Rattle.round_trip.specs.Objects.{header_of}
+use Rattle.round_trip.specs.Objects.{root_header}
 use Rattle.round_trip.specs.Passed.{counted_in, fetched_in}
 use Rattle.round_trip.specs.RoundTrip.{nonempty_count, came_back}
 use Rattle.round_trip.proofs.Back.{holds-there}
@@ -26,7 +26,7 @@ module _ (xs js os bs F : List ℕ) (site : Site) (file : List ℕ) where
   all_counted offsets blocks (Ok p) e f q o =
       let A : Accepted xs js os bs F site p = record { answer = e } in
       let L = rw q at o in
-      q ∙ ap Ok (ap₂ (λ (v s : List ℕ). returned_count (header_of site p) s site.offset_size xs v js)
+      q ∙ ap Ok (ap₂ (λ (v s : List ℕ). returned_count (root_header site p) s site.offset_size xs v js)
       L.offsets_listed f ∙ all-came A)
   all_counted offsets blocks (Err x) e f q o = q
 

@@ -3,6 +3,7 @@ use Rattle.std.specs.Prelude.{ℕ, ◌+◌, ◌^◌, List, Result}
 use Rattle.refusals.specs.Steps.{◌>>=◌}
 use Rattle.refusals.specs.declared.FormatError.{FormatError}
 use Rattle.table.specs.Table.{fixed}
+use Rattle.table.specs.Sizes.{max_managed}
 use Rattle.plan.specs.declared.ManagedPlan.{ManagedPlan}
 use Rattle.region_blocks.specs.declared.Site.{Site}
 use Rattle.fields.specs.declared.place.Place.{Place}
@@ -11,14 +12,14 @@ use Rattle.fractal_heap.specs.Read.{managed_at}
 use Rattle.ids.specs.Written.{managed_id}
 use Rattle.ids.specs.Checks.{id_length, id_checked}
 
--- the header of an unfiltered heap with the fixed geometry, with its root and the root's rows; no reader heeds the
--- other fields
-abbrev pub fixed_header : ℕ → ℕ → FractalHeapHeader
-fixed_header root_address root_rows = record {
+-- the header of an unfiltered heap with the fixed geometry, with its root, the root's rows and the largest object that
+-- a block holds at this offset size; no reader heeds the other fields
+abbrev pub fixed_header : (offset_size root_address root_rows : ℕ) → FractalHeapHeader
+fixed_header offset_size root_address root_rows = record {
   heap_id_length = 4097;
   io_filter_encoded_length = 0;
   flags = 253;
-  max_managed_object_size = 7;
+  max_managed_object_size = max_managed fixed offset_size;
   next_huge_object_id = 11111;
   btree_huge_objects_address = 0x123456789ABCDEF;
   free_space_managed_blocks = 22222;
@@ -40,11 +41,15 @@ fixed_header root_address root_rows = record {
   start_root_rows = 999;
   root_block_address = root_address;
   current_rows_in_root_indirect_block = root_rows;
+  io_filter_information_position = 333333;
+  filtered_root_direct_block_size = 444444;
+  io_filter_mask = 555555;
 }
 
 -- that of the heap of a plan
-abbrev pub header_of : Site → ManagedPlan → FractalHeapHeader
-header_of site plan = fixed_header (site.region_address + plan.root_place) plan.root_rows
+abbrev pub root_header : Site → ManagedPlan → FractalHeapHeader
+root_header site plan =
+    fixed_header site.offset_size (site.region_address + plan.root_place) plan.root_rows
 
 -- what the file answers for the object of `size` bytes at the heap offset `offset`, by its ID; in eight bytes an ID is
 -- refused by 16 alone

@@ -8,14 +8,14 @@ use Rattle.region_blocks.specs.declared.Site.{Site}
 use Rattle.fractal_heap.specs.Read.{managed_at}
 use Rattle.heap_kept.specs.HeapKept.{object_id}
 use Rattle.heap_kept.specs.Kept.{fetched}
-use Rattle.round_trip.specs.Objects.{header_of}
+use Rattle.round_trip.specs.Objects.{root_header}
 use Rattle.round_trip.specs.Backs.{returned_count}
 
 -- what the file answers for the i-th object, by the ID that it is given when there are the first objects alone, `early`
 -- of them
 abbrev pub object_in : Site → ManagedPlan → List ℕ → ℕ → ℕ → List ℕ → Result Place FormatError
 object_in site plan sizes early i file =
-    managed_at (header_of site plan) file (object_id site.offset_size (take early sizes) i)
+    managed_at (root_header site plan) file (object_id site.offset_size (take early sizes) i)
     site.offset_size
 
 -- how many bytes of it are fetched into so many, where the writer accepts
@@ -30,4 +30,4 @@ abbrev pub counted_in : Result ManagedPlan FormatError → Site → List ℕ →
     → Result ℕ FormatError
 counted_in planned site sizes offsets objects file = do
   plan ← planned
-  Ok (returned_count (header_of site plan) file site.offset_size sizes offsets objects)
+  Ok (returned_count (root_header site plan) file site.offset_size sizes offsets objects)

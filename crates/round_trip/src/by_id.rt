@@ -3,28 +3,29 @@ ghost use Rattle.std.specs.Prelude.{◌≡◌, ◌+◌, ◌^◌, ◌<◌, ◌≤
 ghost use Rattle.table.specs.Table.{fixed};
 ghost use Rattle.planner.specs.Steps.{plan_offsets, plan_starts};
 ghost use Rattle.plan.specs.Answer.{planned_for, list_after};
-ghost use Rattle.round_trip.specs.Objects.{fixed_header, header_of, object_at};
+ghost use Rattle.round_trip.specs.Objects.{fixed_header, root_header, object_at};
 ghost use Rattle.round_trip.specs.Early.{early_id};
 
 use fields::Place;
 use fractal_heap::FractalHeapHeader;
-use ids::write::write_managed_id;
+use ids::write_managed_id;
 use plan::ManagedPlan;
 use reading::DoublingTable;
 use refusals::FormatError;
 use region_blocks::Site;
+use table::block_sizes::max_managed_object;
 use table::{MAX_DIRECT_BLOCK_SIZE, MAX_HEAP_SIZE_BITS, STARTING_BLOCK_SIZE, TABLE_WIDTH};
 
-/// The header of a heap with the fixed geometry, for tests and as an example: a reader heeds the root, its rows and the
-/// geometry, and not the other numbers.
-pub fn fixed_header(root: u64, rows: u16) -> FractalHeapHeader
-    ensures { result ≡ fixed_header root rows }
+/// The header of a heap with the fixed geometry, for tests and as an example: a reader heeds the root, its rows, the
+/// geometry, the largest managed object and the length of the filters, and not the other numbers.
+pub fn fixed_header(offset_size: u8, root: u64, rows: u16) -> FractalHeapHeader
+    ensures { result ≡ fixed_header offset_size root rows }
 {
     FractalHeapHeader {
         heap_id_length: 4_097,
         io_filter_encoded_length: 0,
         flags: 253,
-        max_managed_object_size: 7,
+        max_managed_object_size: max_managed_object(offset_size) as u32,
         next_huge_object_id: 11_111,
         btree_huge_objects_address: 0x0123_4567_89AB_CDEF,
         free_space_managed_blocks: 22_222,
@@ -46,21 +47,27 @@ pub fn fixed_header(root: u64, rows: u16) -> FractalHeapHeader
         start_root_rows: 999,
         root_block_address: root,
         current_rows_in_root_indirect_block: rows,
+        io_filter_information_position: 333_333,
+        filtered_root_direct_block_size: 444_444,
+        io_filter_mask: 555_555,
     }
 }
 
 /// The header of the heap of a plan.
-pub fn header_of(site: Site, plan: ManagedPlan) -> FractalHeapHeader
+pub fn root_header(site: Site, plan: ManagedPlan) -> FractalHeapHeader
     requires root_fits { site.region_address + plan.root_place < 2 ^ 64 }
     requires rows_fit { plan.root_rows < 2 ^ 16 }
-    ensures { result ≡ header_of site plan }
+    ensures { result ≡ root_header site plan }
 {
-    fixed_header(site.region_address + plan.root_place, plan.root_rows as u16)
+    fixed_header(
+        site.offset_size,
+        site.region_address + plan.root_place,
+        plan.root_rows as u16,
+    )
 }
 
 /// The ID of the `i`-th object while there are these sizes and no more: from their plan alone, which goes into the
 /// lists. Refused as planning refuses, and by 16 where the object has no ID.
-#[tactic(auto, unfolding(table::specs::Sizes::offset_bytes))]
 pub fn early_id(
     sizes: &[u64],
     i: usize,
@@ -85,7 +92,6 @@ pub fn early_id(
 }
 
 /// Writes the ID of the object of `size` bytes at the heap offset `offset`, and reads by it.
-#[tactic(auto, unfolding(table::specs::Sizes::offset_bytes))]
 pub fn read_object(
     file: &[u8],
     header: &FractalHeapHeader,
@@ -93,7 +99,7 @@ pub fn read_object(
     size: u64,
     offset_size: u8,
 ) -> Result<Place, FormatError>
-    ensures value { result ≡ object_at header.now file.now offset_size offset size }
+    ensures found { result ≡ object_at header.now file.now offset_size offset size }
     ensures in_file { IfOk result (λ place. place.position + place.length ≤ length file.now) }
 {
     let mut id = [0u8; 8];

@@ -24,7 +24,6 @@ use table::block_sizes::max_managed_object;
 use table::{MAX_DIRECT_BLOCK_SIZE, MAX_HEAP_SIZE_BITS, STARTING_BLOCK_SIZE, TABLE_WIDTH};
 
 /// The header of a plan itself, at a site, with so many objects and nothing else.
-#[tactic(auto, unfolding(table::specs::Sizes::max_managed, table::specs::Sizes::direct_header))]
 pub fn planned_header(site: Site, plan: ManagedPlan, objects: u64) -> FractalHeapHeader
     requires width { legal site.offset_size ≡ true }
     requires root_fits { site.region_address + plan.root_place < 2 ^ 64 }
@@ -58,6 +57,9 @@ pub fn planned_header(site: Site, plan: ManagedPlan, objects: u64) -> FractalHea
         start_root_rows: 1,
         root_block_address: site.region_address + plan.root_place,
         current_rows_in_root_indirect_block: plan.root_rows as u16,
+        io_filter_information_position: 0,
+        filtered_root_direct_block_size: 0,
+        io_filter_mask: 0,
     }
 }
 
@@ -68,7 +70,7 @@ fn write_header_at(
     file: &mut [u8],
 ) -> Result<WrittenHeader, FormatError>
     requires { site.heap_header_address ≤ length file.old }
-    ensures value { result ≡ header_written header site.offset_size 8
+    ensures answered { result ≡ header_written header site.offset_size 8
         (length (drop site.heap_header_address file.old)) }
     ensures written { OnOk result (file.new ≡ put file.old site.heap_header_address
         (header_spelled header site.offset_size 8)) }

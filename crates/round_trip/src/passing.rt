@@ -9,7 +9,7 @@ ghost use Rattle.heap_kept.specs.Kept.{IsFetched};
 ghost use Rattle.round_trip.specs.InFile.{serialized_in, file_with, ListsHavePlan};
 ghost use Rattle.round_trip.specs.Passed.{object_in, fetched_in, counted_in};
 
-use crate::by_id::{early_id, header_of};
+use crate::by_id::{early_id, root_header};
 use crate::objects::read_back;
 use crate::region::serialize_at;
 use heap_kept::object_bytes::fetch;
@@ -104,7 +104,7 @@ pub fn fetch_after<P: Passing>(
     // The early objects are planned alone, as when there were no others. Their plan goes over the front of the whole's
     // in the lists, where it is the same.
     let id = early_id(&sizes[..early], i, site.offset_size, offsets, blocks)?;
-    fetch(&header_of(site, plan), file, &id, site.offset_size, found)
+    fetch(&root_header(site, plan), file, &id, site.offset_size, found)
 }
 
 /// Writes the region of the objects into `file`, lets the file pass, and counts the nonempty objects that come back
@@ -129,6 +129,6 @@ pub fn count_after<P: Passing>(
         × (file.new ≡ file.old)) }
 {
     let plan = serialize_and_pass::<P>(sizes, objects, site, offsets, blocks, file)?;
-    let header = header_of(site, plan);
+    let header = root_header(site, plan);
     Ok(read_back(file, &header, sizes, offsets, objects, site.offset_size))
 }

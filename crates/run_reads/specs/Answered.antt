@@ -11,22 +11,26 @@ use Rattle.fields.specs.declared.place.Place.{Place}
 use Rattle.fractal_heap.specs.Header.{header_at}
 use Rattle.fractal_heap.specs.Read.{id_by, object_by}
 use Rattle.fractal_heap.specs.declared.header.FractalHeapHeader.{FractalHeapHeader}
-use Rattle.run_reads.specs.Head.{kind_in, offset_size_in, length_size_in, read_size_in, id_length_in, header_place_in}
+use Rattle.run_reads.specs.Head.{kind_in, offset_size_in, length_size_in, read_size_in}
+use Rattle.run_reads.specs.Head.{id_length_in, header_place_in}
 use Rattle.run_reads.specs.Cases.{head_in, file_in, id_in}
 use Rattle.run_reads.specs.Recorded.{is_answer, is_parsed}
 
 -- the header of the file
-abbrev pub header_of : (head file : List ℕ) → Result FractalHeapHeader FormatError
-header_of head file = header_at file (header_place_in head) (offset_size_in head) (length_size_in head)
+abbrev pub file_header : (head file : List ℕ) → Result FractalHeapHeader FormatError
+file_header head file =
+    header_at file (header_place_in head) (offset_size_in head) (length_size_in head)
 
 -- a managed ID by it
 abbrev pub id_of : (head file id : List ℕ) → Result ManagedId FormatError
-id_of head file id = id_by file (header_place_in head) (offset_size_in head) (length_size_in head) id
+id_of head file id =
+    id_by file (header_place_in head) (offset_size_in head) (length_size_in head) id
 
 -- a managed object by it
 abbrev pub object_of : (head file id : List ℕ) → Result Place FormatError
 object_of head file id =
-    object_by file (header_place_in head) (offset_size_in head) (length_size_in head) id (read_size_in head)
+    object_by file (header_place_in head) (offset_size_in head) (length_size_in head) id
+    (read_size_in head)
 
 -- a tiny object
 abbrev pub tiny_of : (head id : List ℕ) → Result Place FormatError
@@ -35,7 +39,7 @@ tiny_of head id = tiny_at (id_length_in head) id
 -- the answer to this kind is the recorded one
 abbrev pub answered_as_recorded : (head file id : List ℕ) → Bool
 answered_as_recorded head file id =
-    if kind_in head == 0 then is_parsed head (header_of head file)
+    if kind_in head == 0 then is_parsed head (file_header head file)
     else if kind_in head == 1 then is_answer head (report_of id_report (id_of head file id))
     else if kind_in head == 2 then is_answer head (report_of place_report (object_of head file id))
     else if kind_in head == 3 then is_answer head (report_of place_report (tiny_of head id))

@@ -1,4 +1,5 @@
--- What stands where in the head of a case: src/main.rt says at its top what a case is. Numbers are little-endian.
+-- What stands where in the head of a case: src/main.rt says at its top what a case is. Numbers are
+-- little-endian.
 use Rattle.std.specs.Prelude.{ℕ, ◌+◌, ◌*◌, List, slice_index}
 use Rattle.fields.specs.LittleEndian.{le_at}
 
@@ -40,15 +41,12 @@ header_place_in head = le_at head 14 8
 abbrev pub number_in : (head : List ℕ) → ℕ
 number_in head = le_at head 22 4
 
--- how many words are recorded: two of an answer, 23 of a header
+-- how many words are recorded: two of an answer, of a header as many as it has numbers
 abbrev pub word_count_in : (head : List ℕ) → ℕ
 word_count_in head = slice_index head 26
 
 abbrev pub answer_words : ℕ
 answer_words = 2
-
-abbrev pub header_words : ℕ
-header_words = 23
 
 -- the words stand from here on, one behind the other, so that the i-th is at this place
 abbrev pub words_place : ℕ

@@ -6,7 +6,8 @@
 // A case, all numbers little-endian: kind (1 byte: 0 parse, 1 decode, 2 read, 3 tiny, 4 ID type), offset
 // size (1), length size (1), offset size of the read (1), heap ID length (2), bytes of the file (4), bytes
 // of the ID (4), the header's place (8), the refusal's number (4), n (1); then n words of 8 bytes, the
-// file, the ID. An accepted parse has 23 words, the header's fields by the format; any other answer has two values.
+// file, the ID. An accepted parse has 26 words, the header's fields by the format and what is kept of its
+// filters; any other answer has two values.
 #![tactic(auto)]
 
 mod one_case;

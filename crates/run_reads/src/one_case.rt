@@ -5,7 +5,7 @@ ghost use Rattle.run_reads.specs.Recorded.{has_words, is_recorded, is_answer, is
 
 use fields::convert::to_usize;
 use fields::little_endian::{read_u16_le, read_u32_le, read_u64_le};
-use fractal_heap::{FractalHeapHeader, ManagedId, Place};
+use fractal_heap::{FractalHeapHeader, ManagedId, NUMBER_COUNT, Place};
 use ids::tiny::read_tiny_object;
 use refusals::{Answer, FormatError, Reported};
 
@@ -35,10 +35,8 @@ const WORDS: usize = 27;
 // Bytes of a word.
 const WORD_SIZE: usize = 8;
 
-// How many words are recorded of an answer, and of a header.
-const ANSWER_WORDS: u8 = 2;
-
-const HEADER_WORDS: u8 = 23;
+// How many words are recorded of an answer; of a header as many as it has numbers.
+const ANSWER_WORDS: usize = 2;
 
 /// The kinds of cases, of which the last is that of an ID's type.
 pub const PARSE: u8 = 0;
@@ -89,7 +87,7 @@ pub struct Case<'a> {
 
 impl<'a> Case<'a> {
     ghost use Rattle.run_reads.specs.Cases.{case_size, begins_case, IsCase};
-    ghost use Rattle.run_reads.specs.Answered.{header_of, id_of, object_of, answered_as_recorded};
+    ghost use Rattle.run_reads.specs.Answered.{file_header, id_of, object_of, answered_as_recorded};
 
     /// The case that a list begins with, and the list behind it; none where no whole case does.
     pub fn first(list: &'a [u8]) -> Option<(Case<'a>, &'a [u8])>
@@ -101,14 +99,14 @@ impl<'a> Case<'a> {
         if list.len() < WORDS {
             return None;
         }
-        let n = list[WORD_COUNT];
+        let n = usize::from(list[WORD_COUNT]);
         if list[KIND] > ID_TYPE {
             return None;
         }
-        if n != ANSWER_WORDS && n != HEADER_WORDS {
+        if n != ANSWER_WORDS && n != NUMBER_COUNT {
             return None;
         }
-        let head_bytes = WORDS + WORD_SIZE * usize::from(n);
+        let head_bytes = WORDS + WORD_SIZE * n;
         let file_bytes = read_u32_le(list, FILE_BYTES) as usize;
         let id_bytes = read_u32_le(list, ID_BYTES) as usize;
         let size = head_bytes + file_bytes + id_bytes;
@@ -125,7 +123,7 @@ impl<'a> Case<'a> {
 
     // The header, with which the first three kinds begin: its refusal is the answer to each of them.
     fn header(&self) -> Result<FractalHeapHeader, FormatError>
-        ensures { result ≡ header_of self.now.head.now self.now.file.now }
+        ensures { result ≡ file_header self.now.head.now self.now.file.now }
     {
         let head = self.head;
         let place = to_usize(read_u64_le(head, HEADER_PLACE));
@@ -153,7 +151,7 @@ impl<'a> Case<'a> {
         is_recorded(self.head, answer.number, &words)
     }
 
-    // The same of what parsing gives: an accepted header is recorded by its fields.
+    // The same of what parsing gives: an accepted header is recorded by its numbers.
     fn records_header(&self, parsed: Result<FractalHeapHeader, FormatError>) -> bool
         ensures { result ≡ is_parsed self.now.head.now parsed }
     {

@@ -9,7 +9,7 @@
 use Size::{Bytes, FullBlock, Largest};
 use checksum::jenkins_lookup3;
 use fractal_heap::FractalHeapHeader;
-use ids::write::write_managed_id;
+use ids::write_managed_id;
 use plan::ManagedPlan;
 use refusals::{FormatError, Reported};
 use region_blocks::Site;
@@ -203,7 +203,11 @@ impl Trip<'_> {
             back: back.min(self.fetched()),
             ids,
             file,
-            header: fixed_header(root, (plan.root_rows % 0x1_0000) as u16),
+            header: fixed_header(
+                self.site.offset_size,
+                root,
+                (plan.root_rows % 0x1_0000) as u16,
+            ),
         })
     }
 

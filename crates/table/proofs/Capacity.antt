@@ -10,7 +10,6 @@ use Rattle.std.proofs.lemmas.Bool.Decides.{nat_tests}
 use Rattle.std.proofs.lemmas.List.{take-append-le, take-set-le}
 use Rattle.std.specs.Prelude.{nat_le, if◌then◌else◌, slice_index}
 use Rattle.table.specs.Table.{Table, fixed, row_bits, row_offset}
-use Rattle.table.specs.Sizes.{offset_bytes, direct_header}
 use Rattle.numbers.specs.Sums.{sum}
 use Rattle.numbers.proofs.Sums.{sum-append, sum-take-suc, sum-take-le}
 use Rattle.table.specs.Capacity.{block_capacity, capacities, capacity}
@@ -77,18 +76,13 @@ module _ (t : Table) (h : ℕ) where
 
 pub capacity-small : (h n : ℕ) → n ≤ 29 → capacity fixed h n ≤ 2 ^ 40
 capacity-small h n l =
-    let m : row_offset fixed n ≤ 2 ^ 40 = (let z = row-mono fixed n 29 l in unfold row_offset in z) in
+    let m : row_offset fixed n ≤ 2 ^ 40 = row-mono fixed n 29 l in
     le_trans (capacity-le fixed h (omega arith) (omega arith) n) m
 
 sum-small : (h n : ℕ) → n ≤ 29 → 4 * sum (capacities fixed h n) ≤ 2 ^ 40
 sum-small h n l = capacity-small h n l
 
-pub header-small : (w : ℕ) → w ≤ 255 → direct_header fixed w ≤ 1024
-unfolding direct_header offset_bytes
-header-small w l = omega arith
-
 pub row_size_ge : (r : ℕ) → 1024 ≤ 2 ^ row_bits fixed r
-unfolding row_bits
 row_size_ge r = pow_mono (let e : 10 ≤ 10 + (r - 1) = omega arith in e)
 
 -- the rows before r are filled, and `below` is what one block of each of the rows that fill a slot of row r holds
@@ -100,7 +94,7 @@ pub record Filling (h : ℕ) (l : List ℕ) (below r : ℕ) : Type 0 where
   pub sums : below ≡ sum (take (r - 2) l)
 
 two-rows : (h : ℕ) → (1024 - h) ∷ (1024 - h) ∷ [] ≡ capacities fixed h 2
-unfolding capacities row_bits
+unfolding capacities
 two-rows h = refl
 
 pub filling-start : (h : ℕ) → Filling h (replicate 29 (1024 - h)) 0 2
@@ -142,11 +136,6 @@ module _ {h : ℕ} {l : List ℕ} {below r : ℕ} (I : Filling h l below r) wher
           front = front-is;
           sums = omega (arith, I.sums, o, ap sum k, sum-take-suc l m (omega (arith, I.places)));
         }
-
-  pub filling-done : 29 ≤ r → l ≡ capacities fixed h 29
-  filling-done u =
-      let e : r ≡ 29 = omega arith in
-      sym (take_all r l (omega (arith, I.places))) ∙ I.front ∙ ap (capacities fixed h) e
 
 -- ---- the sum over some rows
 

@@ -10,7 +10,7 @@ use Rattle.std.proofs.lemmas.Nat.{pow_pos, shr_split, same_from_place}
 use Rattle.std.specs.Prelude.{if◌then◌else◌, nat_le}
 use Rattle.table.specs.Table.{Table, fixed, row_bits, row_offset, row_of, place_of}
 use Rattle.table.specs.Slots.{slot_bits, slot_at, slot_start, table_slot, entered_bytes_in, entered_bytes}
-use Rattle.table.specs.Sizes.{indirect_size, offset_bytes}
+use Rattle.table.specs.Sizes.{indirect_size}
 use Rattle.table.specs.declared.RowCol.{RowCol}
 use Rattle.table.specs.declared.Slot.{Slot}
 use Rattle.table.specs.declared.TableSlot.{TableSlot}
@@ -36,7 +36,6 @@ module _ (t : Table) where
 
 -- the slot that holds x begins at or before it, in one of the root's rows
 pub start-le : (x : ℕ) → slot_start fixed x ≤ x
-unfolding slot_start
 start-le x = omega (arith, shr_split x (row_bits fixed (row_of fixed x)))
 
 -- the row's start and the column's give the slot
@@ -46,7 +45,6 @@ module _ (x : ℕ) {at : RowCol} (e : at ≡ place_of fixed x) where
 
   module _ {size : ℕ} (s : size ≡ 2 ^ row_bits fixed at.row) where
     pub placed_size : x < 2 ^ 40 → size ≤ 2 ^ 40
-    unfolding row_bits
     placed_size h =
         let r = placed_row h in
         let le : 2 ^ row_bits fixed at.row ≤ 2 ^ 40 = pow_mono {j = 40} (omega arith) in
@@ -75,11 +73,9 @@ deep-slot x e l = leb-false _ _ (rw e at (sym l))
 -- below an indirect slot the rest of the offset is smaller than the slot, and so than what holds f bits
 module _ (x : ℕ) (h : x < 2 ^ 40) (l : 16 < row_bits fixed (row_of fixed x)) where
   pub rest_is : x - slot_start fixed x ≡ x % 2 ^ row_bits fixed (row_of fixed x)
-  unfolding slot_start
   rest_is = omega (arith, shr_split x (row_bits fixed (row_of fixed x)))
 
   pub start-ge : 2 ^ row_bits fixed (row_of fixed x) ≤ slot_start fixed x
-  unfolding slot_start
   start-ge =
       let b = row_bits fixed (row_of fixed x) in
       let T = top-row fixed x (heap-rows fixed x h) in
@@ -120,7 +116,6 @@ module _ {o base x : ℕ} (L : Loc o base x) where
   pub loc_direct : row_bits fixed (row_of fixed x) ≤ 16
       → ◌≡◌ {A = Slot} (record { start = base + slot_start fixed x; size = 2 ^ row_bits fixed (row_of fixed x) })
       (slot_at fixed o)
-  unfolding slot_at slot_start
   loc_direct l =
       let b = row_bits fixed (row_of fixed x) in
       let c = slot_bits fixed o in
@@ -135,7 +130,6 @@ module _ {o base x : ℕ} (L : Loc o base x) where
       rw e (λ i. record { start = w i; size = 2 ^ b })
 
   pub loc_deeper : 16 < row_bits fixed (row_of fixed x) → Loc o (base + slot_start fixed x) (x - slot_start fixed x)
-  unfolding slot_start
   loc_deeper l =
       let b = row_bits fixed (row_of fixed x) in
       let c = slot_bits fixed o in
@@ -155,7 +149,6 @@ module _ {o base x : ℕ} (L : Loc o base x) where
 -- ---- the indirect blocks on the way
 
 row-lt : (m n : ℕ) → m < n → row_offset fixed m < row_offset fixed n
-unfolding row_offset
 row-lt m zero l = absurd (omega arith)
 row-lt zero (suc n) l = pow_pos (12 + n)
 row-lt (suc m) (suc n) l = pow-lt (omega arith)
@@ -168,7 +161,6 @@ rows-of-slot r l u =
     ap (row_of fixed) (slot-rows fixed r (omega arith) (omega arith) l) ∙ rows
 
 pub indirect-small : (w n : ℕ) → w ≤ 255 → n ≤ 40 → indirect_size fixed w n ≤ 2 ^ 18
-unfolding indirect_size offset_bytes
 indirect-small w n l u = let a : n * 4 * w ≤ n * 4 * 255 = mul-le-mul_left (n * 4) l in omega arith
 
 entered-in-small : (w f e a x : ℕ) → w ≤ 255 → entered_bytes_in fixed w f e a x ≤ f * 2 ^ 18
@@ -180,7 +172,6 @@ entered-in-small w (suc f) e a x l =
     grind (arith, nat_tests, one, more)
 
 pub entered-small : (w e s : ℕ) → w ≤ 255 → entered_bytes fixed w e s ≤ 2 ^ 24
-unfolding entered_bytes
 entered-small w e s l = omega (arith, entered-in-small w 40 e 0 s l)
 
 -- what is counted so far, and what the block at base has still to add
@@ -192,7 +183,6 @@ pub record Entering (w e s total base x : ℕ) : Type 0 where
   pub rest : entered_bytes fixed w e s ≡ total + entered_bytes_in fixed w fuel e base x
 
 pub entering-start : (w e s : ℕ) → s < 2 ^ 40 → Entering w e s 0 0 s
-unfolding entered_bytes
 entering-start w e s h = record { fuel = 40; enough = h; heap = h; sum = omega arith; rest = omega arith }
 
 module _ {w e s total base x : ℕ} (I : Entering w e s total base x) where

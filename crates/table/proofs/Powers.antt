@@ -23,6 +23,3 @@ step-below d e c l = let u : d < e = grind (arith, pow_pos c) in mul-le-mul_righ
 
 pub carry : (w b : ℕ) → 2 ^ suc w * 2 ^ b ≡ 2 ^ w * 2 ^ suc b
 carry w b = sym (pow-add 2 (suc w) b) ∙ ap (λ (k : ℕ). 2 ^ k) (omega arith) ∙ pow-add 2 w (suc b)
-
-pub le_of_not_lt : {a b : ℕ} → (b < a → ⊥) → a ≤ b
-le_of_not_lt h = omega arith

@@ -32,16 +32,13 @@ module _ (t : Table) (x : ℕ) where
 -- ---- the fixed table
 
 pub covers-zero : covering fixed 0 ≡ Some 1
-unfolding covering
 covers-zero = covering-is fixed 0 29 1 1 (omega arith) (omega arith) (λ j a b. absurd (omega arith)) zero-le
 
 pub covers-not : (x : ℕ) → 2 ^ 40 < x → covering fixed x ≡ None
-unfolding covering row_offset
 covers-not x h = covering-none fixed x 29 1 (λ j l. omega (arith, row-mono fixed j 29 (omega arith)))
 
 -- the row of the last byte is the last row
 pub covers : (x : ℕ) → 0 < x → x ≤ 2 ^ 40 → covering fixed x ≡ Some (row_of fixed (x - 1) + 1)
-unfolding covering
 covers x p h =
     let r = row_of fixed (x - 1) in
     let l = row-29 (x - 1) (omega arith) in

@@ -72,7 +72,6 @@ module _ (t : Table) where
       ]
 
   pub slot-bits-is : (x : ℕ) → t.start_bits ≤ t.direct_bits → x < 2 ^ t.heap_bits → Slotted t x (slot_bits t x)
-  unfolding slot_bits
   slot-bits-is x g h = slot-in-is t.heap_bits x g h h
 
 -- x is where a direct slot begins
@@ -186,18 +185,15 @@ module _ (t : Table) where
       sub q b (m' * 2 ^ c) T l (omega arith) w (down i m' s' (sym sp) us)
 
   pub slot-some : (c : ℕ) → 0 < (slot_at t c).size
-  unfolding slot_at
   slot-some c = pow_pos (slot_bits t c)
 
   -- a slot ends past what it holds
   pub end-gt : (c : ℕ) → c < slot_end (slot_at t c)
-  unfolding slot_at
   end-gt c = lt-div-mul-add (pow_pos (slot_bits t c))
 
   -- and no later than the heap
   pub end-le : (c : ℕ) → t.start_bits ≤ t.direct_bits → t.start_bits ≤ t.heap_bits → c < 2 ^ t.heap_bits
       → slot_end (slot_at t c) ≤ 2 ^ t.heap_bits
-  unfolding slot_at
   end-le c g k h =
       let b = slot_bits t c in
       let bl : b ≤ t.heap_bits = slotted-hi t (slot-bits-is t c g h) t.heap_bits k h in
@@ -211,21 +207,18 @@ module _ (t : Table) (g : t.start_bits ≤ t.direct_bits) (k : t.start_bits ≤ 
 
   -- at a slot's start the slot begins there
   pub start-here : (c : ℕ) → Start t c → c < 2 ^ t.heap_bits → (slot_at t c).start ≡ c
-  unfolding slot_at
   start-here c s h =
       let b = slot_bits t c in
       let x : c ≡ s.nth * 2 ^ b = s.here ∙ ap (λ (y : ℕ). s.nth * 2 ^ y) (start-bits c s h) in
       ap (λ (y : ℕ). y / 2 ^ b * 2 ^ b) x ∙ ap (λ (y : ℕ). y * 2 ^ b) (mul-div_cancel s.nth (pow_pos b)) ∙ sym x
 
   pub start-next : (c : ℕ) → Start t c → c < 2 ^ t.heap_bits → Start t (slot_end (slot_at t c))
-  unfolding slot_at
   start-next c s h =
       let e : c + 2 ^ s.bits ≡ slot_end (slot_at t c) = grind (arith, start-bits c s h, start-here c s h) in
       subst (Start t) e (next t g s.slotted s.nth s.here)
 
   -- the slot of any offset begins where a slot begins, and it is the slot that is found there
   pub slot-start : (c : ℕ) → c < 2 ^ t.heap_bits → Start t (slot_at t c).start
-  unfolding slot_at
   slot-start c h =
       let b = slot_bits t c in
       record {
@@ -236,7 +229,7 @@ module _ (t : Table) (g : t.start_bits ≤ t.direct_bits) (k : t.start_bits ≤ 
       }
 
   pub slot-again : (c : ℕ) → c < 2 ^ t.heap_bits → slot_bits t (slot_at t c).start ≡ slot_bits t c
-  unfolding slot_at slot-start
+  unfolding slot-start
   slot-again c h =
       let b = slot_bits t c in
       let lo : c / 2 ^ b * 2 ^ b ≤ c = div-mul-le_self c (2 ^ b) in
@@ -244,12 +237,11 @@ module _ (t : Table) (g : t.start_bits ≤ t.direct_bits) (k : t.start_bits ≤ 
 
   -- where the slot of any offset ends, the next begins
   pub end-start : (c : ℕ) → c < 2 ^ t.heap_bits → Start t (slot_end (slot_at t c))
-  unfolding slot_at slot-start
+  unfolding slot-start
   end-start c h = next t g (slot-start c h).slotted (c / 2 ^ slot_bits t c) refl
 
   -- no slot begins inside another
   pub apart : (c b : ℕ) → Start t c → Start t b → c < 2 ^ t.heap_bits → c < b → slot_end (slot_at t c) ≤ b
-  unfolding slot_at
   apart c b s r h l =
       let e = start-here c s h in
       let sb = start-bits c s h in

@@ -1,7 +1,5 @@
 //! The sizes of block headers, of the largest object and of indirect blocks at the fixed geometry. The function
 //! with a `requires` serves our own crates and is no part of the interface.
-#![tactic(auto, using(crate::proofs::Sizes::sizes))]
-
 ghost use Rattle.std.specs.Prelude.{◌≡◌, ◌^◌, ◌<◌};
 ghost use Rattle.table.specs.Table.{fixed};
 ghost use Rattle.table.specs.Sizes.{direct_header, max_managed, indirect_size};

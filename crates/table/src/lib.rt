@@ -15,7 +15,7 @@ ghost use Rattle.table.specs.Table.{fixed, row_bits, row_offset, row_of, place_o
 /// attributes; two of those for links differ. All others here follow from them.
 //
 // The original's `START_ROOT_ROWS` is not here: it is the header's Starting # of Rows in Root Indirect Block, which no
-// reader goes by, and no function of ours writes a header.
+// reader goes by, and no block of ours depends on.
 pub const TABLE_WIDTH: u64 = 4;
 
 /// Bytes of a block of the first two rows (`H5O_FHEAP_MAN_START_BLOCK_SIZE`).
@@ -87,7 +87,7 @@ pub struct TableSlot {
 }
 
 /// The size of a block of a row, in bytes: it doubles from row 2 on.
-#[tactic(auto, using(crate::proofs::Rows::row_sizes))]
+#[tactic(auto, using(crate::proofs::Rows::size_of_later_row))]
 pub fn row_block_size(row: u64) -> u64
     requires { row ≤ MAX_ROOT_ROWS }
     ensures { result ≡ 2 ^ row_bits fixed row }
@@ -109,7 +109,7 @@ pub fn is_direct(row: u64) -> bool
 
 /// Where a row begins, in bytes from its indirect block's own offset on (`H5HF_dtable_t::row_block_off`); which is what
 /// the rows before it span.
-#[tactic(auto, using(crate::proofs::Rows::row_starts))]
+#[tactic(auto, using(crate::proofs::Rows::start_of_later_row))]
 pub fn row_offset(row: u64) -> u64
     requires { row ≤ MAX_ROOT_ROWS }
     ensures { result ≡ row_offset fixed row }
@@ -122,22 +122,22 @@ pub fn row_offset(row: u64) -> u64
 }
 
 /// The row of an offset. At the end of the heap space it is the number of all rows.
+#[tactic(auto, using(crate::proofs::Rows::row_low))]
 pub fn row_of(offset: u64) -> u64
     requires { offset ≤ MAX_HEAP_SPACE }
-    ensures value { result ≡ row_of fixed offset }
+    ensures row { result ≡ row_of fixed offset }
     ensures of_root { result ≤ MAX_ROOT_ROWS }
 {
     if offset < FIRST_ROW_SIZE {
         return 0;
     }
-    let high_bit = 63 - offset.leading_zeros();
-    u64::from(high_bit - FIRST_ROW_BITS + 1)
+    u64::from(offset.ilog2() - FIRST_ROW_BITS + 1)
 }
 
 /// Row and column of an offset within an indirect block (`H5HF__dtable_lookup`).
 pub fn lookup(offset: u64) -> RowCol
     requires { offset < MAX_HEAP_SPACE }
-    ensures value { result ≡ place_of fixed offset }
+    ensures place { result ≡ place_of fixed offset }
     ensures of_root { result.row < MAX_ROOT_ROWS }
 {
     let row = row_of(offset);

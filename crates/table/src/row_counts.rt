@@ -9,7 +9,7 @@ use crate::{MAX_HEAP_SPACE, MAX_ROOT_ROWS, row_of};
 /// it ends.
 pub fn size_to_rows(size: u64) -> u64
     requires { size ≤ MAX_HEAP_SPACE }
-    ensures value { result ≡ row_of fixed size }
+    ensures rows { result ≡ row_of fixed size }
     ensures of_root { result ≤ MAX_ROOT_ROWS }
 {
     row_of(size)

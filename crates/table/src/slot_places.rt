@@ -12,7 +12,7 @@ use crate::{MAX_HEAP_SPACE, Slot, TableSlot, is_direct, lookup, row_block_size, 
 /// The table's own slot that holds an offset, direct or indirect: what `locate` and `entered_blocks` do at each level.
 pub fn table_slot(offset: u64) -> TableSlot
     requires { offset < MAX_HEAP_SPACE }
-    ensures value { result ≡ table_slot fixed offset }
+    ensures slot { result ≡ table_slot fixed offset }
     ensures before { result.start ≤ offset }
     ensures size_in_heap { result.size ≤ MAX_HEAP_SPACE }
 {

@@ -104,7 +104,7 @@ module _ (t : Table) (h : ℕ) (g : t.start_bits ≤ t.direct_bits) where
 
     upto : (n : ℕ) → row_offset t n ≤ 2 ^ t.heap_bits → Upto n
     upto zero s m l =
-        rw (let e : m ≡ 0 = omega arith in e) (unfold row_offset count capacities sum in omega arith)
+        rw (let e : m ≡ 0 = omega arith in e) (unfold count capacities sum in omega arith)
     upto (suc n) s m l =
         let ih = upto n (le_trans (row-mono t n (suc n) (omega arith)) s) in
         elim (cases_lt n m) [

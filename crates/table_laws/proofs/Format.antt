@@ -15,7 +15,6 @@ use Rattle.table_laws.specs.Count.{InBody}
 
 -- the rows of the largest root span the heap
 pub heap-span : (t : Table) → t.start_bits + t.width_bits ≤ t.heap_bits → row_offset t (max_rows t) ≡ 2 ^ t.heap_bits
-unfolding row_offset
 heap-span t k =
     let a = t.start_bits + t.width_bits in
     ap (row_offset t) (let e : t.heap_bits - a + 1 ≡ suc (t.heap_bits - a) = omega arith in e)
@@ -55,7 +54,7 @@ module _ (t : Table) (g : t.start_bits ≤ t.direct_bits) where
   -- past the header of a slot is in a body
   pub slot-body : (h x : ℕ) {s z : ℕ} → t.start_bits ≤ t.heap_bits → SlotOf t s z → s + h ≤ x → x < s + z
       → in_body t h x ≡ true
-  unfolding in_body slot_at
+  unfolding in_body
   slot-body h x {s} {z} k S lo hi =
       let B = S.starts in
       let i = S.inside in
@@ -68,7 +67,6 @@ module _ (t : Table) (g : t.start_bits ≤ t.direct_bits) where
 
   -- a slot has at least the starting size
   pub slot-least : {s z : ℕ} → SlotOf t s z → 2 ^ t.start_bits ≤ z
-  unfolding slot_at
   slot-least {s} S =
       omega (arith, S.size_is, pow_mono (slotted-lo t (slot-bits-is t s g S.inside)))
 
@@ -134,7 +132,6 @@ module _ (t : Table) (g : t.start_bits ≤ t.direct_bits) (w : t.width_bits + t.
     at : row_offset t r + c * 2 ^ b ≡ q * 2 ^ b
 
   in_row : (q b : ℕ) → Top t q b → InRow q b
-  unfolding row_bits row_offset
   in_row q b T =
       let lo = T.lo in
       let up = T.up in
@@ -188,8 +185,8 @@ module _ (t : Table) (g : t.start_bits ≤ t.direct_bits) (w : t.width_bits + t.
   unfolding in_body
   body-in h n x u B =
       let L = direct-local B.slot in
-      let from = B.from in
-      let to = B.to in
+      let from = B.past_header in
+      let to = B.before_end in
       let i = L.inside in
       let e = L.size_is in
       let m = past-start t g L.slotted L.nth x L.here (omega arith) (omega arith) (omega arith) in
@@ -207,14 +204,13 @@ module _ (t : Table) (g : t.start_bits ≤ t.direct_bits) (w : t.width_bits + t.
         start = x / 2 ^ c * 2 ^ c;
         size = 2 ^ c;
         slot = slotted-direct s (suc n) l;
-        from = omega arith;
-        to = omega (arith, mod-lt x (pow_pos c));
+        past_header = omega arith;
+        before_end = omega (arith, mod-lt x (pow_pos c));
       }
 
   module _ (k : t.start_bits + t.width_bits ≤ t.heap_bits) where
     -- the direct slots of the heap are those that descent finds
     pub direct-start : {s z : ℕ} → Direct t (max_rows t) s z → SlotOf t s z
-    unfolding slot_at
     direct-start {s} {z} D =
         let L = direct-local D in
         let e = L.size_is in
@@ -223,7 +219,6 @@ module _ (t : Table) (g : t.start_bits ≤ t.direct_bits) (w : t.width_bits + t.
         record { starts = S; inside = i; size_is = e ∙ ap (λ (y : ℕ). 2 ^ y) (start-bits t g (omega arith) s S i) }
 
     pub start-direct : {s z : ℕ} → SlotOf t s z → Direct t (max_rows t) s z
-    unfolding slot_at
     start-direct {s} {z} S =
         let i = S.inside in
         subst₂ (Direct t (max_rows t)) (start-here t g (omega arith) s S.starts i) (sym S.size_is)

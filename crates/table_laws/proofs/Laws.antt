@@ -23,12 +23,10 @@ same-test a b f g = grind arith
 
 module _ (t : Table) (g : t.start_bits ≤ t.direct_bits) (k : t.start_bits ≤ t.heap_bits) where
   begins : (x : ℕ) → (slot_at t x).start ≤ x
-  unfolding slot_at
   begins x = div-mul-le_self x (2 ^ slot_bits t x)
 
   -- what is found at an offset is a slot
   found : (x : ℕ) → x < 2 ^ t.heap_bits → SlotOf t (slot_at t x).start (slot_at t x).size
-  unfolding slot_at
   found x h = record {
     starts = slot-start t g k x h;
     inside = omega (arith, begins x, h);
@@ -45,7 +43,6 @@ module _ (t : Table) (g : t.start_bits ≤ t.direct_bits) (k : t.start_bits ≤ 
       same-slot (slot_at t y) (slot_at t x) e (R.size_is ∙ ap (λ (s : ℕ). (slot_at t s).size) e ∙ sym S.size_is)
 
   aligned : (x : ℕ) → (n : ℕ) × ((slot_at t x).start ≡ n * (slot_at t x).size)
-  unfolding slot_at
   aligned x = (x / 2 ^ slot_bits t x, refl)
 
   distinct : (x y : ℕ) → x < 2 ^ t.heap_bits → y < 2 ^ t.heap_bits → (slot_at t x).start < (slot_at t y).start
@@ -57,17 +54,17 @@ module _ (t : Table) (g : t.start_bits ≤ t.direct_bits) (k : t.start_bits ≤ 
 
   pub in-order : SlotsInOrder t
   in-order = record {
-    holds = λ x h. (begins x, end-gt t x);
-    one = one;
+    in_its_slot = λ x h. (begins x, end-gt t x);
+    in_no_other = one;
     aligned = λ x h. aligned x;
-    inside = λ x h. end-le t x g k h;
-    next = λ x h l. start-here t g k (slot_end (slot_at t x)) (end-start t g k x h) l;
-    apart = distinct;
+    ends_in_heap = λ x h. end-le t x g k h;
+    next_at_end = λ x h l. start-here t g k (slot_end (slot_at t x)) (end-start t g k x h) l;
+    none_inside = distinct;
   }
 
 module _ (t : Table) (T : IsTable t) where
   starts-below : t.start_bits ≤ t.heap_bits
-  starts-below = omega (arith, T.heap)
+  starts-below = omega (arith, T.row_in_heap)
 
   of-format : (s z : ℕ)
       → Direct t (max_rows t) s z ↔ ((s < 2 ^ t.heap_bits) × (slot_at t s ≡ record { start = s; size = z }))
@@ -75,15 +72,15 @@ module _ (t : Table) (T : IsTable t) where
     where
       there : Direct t (max_rows t) s z → (s < 2 ^ t.heap_bits) × (slot_at t s ≡ record { start = s; size = z })
       there D =
-          let S = direct-start t T.direct T.width T.heap D in
-          let e = start-here t T.direct starts-below s S.starts S.inside in
+          let S = direct-start t T.start_in_direct T.row_in_indirect T.row_in_heap D in
+          let e = start-here t T.start_in_direct starts-below s S.starts S.inside in
           (S.inside, same-slot (slot_at t s) (record { start = s; size = z }) e (sym S.size_is))
 
       back : (s < 2 ^ t.heap_bits) × (slot_at t s ≡ record { start = s; size = z }) → Direct t (max_rows t) s z
       back (l, e) =
-          start-direct t T.direct T.width T.heap
+          start-direct t T.start_in_direct T.row_in_indirect T.row_in_heap
           (record {
-            starts = subst (Start t) (ap (λ (b : Slot). b.start) e) (found t T.direct starts-below s l).starts;
+            starts = subst (Start t) (ap (λ (b : Slot). b.start) e) (found t T.start_in_direct starts-below s l).starts;
             inside = l;
             size_is = sym (ap (λ (b : Slot). b.size) e);
           })
@@ -96,23 +93,25 @@ module _ (t : Table) (T : IsTable t) where
     passes x = (only, always)
       where
         only : below-and x ≡ true → InBody t h (suc n) x
-        only e = body-out t T.direct T.width h n x u (grind (arith, nat_tests)) (grind (arith, nat_tests))
+        only e =
+            body-out t T.start_in_direct T.row_in_indirect h n x u (grind (arith, nat_tests))
+            (grind (arith, nat_tests))
 
         always : InBody t h (suc n) x → below-and x ≡ true
         always B =
-            let p = body-in t T.direct T.width h n x u B in
+            let p = body-in t T.start_in_direct T.row_in_indirect h n x u B in
             grind (arith, nat_tests, p.0, p.1)
 
     held : BodiesCounted t h (suc n)
     held = record {
-      below = λ x B. (body-in t T.direct T.width h n x u B).0;
+      in_rows = λ x B. (body-in t T.start_in_direct T.row_in_indirect h n x u B).0;
       test = below-and;
-      passes = passes;
-      every = λ q Q.
+      passes_bodies = passes;
+      any_as_many = λ q Q.
           count-ext q (in_body t h) (row_offset t (suc n)) (λ x l. same-test (q x) (in_body t h x)
-          (λ e. (body-in t T.direct T.width h n x u ((Q x).0 e)).1)
-          (λ e. (Q x).1 (body-out t T.direct T.width h n x u l e)))
-          ∙ bodies t h T.direct T.width (suc n) u;
+          (λ e. (body-in t T.start_in_direct T.row_in_indirect h n x u ((Q x).0 e)).1)
+          (λ e. (Q x).1 (body-out t T.start_in_direct T.row_in_indirect h n x u l e)))
+          ∙ bodies t h T.start_in_direct T.row_in_indirect (suc n) u;
     }
 
 pub slots-ordered : SlotsOrdered

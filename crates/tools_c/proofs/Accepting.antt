@@ -3,7 +3,14 @@ use Rattle.std.proofs.Common.{◌≡◌, Result, Ok, Err}
 use Rattle.std.specs.Prelude.{IfOk}
 use Rattle.refusals.specs.Refusals.{refusal}
 use Rattle.refusals.specs.declared.FormatError.{FormatError}
-use Rattle.refusals.specs.declared.FormatError.TheVariants.{UnexpectedEof, InvalidOffsetSize, InvalidLengthSize, InvalidFractalHeapSignature, InvalidFractalHeapVersion, InvalidHeapIdType, ChecksumMismatch, UnsupportedFilteredHeapObject, OffsetOverflow, DepthExceeded, ObjectTooLarge, HeapSpaceExhausted, SliceTooShort, ObjectBytesMismatch, HeaderAddressTooLarge, RegionAddressTooLarge, HeapIdTooLarge, HeaderFieldTooLarge}
+use Rattle.refusals.specs.declared.FormatError.TheVariants.{UnexpectedEof, InvalidOffsetSize, InvalidLengthSize}
+use Rattle.refusals.specs.declared.FormatError.TheVariants.{InvalidFractalHeapSignature, InvalidFractalHeapVersion}
+use Rattle.refusals.specs.declared.FormatError.TheVariants.{InvalidHeapIdType, ChecksumMismatch, OffsetOverflow}
+use Rattle.refusals.specs.declared.FormatError.TheVariants.{UnsupportedFilteredHeapObject, DepthExceeded}
+use Rattle.refusals.specs.declared.FormatError.TheVariants.{ObjectTooLarge, HeapSpaceExhausted, SliceTooShort}
+use Rattle.refusals.specs.declared.FormatError.TheVariants.{ObjectBytesMismatch, HeaderAddressTooLarge}
+use Rattle.refusals.specs.declared.FormatError.TheVariants.{RegionAddressTooLarge, HeapIdTooLarge, HeaderFieldTooLarge}
+use Rattle.refusals.specs.declared.FormatError.TheVariants.{OutsideHeap}
 use Rattle.plan.specs.declared.ManagedPlan.{ManagedPlan}
 use Rattle.plan.specs.Answer.{planned_number}
 
@@ -26,6 +33,7 @@ none (HeaderAddressTooLarge address) h = cc
 none (RegionAddressTooLarge address size) h = cc
 none (HeapIdTooLarge offset size) h = cc
 none (HeaderFieldTooLarge place value) h = cc
+none (OutsideHeap number) h = cc
 
 -- what holds of an accepted plan, where the number is 0
 pub accepted : (r : Result ManagedPlan FormatError) (P : ManagedPlan → Type 0) (Q : Type 0) → planned_number r ≡ 0

@@ -1,6 +1,8 @@
 pub mod Reports
+pub mod MixTools
 pub mod StoreTools
 pub mod WriteTools
 pub mod HeaderTools
 pub mod ObjectNumbers
 pub mod ObjectTools
+pub mod SlotTools

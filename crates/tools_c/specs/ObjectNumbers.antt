@@ -6,12 +6,22 @@ use Rattle.fields.specs.Places.{place_report}
 use Rattle.fractal_heap.specs.declared.header.FractalHeapHeader.{FractalHeapHeader}
 use Rattle.fractal_heap.specs.Read.{managed_at}
 
--- an answer as three numbers
-unfoldable pub three_of : Answer → List ℕ
-three_of a = a.number ∷ a.first ∷ a.second ∷ []
+-- how many bytes each ID has
+abbrev pub id_size : ℕ
+id_size = 8
 
--- the answers for n IDs of eight bytes
-unfoldable pub answers_from : FractalHeapHeader → List ℕ → ℕ → ℕ → List ℕ → List ℕ
-answers_from h s w zero ids = []
-answers_from h s w (suc n) ids =
-    three_of (report_of place_report (managed_at h s (take 8 ids) w)) ++ answers_from h s w n (drop 8 ids)
+-- how many numbers an answer is told by
+abbrev pub answer_places : ℕ
+answer_places = 3
+
+-- an answer as its numbers
+abbrev pub three_of : (told : Answer) → List ℕ
+three_of told = told.number ∷ told.first ∷ told.second ∷ []
+
+-- the answers for so many IDs
+unfoldable pub answers_from : (header : FractalHeapHeader) (file : List ℕ) (offset_size count : ℕ)
+    (ids : List ℕ) → List ℕ
+answers_from header file offset_size zero ids = []
+answers_from header file offset_size (suc count) ids =
+    three_of (report_of place_report (managed_at header file (take id_size ids) offset_size))
+    ++ answers_from header file offset_size count (drop id_size ids)

@@ -1,21 +1,36 @@
 -- What the C functions over objects for tests and tools hand back beyond an answer in its slot.
-use Rattle.std.specs.Prelude.{ℕ, ◌*◌, ◌/◌, Bool, List, ◌++◌, length, drop, nat_lt, if◌then◌else◌, Result, Ok, Err}
-use Rattle.refusals.specs.Refusals.{answer, report_of}
+use Rattle.std.specs.Prelude.{ℕ, ◌*◌, ◌/◌, Bool, List, ◌++◌, length, drop, nat_lt, if◌then◌else◌}
+use Rattle.std.specs.Prelude.{Result, Ok, Err}
+use Rattle.refusals.specs.Refusals.{answer, report_of, slice_too_short}
 use Rattle.refusals.specs.declared.FormatError.{FormatError}
 use Rattle.fractal_heap.specs.declared.header.FractalHeapHeader.{FractalHeapHeader}
-use Rattle.tools_c.specs.ObjectNumbers.{answers_from}
+use Rattle.tools_c.specs.ObjectNumbers.{id_size, answer_places, answers_from}
 
--- a list that is too short for all answers gives 13
-unfoldable pub too_few : List ℕ → List ℕ → Bool
-too_few found ids = nat_lt (length found / 3) (length ids / 8)
+-- how many IDs the list holds
+abbrev pub id_count : (ids : List ℕ) → ℕ
+id_count ids = length ids / id_size
 
-unfoldable pub each_number : List ℕ → List ℕ → Result FractalHeapHeader FormatError → ℕ
-each_number found ids r = if too_few found ids then 13 else (report_of (λ _. answer 0 0 0) r).number
+-- whether the list is too short for all answers
+abbrev pub too_few : (found ids : List ℕ) → Bool
+too_few found ids = nat_lt (length found / answer_places) (id_count ids)
+
+-- then its number, else 0 or that of the header's refusal
+abbrev pub each_number : (found ids : List ℕ) (parsed : Result FractalHeapHeader FormatError) → ℕ
+each_number found ids parsed =
+    if too_few found ids
+    then slice_too_short
+    else (report_of (λ _. answer 0 0 0) parsed).number
 
 -- the answers in the first places
-abbrev pub each_by : List ℕ → List ℕ → List ℕ → ℕ → Result FractalHeapHeader FormatError → List ℕ
-each_by found ids s w (Ok h) = answers_from h s w (length ids / 8) ids ++ drop (3 * (length ids / 8)) found
-each_by found ids s w (Err e) = found
+abbrev pub each_by : (found ids file : List ℕ) (offset_size : ℕ)
+    (parsed : Result FractalHeapHeader FormatError) → List ℕ
+each_by found ids file offset_size (Ok header) =
+    answers_from header file offset_size (id_count ids) ids
+    ++ drop (answer_places * id_count ids) found
+each_by found ids file offset_size (Err refused) = found
 
-unfoldable pub each_list : List ℕ → List ℕ → List ℕ → ℕ → Result FractalHeapHeader FormatError → List ℕ
-each_list found ids s w r = if too_few found ids then found else each_by found ids s w r
+-- a list that is too short is as it was
+abbrev pub each_list : (found ids file : List ℕ) (offset_size : ℕ)
+    (parsed : Result FractalHeapHeader FormatError) → List ℕ
+each_list found ids file offset_size parsed =
+    if too_few found ids then found else each_by found ids file offset_size parsed

@@ -8,9 +8,13 @@ use Rattle.fractal_heap_write.specs.Answer.{serialized_for}
 use Rattle.fractal_heap_write.specs.Serialize.{lent_for}
 
 -- planning, for these sizes, both lists as they are lent, and the width of addresses
-abbrev pub plan_answer : List ℕ → List ℕ → List ℕ → ℕ → Result ManagedPlan FormatError
-plan_answer sizes offsets blocks w = planned_for sizes (length offsets) (length blocks) w
+abbrev pub plan_answer : (sizes offsets blocks : List ℕ) (offset_size : ℕ)
+    → Result ManagedPlan FormatError
+plan_answer sizes offsets blocks offset_size =
+    planned_for sizes (length offsets) (length blocks) offset_size
 
 -- writing, for these sizes and joined bytes, all as it is lent, and the site
-abbrev pub write_answer : List ℕ → List ℕ → List ℕ → List ℕ → List ℕ → Site → Result ManagedPlan FormatError
-write_answer sizes objects offsets blocks region site = serialized_for sizes (lent_for offsets blocks objects region) site
+abbrev pub write_answer : (sizes objects offsets blocks region : List ℕ) (site : Site)
+    → Result ManagedPlan FormatError
+write_answer sizes objects offsets blocks region site =
+    serialized_for sizes (lent_for offsets blocks objects region) site

@@ -1,8 +1,13 @@
-//! The checksum.
-ghost use Rattle.std.specs.Prelude.{◌≡◌};
+//! The checksum, and the inverses of its mixes.
+ghost use Rattle.std.specs.Prelude.{◌≡◌, ◌<◌, ◌≤◌, length, slice_set, if◌then◌else◌, nat_lt};
 ghost use Rattle.checksum.specs.Lookup3.{hashlittle};
+ghost use Rattle.checksum.specs.Unmix.{unmixed, unfinal_mixed};
+ghost use Rattle.tools_c.specs.MixTools.{state_of, put_state};
 
 use checksum::jenkins_lookup3;
+use checksum::mixing::State;
+use checksum::unmixing::{unfinal_mix, unmix};
+use refusals::SLICE_TOO_SHORT;
 
 /// The lookup3 checksum of the bytes.
 #[unsafe(no_mangle)]
@@ -10,4 +15,55 @@ pub extern "C" fn tools_jenkins_lookup3(bytes: &[u8]) -> u32
     ensures { result ≡ hashlittle bytes.now }
 {
     jenkins_lookup3(bytes)
+}
+
+fn state_of(words: &[u32]) -> State
+    requires { 3 ≤ length words.now }
+    ensures { result ≡ state_of words.now }
+{
+    State {
+        a: words[0],
+        b: words[1],
+        c: words[2],
+    }
+}
+
+fn put_state(words: &mut [u32], s: State)
+    requires { 3 ≤ length words.old }
+    ensures { words.new ≡ put_state words.old s }
+{
+    words[0] = s.a;
+    words[1] = s.b;
+    words[2] = s.c;
+}
+
+/// The first three words become what they were before the mix of lookup3: 13 where there are fewer.
+#[unsafe(no_mangle)]
+pub extern "C" fn tools_unmix(words: &mut [u32]) -> u32
+    ensures number { result ≡ (if nat_lt (length words.old) 3 then 13 else 0) }
+    ensures unmixed { result ≡ 0 → words.new ≡ put_state words.old (unmixed (state_of words.old)) }
+    ensures untouched { 0 < result → words.new ≡ words.old }
+{
+    if words.len() < 3 {
+        return SLICE_TOO_SHORT;
+    }
+    let s = unmix(state_of(words));
+    put_state(words, s);
+    0
+}
+
+/// The first three words become what they were before the final mix of lookup3: 13 where there are fewer.
+#[unsafe(no_mangle)]
+pub extern "C" fn tools_unfinal_mix(words: &mut [u32]) -> u32
+    ensures number { result ≡ (if nat_lt (length words.old) 3 then 13 else 0) }
+    ensures unfinal_mixed { result ≡ 0
+        → words.new ≡ put_state words.old (unfinal_mixed (state_of words.old)) }
+    ensures untouched { 0 < result → words.new ≡ words.old }
+{
+    if words.len() < 3 {
+        return SLICE_TOO_SHORT;
+    }
+    let s = unfinal_mix(state_of(words));
+    put_state(words, s);
+    0
 }

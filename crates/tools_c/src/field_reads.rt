@@ -1,5 +1,5 @@
-//! The fields of a file. Each read puts the two values into the first 16 bytes of the slot; a shorter slot gives 13 before
-//! all else.
+//! The fields of a file. Each read puts the two values into the first 16 bytes of the slot; a shorter slot gives 13
+//! before all else.
 ghost use Rattle.std.specs.Prelude.{◌≡◌, if◌then◌else◌};
 ghost use Rattle.fields.specs.Undefined.{is_undefined_addr};
 ghost use Rattle.fields.specs.Fields.{len_ensured, offset_at, length_at};

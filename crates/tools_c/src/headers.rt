@@ -5,11 +5,12 @@ ghost use Rattle.fractal_heap.specs.Listed.{header_number};
 ghost use Rattle.tools_c.specs.HeaderTools.{header_list};
 
 use fields::convert::to_usize;
-use fractal_heap::{FIELD_COUNT, FractalHeapHeader};
+use fractal_heap::{FractalHeapHeader, NUMBER_COUNT};
 use refusals::{Reported, SLICE_TOO_SHORT};
 
-/// The header's fields in header order, or the refusal's pair, in the first places of a list of at least 23; a shorter
-/// one gives 13 and is left as it is.
+/// The header's 23 fields in header order, then what is kept of its filters: where their information begins in the file,
+/// the filtered root direct block's size, and the mask, all 0 where there are none; or the refusal's pair. They go into
+/// the first places of a list of at least 26; a shorter one gives 13 and is left as it is.
 #[tactic(auto, unfolding(fields::specs::LittleEndian::put))]
 #[unsafe(no_mangle)]
 pub extern "C" fn tools_parse_header(
@@ -24,7 +25,7 @@ pub extern "C" fn tools_parse_header(
     ensures fields_after { fields.new
         ≡ header_list fields.old (header_at file.now at offset_size length_size) }
 {
-    if fields.len() < FIELD_COUNT {
+    if fields.len() < NUMBER_COUNT {
         return SLICE_TOO_SHORT;
     }
     match FractalHeapHeader::parse(file, to_usize(at), offset_size, length_size) {

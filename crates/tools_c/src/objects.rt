@@ -27,7 +27,7 @@ fn read(
     read_size: u8,
     id: &[u8],
 ) -> Result<Place, FormatError>
-    ensures value { result ≡ object_by file.now at offset_size length_size id.now read_size }
+    ensures object { result ≡ object_by file.now at offset_size length_size id.now read_size }
     ensures in_file { IfOk result (λ place. place.position + place.length ≤ length file.now) }
 {
     let header = FractalHeapHeader::parse(file, to_usize(at), offset_size, length_size)?;
@@ -83,7 +83,6 @@ pub extern "C" fn tools_heap_id_type(id: &[u8], slot: &mut [u8]) -> u32
 }
 
 /// The header once, then every ID; 13 and nothing stored where the list is too short for all.
-#[tactic(auto, unfolding(crate::specs::ObjectTools::too_few, crate::specs::ObjectTools::each_number, crate::specs::ObjectTools::each_list))]
 #[unsafe(no_mangle)]
 pub extern "C" fn tools_read_each(
     file: &[u8],

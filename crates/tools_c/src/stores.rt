@@ -1,10 +1,11 @@
-//! Stores. Each puts the two values into the first 16 bytes of the slot; a shorter slot gives 13 before anything is stored.
+//! Stores. Each puts the two values into the first 16 bytes of the slot; a shorter slot gives 13 before anything
+//! is stored.
 ghost use Rattle.std.specs.Prelude.{◌≡◌, ◌<◌, length, replicate};
 ghost use Rattle.fields.specs.LittleEndian.{le, put};
 ghost use Rattle.fields.specs.Slot.{slot_number, slot_bytes};
 ghost use Rattle.tools_c.specs.StoreTools.{store_report};
 
-use fields::slot::put_answer;
+use fields::slot::{SLOT_SIZE, put_answer};
 use fields::stores::{write_offset, write_undef_offset};
 use refusals::{Reported, SLICE_TOO_SHORT};
 
@@ -25,7 +26,7 @@ pub extern "C" fn tools_write_offset(
     ensures stored { result ≡ 0 → bytes.new ≡ put bytes.old pos (le offset_size value) }
     ensures untouched { 0 < result → bytes.new ≡ bytes.old }
 {
-    if slot.len() < 16 {
+    if slot.len() < SLOT_SIZE {
         return SLICE_TOO_SHORT;
     }
     let stored = write_offset(bytes, pos as usize, value, offset_size);
@@ -47,7 +48,7 @@ pub extern "C" fn tools_write_undef_offset(
     ensures stored { result ≡ 0 → bytes.new ≡ put bytes.old pos (replicate offset_size 0xFF) }
     ensures untouched { 0 < result → bytes.new ≡ bytes.old }
 {
-    if slot.len() < 16 {
+    if slot.len() < SLOT_SIZE {
         return SLICE_TOO_SHORT;
     }
     let stored = write_undef_offset(bytes, pos as usize, offset_size);

@@ -1,5 +1,5 @@
-//! What a caller gets by planning and writing, said from the clauses of `ManagedPlan::new`, `tools_plan` and `tools_serialize`
-//! that are theorems.
+//! What a caller gets by planning and writing, said from the clauses of `ManagedPlan::new`, `tools_plan` and
+//! `tools_serialize` that are theorems.
 ghost use Rattle.std.specs.Prelude.{◌≡◌, ℕ, ◌<◌, ◌≤◌, IsTrue, IfOk, length, take};
 ghost use Rattle.table.specs.Table.{fixed, row_offset};
 ghost use Rattle.planner.specs.Steps.{plan_offsets, plan_starts};

@@ -1,5 +1,5 @@
-//! Planning, writing a region and writing a managed ID. A refusal changes nothing but the list or the slot that takes its
-//! two values.
+//! Planning, writing a region and writing a managed ID. A refusal changes nothing but the list or the slot that takes
+//! its two values.
 ghost use Rattle.std.specs.Prelude.{◌≡◌, ◌<◌, ◌≤◌, Ok, IfOk, length};
 ghost use Rattle.fields.specs.LittleEndian.{put};
 ghost use Rattle.fields.specs.Slot.{slot_number, slot_bytes};
@@ -10,13 +10,12 @@ ghost use Rattle.plan.specs.Report.{plan_number, plan_totals};
 ghost use Rattle.region_blocks.specs.Site.{site_of};
 ghost use Rattle.region_write.specs.Region.{region as region_of};
 ghost use Rattle.ids.specs.Checks.{written_id_report};
-ghost use Rattle.ids.specs.Decoded.{decoded_id};
-ghost use Rattle.ids.specs.Written.{managed_id};
+ghost use Rattle.ids.specs.Written.{managed_id, IdReadsBack};
 ghost use Rattle.tools_c.specs.WriteTools.{plan_answer, write_answer};
 
-use fields::slot::put_answer;
+use fields::slot::{SLOT_SIZE, put_answer};
 use fractal_heap_write::serialize;
-use ids::write::write_managed_id;
+use ids::write_managed_id;
 use plan::ManagedPlan;
 use plan::report::put_planned;
 use refusals::{Reported, SLICE_TOO_SHORT};
@@ -124,11 +123,10 @@ pub extern "C" fn tools_write_managed_id(
     ensures number { result ≡ slot_number slot.old (written_id_report offset size (length id.old)) }
     ensures slot_after { slot.new ≡ slot_bytes slot.old (written_id_report offset size (length id.old)) }
     ensures written { result ≡ 0 → id.new ≡ put id.old 0 (managed_id fixed offset size) }
-    ensures reads_back { result ≡ 0 → decoded_id fixed.heap_bits (managed_id fixed offset size)
-        ≡ Ok (record { offset = offset; length = size }) }
+    ensures reads_back { result ≡ 0 → IdReadsBack offset size }
     ensures untouched { 0 < result → id.new ≡ id.old }
 {
-    if slot.len() < 16 {
+    if slot.len() < SLOT_SIZE {
         return SLICE_TOO_SHORT;
     }
     let written = write_managed_id(offset, size, id);

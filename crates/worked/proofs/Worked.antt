@@ -3,21 +3,20 @@ use Rattle.std.proofs.Common.{◌≡◌, ℕ, ◌^◌, ◌<◌, max, List, [], �
 use Rattle.std.proofs.Common.{subst₂, arith}
 use Rattle.std.proofs.Math.Decide.{ℕ_discrete}
 use Rattle.std.specs.Int.Count.{count_leading_zeros}
-use Rattle.numbers.specs.Numbers.{saturated, log2}
-use Rattle.checksum.specs.Lookup3.{run as mixed_groups, hashlittle}
-use Rattle.table.specs.Table.{fixed, row_bits, row_offset, row_in, row_of, covering_in, covering}
-use Rattle.table.specs.Slots.{slot_start, slot_bits_in, slot_bits, slot_at, entered_bytes_in, entered_bytes}
-use Rattle.table.specs.Sizes.{offset_bytes, direct_header, max_managed, indirect_size}
+use Rattle.numbers.specs.Numbers.{bytes_from, bytes_needed}
+use Rattle.checksum.specs.Lookup3.{run as mixed_groups, switched, hashlittle}
+use Rattle.checksum.specs.Mix.{mixed, final_mixed}
+use Rattle.table.specs.Table.{fixed, row_in, covering_in}
+use Rattle.table.specs.Slots.{slot_bits_in, entered_bytes_in}
 use Rattle.numbers.specs.Sums.{sum}
 use Rattle.table.specs.Capacity.{capacities}
-use Rattle.planner.specs.Steps.{open_in, open_at, step_of, run_from, offsets_from, starts_from, run, plan_offsets}
-use Rattle.planner.specs.Steps.{plan_starts}
+use Rattle.planner.specs.Steps.{open_in, run_from, offsets_from, starts_from, plan_starts}
 use Rattle.plan.specs.declared.ManagedPlan.{ManagedPlan}
-use Rattle.plan.specs.End.{end_state}
-use Rattle.plan.specs.Answer.{totals, planned_for}
-use Rattle.plan.specs.Checks.{sizes_checked, input_checked}
+use Rattle.plan.specs.Answer.{planned_for}
+use Rattle.plan.specs.Checks.{sizes_checked}
 use Rattle.fields.specs.LittleEndian.{le, value, le_at}
 use Rattle.reading.specs.Rows.{heap_size}
+use Rattle.fractal_heap.specs.Spelling.{spelled}
 use Rattle.fractal_heap.specs.Writing.{widths_checked}
 use Rattle.region_write.proofs.Indirect.{bare-planned}
 use Rattle.region_write.proofs.Region.{region-length, root-place}
@@ -59,7 +58,7 @@ module _ (w : ℕ) (xs ss : List ℕ) (starts : plan_starts fixed w xs ≡ ss) (
 
 -- neither of the first two slots holds 2,048
 after_two : NoneHolds fixed 2048 (0 ∷ 1024 ∷ [])
-unfolding slot_at slot_bits slot_bits_in row_bits row_offset row_in row_of
+unfolding slot_bits_in row_in
 after_two = not_in_first {start = 0} (λ _. omega arith) (not_in_first {start = 1024} (λ _. omega arith) no_block)
 
 -- worked case 5's second sentence: after two blocks that are full the third object begins where no block is
@@ -70,11 +69,9 @@ third-missed starts is =
     (omega arith)
 
 pub worked : All cases
-unfolding mixed_groups hashlittle saturated le value le_at count_leading_zeros log2
-    heap_size row_bits row_offset row_in row_of covering_in covering slot_start
-    slot_bits_in slot_bits slot_at entered_bytes_in entered_bytes offset_bytes direct_header max_managed
-    indirect_size sum capacities open_in open_at step_of run_from offsets_from starts_from run plan_offsets
-    plan_starts end_state totals sizes_checked input_checked planned_for widths_checked
+unfolding mixed_groups switched mixed final_mixed hashlittle bytes_from bytes_needed le value le_at count_leading_zeros
+    heap_size row_in covering_in slot_bits_in entered_bytes_in sum capacities open_in run_from offsets_from
+    starts_from sizes_checked planned_for widths_checked spelled
 worked =
     both (refl, refl, refl, planned _ _ _ refl)
     (both (refl, refl, refl, planned _ _ _ refl)
@@ -105,4 +102,10 @@ worked =
     (both refl
     (both refl
     (both refl
-    refl))))))))))))))))))))))))))))
+    (both refl
+    (both refl
+    (both refl
+    (both refl
+    (both refl
+    (both refl
+    refl))))))))))))))))))))))))))))))))))

@@ -1,10 +1,12 @@
--- The worked cases: sizes and what is planned and written for them, at addresses of w bytes in lists of just
--- enough places; an empty object that is not found; IDs and what they say; the rows of the fixed table, as planning
--- and as the reader has them; checksums; headers to be written.
-use Rattle.std.specs.Prelude.{ℕ, ◌-◌, ◌^◌, ◌≤◌, ◌<◌, max, ◌≡◌, List, [], ◌∷◌, length, take, drop, slice_index}
-use Rattle.std.specs.Prelude.{Result, Ok, Err, Some}
+-- The worked cases: sizes and what is planned and written for them, in lists of just enough places;
+-- an empty object that is not found; IDs and what they say; the rows of the fixed table, as
+-- planning and as the reader has them; checksums; headers to be written, and headers that are parsed.
+use Rattle.std.specs.Prelude.{ℕ, ◌-◌, ◌^◌, ◌≤◌, ◌<◌, max, ◌≡◌, List, [], ◌∷◌, ◌++◌, length, take, drop}
+use Rattle.std.specs.Prelude.{slice_index, Result, Ok, Err, Some}
 use Rattle.refusals.specs.declared.FormatError.{FormatError}
-use Rattle.refusals.specs.declared.FormatError.TheVariants.{UnexpectedEof, ObjectTooLarge, UnsupportedFilteredHeapObject, SliceTooShort, HeaderFieldTooLarge}
+use Rattle.refusals.specs.declared.FormatError.TheVariants.{UnexpectedEof, ObjectTooLarge}
+use Rattle.refusals.specs.declared.FormatError.TheVariants.{UnsupportedFilteredHeapObject}
+use Rattle.refusals.specs.declared.FormatError.TheVariants.{SliceTooShort, HeaderFieldTooLarge}
 use Rattle.checksum.specs.Lookup3.{hashlittle}
 use Rattle.table.specs.Table.{fixed, row_bits, row_offset, covering}
 use Rattle.plan.specs.declared.ManagedPlan.{ManagedPlan}
@@ -20,7 +22,9 @@ use Rattle.fields.specs.declared.place.Place.{Place}
 use Rattle.ids.specs.Decoded.{decoded_id}
 use Rattle.ids.specs.Tiny.{tiny_at}
 use Rattle.fractal_heap.specs.declared.header.FractalHeapHeader.{FractalHeapHeader}
+use Rattle.fractal_heap.specs.Header.{header_at, header_of, with_filters}
 use Rattle.fractal_heap.specs.Read.{managed_at}
+use Rattle.fractal_heap.specs.Spelling.{unsummed}
 use Rattle.fractal_heap.specs.Writing.{header_checked}
 use Rattle.heap_kept.specs.HeapKept.{Call, WriterAccepts, HoldsRegion, IsHeaderOf, offset_of}
 
@@ -33,11 +37,13 @@ fixed_table = record {
   max_heap_size = 40;
 }
 
--- sizes with their offsets, block starts, plan and region; sizes that are refused; sizes with the index of an empty
--- object that is not found; a span with the fewest root rows; a direct row; the rows of an indirect row's slots; an
--- offset and a length with their managed ID; a managed ID at some heap bits, with offset and length; a tiny ID of a
--- heap with IDs of that length, and where its object is; bytes with their checksum; the numbers of a header with two
--- widths and room, and what is answered of writing it
+-- sizes with their offsets, block starts, plan and region; sizes that are refused; sizes with the
+-- index of an empty object that is not found; a span with the fewest root rows; a direct row; the
+-- rows of an indirect row's slots; an offset and a length with their managed ID; a managed ID at
+-- some heap bits, a largest direct block and a largest managed object, with offset and length; a
+-- tiny ID of a heap with IDs of that length, and where its object is; bytes with their checksum;
+-- the numbers of a header with two widths and room, and what is answered of writing it; a file with
+-- a place and two widths, and what is parsed there
 pub data Case : Type 0 where
   plans : (offset_size : ℕ) (sizes offsets starts : List ℕ) (plan : ManagedPlan) → Case
   refuses : (offset_size : ℕ) (sizes : List ℕ) (refused : FormatError) → Case
@@ -46,12 +52,16 @@ pub data Case : Type 0 where
   direct : (row : ℕ) → Case
   indirect : (row rows : ℕ) → Case
   writes : (offset len : ℕ) (id : List ℕ) → Case
-  decodes : (bits : ℕ) (id : List ℕ) (offset len : ℕ) → Case
+  decodes : (bits largest_block largest_managed : ℕ) (id : List ℕ) (offset len : ℕ) → Case
   tiny : (id_length : ℕ) (id : List ℕ) (found : Result Place FormatError) → Case
   hashes : (bytes : List ℕ) (sum : ℕ) → Case
-  tests_header : (numbers : List ℕ) (offset_size length_size lent : ℕ) (answered : Result (Unit {0}) FormatError) → Case
+  tests_header : (numbers : List ℕ) (offset_size length_size lent : ℕ)
+      (answered : Result (Unit {0}) FormatError) → Case
+  parses : (file : List ℕ) (at offset_size length_size : ℕ)
+      (parsed : Result FractalHeapHeader FormatError) → Case
 
--- the region of a plan, whatever the addresses and the bytes of the objects: its size, and the root at its place
+-- the region of a plan, whatever the addresses and the bytes of the objects: its size, and the root
+-- at its place
 pub record RegionIsPlanned (offset_size : ℕ) (sizes : List ℕ) (plan : ManagedPlan) : Type 0 where
   pub size_planned : (heap_header address : ℕ) (objects : List ℕ)
       → length (region (site_of offset_size heap_header address) plan.root_rows sizes objects)
@@ -73,8 +83,8 @@ call_for offset_size sizes objects heap_header address offset_places block_place
       region_bytes = region_bytes;
     }
 
--- the i-th object is empty, and whatever else is handed to the writer and stands in the file, by its ID the reader
--- answers 1, with its offset and the file's length
+-- the i-th object is empty, and whatever else is handed to the writer and stands in the file, by
+-- its ID the reader answers 1, with its offset and the file's length
 pub record EmptyUnfound (offset_size : ℕ) (sizes : List ℕ) (i : ℕ) : Type 0 where
   pub index : i < length sizes
   pub empty : slice_index sizes i ≡ 0
@@ -115,12 +125,16 @@ Holds (indirect row rows) =
     × (slot_size fixed_table row ≡ 2 ^ row_bits fixed row)
 Holds (writes offset len id) =
     (managed_id fixed offset len ≡ id) × (id_checked fixed offset len (length id) ≡ Ok tt)
-Holds (decodes bits id offset len) =
-    decoded_id bits id ≡ Ok (record { offset = offset; length = len })
+Holds (decodes bits largest_block largest_managed id offset len) =
+    decoded_id (record fixed_table { max_heap_size = bits; max_direct_block_size = largest_block })
+    largest_managed id
+    ≡ Ok (record { offset = offset; length = len })
 Holds (tiny id_length id found) = tiny_at id_length id ≡ found
 Holds (hashes bytes sum) = hashlittle bytes ≡ sum
 Holds (tests_header numbers offset_size length_size lent answered) =
     header_checked numbers offset_size length_size lent ≡ answered
+Holds (parses file at offset_size length_size parsed) =
+    header_at file at offset_size length_size ≡ parsed
 
 -- the first case holds, and the rest
 pub record Both (P Q : Type 0) : Type 0 where
@@ -131,8 +145,9 @@ abbrev pub All : List Case → Type 0
 All [] = ◌≡◌ {A = ℕ} 0 0
 All (c ∷ cs) = Both (Holds c) (All cs)
 
--- block count, region size, root rows, the root's place, managed, allocated and free space, iterator
-abbrev pub of : ℕ → ℕ → ℕ → ℕ → ℕ → ℕ → ℕ → ℕ → ManagedPlan
+-- a plan by its numbers: block count, region size, root rows, the root's place, managed, allocated
+-- and free space, iterator
+abbrev pub of : (count region rows place managed allocated free iterator : ℕ) → ManagedPlan
 of count region rows place managed allocated free iterator = record {
   block_count = count;
   region_size = region;
@@ -144,15 +159,26 @@ of count region rows place managed allocated free iterator = record {
   allocation_iterator = iterator;
 }
 
--- the header of a plan at w = 8, in numbers; `undefined` is the undefined address
+-- the header of a plan at addresses of 8 bytes, in numbers; `undefined` is the undefined address
 abbrev pub heap_numbers : (undefined : ℕ) (plan : ManagedPlan) → List ℕ
 heap_numbers undefined plan =
-    8 ∷ 0 ∷ 2 ∷ 65514 ∷ 0 ∷ undefined ∷ plan.free_space ∷ undefined ∷ plan.managed_space ∷ plan.allocated_space
-    ∷ plan.allocation_iterator ∷ 1 ∷ 0 ∷ 0 ∷ 0 ∷ 0 ∷ 4 ∷ 1024 ∷ 65536 ∷ 40 ∷ 1 ∷ 2048 ∷ plan.root_rows ∷ []
+    8 ∷ 0 ∷ 2 ∷ 65514 ∷ 0 ∷ undefined ∷ plan.free_space ∷ undefined
+    ∷ plan.managed_space ∷ plan.allocated_space ∷ plan.allocation_iterator
+    ∷ 1 ∷ 0 ∷ 0 ∷ 0 ∷ 0 ∷ 4 ∷ 1024 ∷ 65536 ∷ 40 ∷ 1 ∷ 2048 ∷ plan.root_rows ∷ []
 
 -- the numbers with others in their first two places
 abbrev pub beginning_with : (first second : ℕ) (numbers : List ℕ) → List ℕ
 beginning_with first second numbers = first ∷ second ∷ drop 2 numbers
+
+-- a header of these numbers with filters: the position of their information, the filtered root's size, the mask
+abbrev pub filtered : (numbers : List ℕ) (position size mask : ℕ) → FractalHeapHeader
+filtered numbers position size mask =
+    with_filters (header_of numbers)
+    (record {
+      io_filter_information_position = position;
+      filtered_root_direct_block_size = size;
+      io_filter_mask = mask;
+    })
 
 -- worked heaps 3 and 6
 abbrev pub third_heap : ManagedPlan
@@ -161,11 +187,14 @@ third_heap = of 1 2166 3 0 16384 2048 15117 10240
 abbrev pub sixth_heap : ManagedPlan
 sixth_heap = of 1 65814 8 0 524288 65536 458070 327680
 
--- the worked cases 1 to 10 (docs/RULES.md), after 5 an empty object in an indirect heap that answers 1, and the wrong
--- turn, 1,003 then 1; the whole heap space; IDs at 64 and more heap bits; the empty tiny ID, and one of 18 bytes; the
--- worked headers 11 to 16
+-- the worked cases 1 to 10 (docs/RULES.md), after 5 an empty object in an indirect heap that
+-- answers 1, and the wrong turn, 1,003 then 1; the whole heap space; IDs at 64 and more heap bits,
+-- with padding, with a length of three bytes and of none; the empty tiny ID, and one of 18 bytes;
+-- the worked headers 11 to 19
 abbrev pub cases : List Case
 cases =
+    let third : (filter_length : ℕ) → List ℕ = λ filter_length.
+    beginning_with 8 filter_length (heap_numbers (2 ^ 64 - 1) third_heap) in
     plans 8 [] [] (0 ∷ []) (of 1 1024 0 0 1024 1024 1002 0)
     ∷ plans 8 (1002 ∷ []) (22 ∷ []) (0 ∷ []) (of 1 1024 0 0 1024 1024 0 0)
     ∷ plans 8 (1003 ∷ []) (8214 ∷ []) (8192 ∷ []) (of 1 2166 3 0 16384 2048 15117 10240)
@@ -181,25 +210,41 @@ cases =
     (262144 ∷ 327680 ∷ 393216 ∷ 458752 ∷ 2359296 ∷ [])
     (of 5 328332 11 278 4194304 327680 3858638 2424832)
     ∷ writes 8214 1003 (0x00 ∷ 0x16 ∷ 0x20 ∷ 0x00 ∷ 0x00 ∷ 0x00 ∷ 0xEB ∷ 0x03 ∷ [])
-    ∷ decodes 40 (0x00 ∷ 0x16 ∷ 0x20 ∷ 0x00 ∷ 0x00 ∷ 0x00 ∷ 0xEB ∷ 0x03 ∷ []) 8214 1003
+    ∷ decodes 40 65536 65514 (0x00 ∷ 0x16 ∷ 0x20 ∷ 0x00 ∷ 0x00 ∷ 0x00 ∷ 0xEB ∷ 0x03 ∷ []) 8214 1003
     ∷ direct 7
     ∷ indirect 8 6
     ∷ hashes [] 0xDEADBEEF
     ∷ plans 8 (1003 ∷ 1 ∷ []) (8214 ∷ 9217 ∷ []) (8192 ∷ []) (of 1 2166 3 0 16384 2048 15116 10240)
     ∷ covers (2 ^ 40) 29
-    ∷ decodes 64 (0 ∷ 1 ∷ 2 ∷ 0 ∷ 0 ∷ 0 ∷ 0 ∷ 0 ∷ 0 ∷ 9 ∷ []) 513 0
-    ∷ decodes 65535 (0 ∷ 1 ∷ 2 ∷ []) 513 0
+    ∷ decodes 64 65536 65514 (0 ∷ 1 ∷ 2 ∷ 0 ∷ 0 ∷ 0 ∷ 0 ∷ 0 ∷ 0 ∷ 9 ∷ []) 513 0
+    ∷ decodes 65535 65536 65514 (0 ∷ 1 ∷ 2 ∷ []) 513 0
+    ∷ decodes 40 65536 65520 (0 ∷ 1 ∷ 0 ∷ 0 ∷ 0 ∷ 0 ∷ 2 ∷ 0 ∷ 1 ∷ []) 1 2
+    ∷ decodes 40 65536 65536 (0 ∷ 0 ∷ 0 ∷ 0 ∷ 0 ∷ 0 ∷ 1 ∷ 0 ∷ 1 ∷ []) 0 65537
+    ∷ decodes 40 65536 0 (0 ∷ 1 ∷ 0 ∷ 0 ∷ 0 ∷ 0 ∷ 2 ∷ 0 ∷ 1 ∷ []) 1 0
     ∷ tiny 8 [] (Err (UnexpectedEof 1 0))
     ∷ tiny 18
     (0x29 ∷ 0x57 ∷ 0xBF ∷ 0x2A ∷ 0xBE ∷ 0x47 ∷ 0xD2 ∷ 0x9D ∷ 0x81
     ∷ 0xAB ∷ 0xFA ∷ 0 ∷ 0 ∷ 0 ∷ 0 ∷ 0 ∷ 0 ∷ 0 ∷ [])
     (Err (UnexpectedEof 2394 18))
     ∷ tiny 8 (0x22 ∷ 7 ∷ 8 ∷ 9 ∷ []) (Ok (record { position = 1; length = 3 }))
-    ∷ tests_header (heap_numbers (2 ^ 64 - 1) sixth_heap) 8 2 146 (Err (HeaderFieldTooLarge 6 458070))
-    ∷ tests_header (heap_numbers (2 ^ 64 - 1) third_heap) 8 2 146 (Err (HeaderFieldTooLarge 18 65536))
-    ∷ tests_header (heap_numbers (2 ^ 64 - 1) third_heap) 4 8 146 (Err (HeaderFieldTooLarge 5 (2 ^ 64 - 1)))
+    ∷ tests_header (heap_numbers (2 ^ 64 - 1) sixth_heap) 8 2 146
+    (Err (HeaderFieldTooLarge 6 458070))
+    ∷ tests_header (heap_numbers (2 ^ 64 - 1) third_heap) 8 2 146
+    (Err (HeaderFieldTooLarge 18 65536))
+    ∷ tests_header (heap_numbers (2 ^ 64 - 1) third_heap) 4 8 146
+    (Err (HeaderFieldTooLarge 5 (2 ^ 64 - 1)))
     ∷ tests_header (heap_numbers (2 ^ 32 - 1) third_heap) 4 8 134 (Ok tt)
     ∷ tests_header (heap_numbers (2 ^ 64 - 1) third_heap) 8 8 145 (Err (SliceTooShort 146 145))
-    ∷ tests_header (beginning_with 65536 0 (heap_numbers (2 ^ 64 - 1) third_heap)) 8 8 0 (Err (HeaderFieldTooLarge 0 65536))
-    ∷ tests_header (beginning_with 65536 65536 (heap_numbers (2 ^ 64 - 1) third_heap)) 8 8 0 (Err UnsupportedFilteredHeapObject)
+    ∷ tests_header (beginning_with 65536 0 (heap_numbers (2 ^ 64 - 1) third_heap)) 8 8 0
+    (Err (HeaderFieldTooLarge 0 65536))
+    ∷ tests_header (beginning_with 65536 65536 (heap_numbers (2 ^ 64 - 1) third_heap)) 8 8 0
+    (Err UnsupportedFilteredHeapObject)
+    ∷ parses (unsummed (header_of (third 1)) 8 8 ++ 0 ∷ 0 ∷ 0 ∷ 0 ∷ []) 0 8 8
+    (Err (UnexpectedEof 159 146))
+    ∷ parses
+    (unsummed (header_of (third 3)) 8 8
+    ++ 1 ∷ 2 ∷ 3 ∷ 4 ∷ 5 ∷ 6 ∷ 7 ∷ 8 ∷ 5 ∷ 0 ∷ 0 ∷ 0 ∷ 9 ∷ 8 ∷ 7 ∷ 0x5A ∷ 0x68 ∷ 0x99 ∷ 0x1F ∷ [])
+    0 8 8 (Ok (filtered (third 3) 154 0x0807060504030201 5))
+    ∷ parses (1 ∷ 2 ∷ unsummed (header_of (third 0)) 8 8 ++ 0x62 ∷ 0x61 ∷ 0x2E ∷ 0xCE ∷ []) 2 8 8
+    (Ok (filtered (third 0) 0 0 0))
     ∷ []

@@ -1,9 +1,12 @@
 //! What a heap's header says.
-use crate::{Heap, Refusal, Totals};
+use crate::{Heap, Refusal, Totals, part};
 use fractal_heap_sys as sys;
 
-/// How many fields a header has between its version and its checksum.
+/// How many fields every header has between its version and its checksum.
 const FIELDS: usize = sys::FRACTAL_HEAP_HEADER_FIELDS as usize;
+
+/// How many numbers are told of a header.
+const NUMBERS: usize = sys::FRACTAL_HEAP_HEADER_NUMBERS as usize;
 
 /// The fields' names in the HDF5 File Format Specification, in header order.
 const NAMES: [&str; FIELDS] = [
@@ -37,8 +40,9 @@ pub(crate) fn name_of(place: u64) -> Option<&'static str> {
     NAMES.get(usize::try_from(place).ok()?).copied()
 }
 
-/// The fields of a heap's header between its version and its checksum, in the order in which the header has them. After
-/// each is its name in the HDF5 File Format Specification.
+/// The fields of a heap's header between its version and its checksum, in the order in which the header has them, but for
+/// the position of the filters' information, which stands first of what a header with filters has more. After each is its
+/// name in the HDF5 File Format Specification.
 ///
 /// Addresses are as they are stored: they count from the superblock, and [`Heap::defined`] tells whether there is one. What
 /// is counted in objects or bytes is not compared with what the file has: the header says it.
@@ -96,6 +100,16 @@ pub struct Header {
     /// How many rows the root indirect block has; 0 where the root is a direct block: Current # of Rows in Root Indirect
     /// Block.
     pub current_rows_in_root_indirect_block: u16,
+    /// Where the filters' information begins, in bytes from the start of [`Heap::file`]; it has
+    /// [`io_filter_encoded_length`](Header::io_filter_encoded_length) bytes, a Filter Pipeline message, which
+    /// [`Heap::io_filter_information`] hands out, and is not read. 0 where the heap has no filters: I/O Filter Information.
+    pub io_filter_information_position: u64,
+    /// Bytes of the root block once it is filtered, where it is a direct block; 0 where the heap has no filters: Size of
+    /// Filtered Root Direct Block.
+    pub filtered_root_direct_block_size: u64,
+    /// Bits: each stands for a filter, the lowest for the first, and is set where the root, a direct block, was not put
+    /// through it; 0 where the heap has no filters: I/O Filter Mask.
+    pub io_filter_mask: u32,
 }
 
 /// What was written of a header.
@@ -120,7 +134,8 @@ impl Header {
 
     /// Writes the header of a heap without filters into the first [`length`](Header::length) bytes of `bytes`; those behind
     /// them keep their content. What is written is what [`Heap::header`] reads, and a header without filters that was read
-    /// is written byte for byte as it was; both are proved of the function that is called for it.
+    /// is written byte for byte as it was; both are proved of the function that is called for it. What only a header with
+    /// filters has is neither tested nor written, and is read as 0.
     ///
     /// It is refused, and nothing is written, by 2 and 3 where a size is not 2, 4 or 8; by 8 where the length of the
     /// filters is not 0; by 17 where a field of an address or a length is above the largest number of its width, with the
@@ -254,6 +269,9 @@ impl Totals {
             // the header's writer at a smaller one.
             root_block_address: region_at.saturating_add(self.root_place),
             current_rows_in_root_indirect_block: narrow(self.root_rows),
+            io_filter_information_position: 0,
+            filtered_root_direct_block_size: 0,
+            io_filter_mask: 0,
         }
     }
 }
@@ -270,7 +288,7 @@ fn narrow<T: TryFrom<u64>>(number: u64) -> T {
     narrow.expect("a field's number has no more bytes than the field")
 }
 
-impl Heap<'_> {
+impl<'f> Heap<'f> {
     /// What the heap's header says, if it is sound.
     ///
     /// ```
@@ -287,7 +305,7 @@ impl Heap<'_> {
     /// # Ok::<(), Refusal>(())
     /// ```
     pub fn header(&self) -> Result<Header, Refusal> {
-        let (mut fields, mut slot) = ([0; FIELDS], [0; 16]);
+        let (mut fields, mut slot) = ([0; NUMBERS], [0; 16]);
         // SAFETY: pointers and lengths are those of a slice that is only read, and of a list and a slot of our own.
         let number = unsafe {
             sys::fractal_heap_parse_header(
@@ -305,7 +323,7 @@ impl Heap<'_> {
         Refusal::answered(number, slot)?;
         let mut numbers = fields.into_iter();
         let mut next = || numbers.next().expect("as many numbers as fields");
-        // Taken as they stand here, which is header order.
+        // Taken as they stand here, which is their order.
         Ok(Header {
             heap_id_length: narrow(next()),
             io_filter_encoded_length: narrow(next()),
@@ -330,7 +348,22 @@ impl Heap<'_> {
             start_root_rows: narrow(next()),
             root_block_address: next(),
             current_rows_in_root_indirect_block: narrow(next()),
+            io_filter_information_position: next(),
+            filtered_root_direct_block_size: next(),
+            io_filter_mask: narrow(next()),
         })
+    }
+
+    /// What the filters of a heap are, as its header has it: a Filter Pipeline message of the HDF5 File Format
+    /// Specification. None where the heap has no filters. The header is the heap's own.
+    pub fn io_filter_information(&self, header: &Header) -> Option<&'f [u8]> {
+        let length = header.io_filter_encoded_length;
+        let information = part(
+            self.file,
+            header.io_filter_information_position,
+            length.into(),
+        );
+        information.filter(|_| length > 0)
     }
 
     /// An address as a field of the header has it; None where it is undefined, all its bytes being 0xFF.

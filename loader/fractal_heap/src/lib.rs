@@ -191,7 +191,7 @@ impl<'f> Heap<'f> {
     }
 
     /// As [`decode_managed_id`](Heap::decode_managed_id), by an ID of any length, as the library takes it: what it lacks
-    /// counts as zeros, and a longer one may have a ninth byte that belongs to the object's length.
+    /// counts as zeros, and what stands behind the object's length is not looked at.
     pub fn decode_managed_id_of_any_length(&self, id: &[u8]) -> Result<(u64, u64), Refusal> {
         self.pair(fractal_heap_decode_managed_id, id)
     }

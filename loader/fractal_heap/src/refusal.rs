@@ -3,7 +3,6 @@ use crate::header::name_of;
 use crate::numbers::{count, grouped};
 use fractal_heap_sys as sys;
 use std::fmt;
-use std::ops::RangeInclusive;
 
 /// Why a call was refused. Every cause has a number and up to two values, as `fractal_heap.h` lists them for C;
 /// `Display` puts them into words.
@@ -57,6 +56,8 @@ pub enum Refusal {
     HeapIdTooLarge { offset: u64, length: u64 },
     /// 17: a header's field, by its place in header order counted from 0, is too large for its width.
     HeaderFieldTooLarge { place: u64, value: u64 },
+    /// 20: a heap offset or a number of rows that the heap does not have.
+    OutsideHeap { number: u64 },
     /// A number that this version has no words for.
     Other {
         number: u32,
@@ -66,9 +67,10 @@ pub enum Refusal {
 }
 
 impl Refusal {
-    /// The numbers that this version has words for.
-    pub const NUMBERS: RangeInclusive<u32> =
-        sys::FRACTAL_HEAP_UNEXPECTED_EOF..=sys::FRACTAL_HEAP_HEADER_FIELD_TOO_LARGE;
+    /// The numbers that this version has words for, upward.
+    pub const NUMBERS: [u32; 18] = [
+        1, 2, 3, 4, 5, 6, 7, 8, 9, 10, 11, 12, 13, 14, 15, 16, 17, 20,
+    ];
 
     /// The cause with this number and these values; a value that the cause does not have is passed over.
     pub fn new(number: u32, first: u64, second: u64) -> Self {
@@ -129,6 +131,7 @@ impl Refusal {
                 place: first,
                 value,
             },
+            (sys::FRACTAL_HEAP_OUTSIDE_HEAP, _) => Refusal::OutsideHeap { number: first },
             _ => Refusal::Other {
                 number,
                 first,
@@ -172,6 +175,7 @@ impl Refusal {
             }
             Refusal::HeapIdTooLarge { .. } => sys::FRACTAL_HEAP_HEAP_ID_TOO_LARGE,
             Refusal::HeaderFieldTooLarge { .. } => sys::FRACTAL_HEAP_HEADER_FIELD_TOO_LARGE,
+            Refusal::OutsideHeap { .. } => sys::FRACTAL_HEAP_OUTSIDE_HEAP,
             Refusal::Other { number, .. } => number,
         }
     }
@@ -186,7 +190,8 @@ impl Refusal {
             | Refusal::InvalidHeapIdType { id_type: value }
             | Refusal::DepthExceeded { limit: value }
             | Refusal::HeapSpaceExhausted { index: value }
-            | Refusal::HeaderAddressTooLarge { address: value } => (value, 0),
+            | Refusal::HeaderAddressTooLarge { address: value }
+            | Refusal::OutsideHeap { number: value } => (value, 0),
             Refusal::UnexpectedEof {
                 expected: a,
                 available: b,
@@ -247,6 +252,7 @@ impl Refusal {
             }
             16 => "no ID holds the offset and the length: they must be below 2^40 and below 2^16",
             17 => "a field of the header to be written is too large for its width",
+            20 => "no heap offset below the heap's end, or no number of rows that a root has",
             _ => return None,
         })
     }
@@ -314,6 +320,9 @@ impl Refusal {
                     "the header's field at place {a}, counted from 0,{name} is {b}, too large for its width"
                 )
             }
+            Refusal::OutsideHeap { .. } => format!(
+                "{a} is outside the heap: no heap offset below its end, or no number of rows that a root has"
+            ),
             _ => format!("a number that no table has, with the values {a} and {b}"),
         }
     }
@@ -347,7 +356,7 @@ mod tests {
     use super::*;
 
     /// Numbers and values as the table in docs/RULES.md has them: 15 stands there twice.
-    const TABLE: [(u32, u64, u64); 18] = [
+    const TABLE: [(u32, u64, u64); 19] = [
         (1, 5120, 4096),
         (2, 3, 0),
         (3, 16, 0),
@@ -366,6 +375,7 @@ mod tests {
         (15, 65_000, 1024),
         (16, 1 << 40, 0),
         (17, 18, 65_536),
+        (20, 1 << 40, 0),
     ];
 
     #[test]
@@ -382,7 +392,7 @@ mod tests {
 
     #[test]
     fn every_number_has_a_cause() {
-        for number in 0..=Refusal::NUMBERS.end() + 1 {
+        for number in 0..=Refusal::NUMBERS[17] + 1 {
             let cause = Refusal::cause(number);
             assert_eq!(cause.is_some(), Refusal::NUMBERS.contains(&number));
         }
@@ -398,10 +408,11 @@ mod tests {
             TABLE.map(|(n, a, b)| Refusal::new(n, a, b).words()).into();
         assert_eq!(words.len(), TABLE.len());
         assert_eq!(
-            Refusal::NUMBERS.collect::<std::collections::HashSet<_>>(),
+            std::collections::HashSet::from(Refusal::NUMBERS),
             TABLE.map(|row| row.0).into()
         );
-        for number in [0, Refusal::NUMBERS.end() + 1] {
+        assert!(Refusal::NUMBERS.is_sorted());
+        for number in [0, 18, Refusal::NUMBERS[17] + 1] {
             assert_eq!(
                 Refusal::new(number, 1000, 2).to_string(),
                 format!(

@@ -1,6 +1,6 @@
 //! What a heap's header says, from Rust: headers that are made field by field, at every pair of widths, and refusals.
 //! Expected values are the numbers that were put, and those of docs/RULES.md.
-use fractal_heap::{Header, Heap, OpenPlan, Refusal, WrittenHeader, checksum};
+use fractal_heap::{Error, Header, Heap, OpenPlan, Refusal, WrittenHeader, checksum};
 
 /// Where the header lies.
 const AT: usize = 7;
@@ -48,8 +48,23 @@ fn numbers(widths: &[usize; 23]) -> [u64; 23] {
     numbers
 }
 
-/// The fields in header order, as it is in the format.
+/// The fields in header order, as it is in the format, of a header without filters.
 fn listed(header: &Header) -> [u64; 23] {
+    assert_eq!(filtered(header), (0, 0, 0));
+    every(header)
+}
+
+/// What a header has for its filters alone.
+fn filtered(header: &Header) -> (u64, u64, u32) {
+    (
+        header.io_filter_information_position,
+        header.filtered_root_direct_block_size,
+        header.io_filter_mask,
+    )
+}
+
+/// The fields that every header has.
+fn every(header: &Header) -> [u64; 23] {
     [
         header.heap_id_length.into(),
         header.io_filter_encoded_length.into(),
@@ -113,6 +128,117 @@ fn all_ones_are_numbers_and_no_address() {
         assert_eq!(header.flags & Header::IDS_HAVE_WRAPPED, 1);
         assert_eq!(header.flags & Header::BLOCKS_HAVE_CHECKSUMS, 2);
     }
+}
+
+/// A sound header of a heap with filters, by the format: the size of a direct root, its mask, and this information, as long
+/// as the second field says.
+fn filtered_file(
+    widths: &[usize; 23],
+    numbers: &mut [u64; 23],
+    (root_size, mask): (u64, u32),
+    (length_size, information): (u8, &[u8]),
+) -> Vec<u8> {
+    numbers[1] = information.len() as u64;
+    let mut file = file(widths, numbers);
+    file.truncate(file.len() - 4);
+    file.extend(&root_size.to_le_bytes()[..length_size.into()]);
+    file.extend(mask.to_le_bytes());
+    file.extend(information);
+    let sum = checksum(&file[AT..]);
+    file.extend(sum.to_le_bytes());
+    file
+}
+
+#[test]
+fn a_filtered_header_says_where_its_filters_are() {
+    for offset_size in [2, 4, 8] {
+        for length_size in [2, 4, 8] {
+            for n in [1, 2, 255, 256, 65_535] {
+                let widths = widths(offset_size, length_size);
+                let mut due = numbers(&widths);
+                let root_size = 0x1234_5678_9ABC_DEF0 >> (64 - 8 * u32::from(length_size));
+                let information: Vec<u8> = (0..n).map(|i| (i * 7 + i / 256) as u8).collect();
+                let sealed = (length_size, &information[..]);
+                let file = filtered_file(&widths, &mut due, (root_size, 0x89AB_CDEF), sealed);
+                let heap = heap(&file, offset_size, length_size);
+                let header = heap.header().unwrap();
+                assert_eq!(every(&header), due, "{offset_size}, {length_size}, {n}");
+                let place = (file.len() - 4 - n) as u64;
+                let wide = [26, 13 * u64::from(length_size), 3 * u64::from(offset_size)];
+                assert_eq!(place, AT as u64 + wide.iter().sum::<u64>());
+                assert_eq!(filtered(&header), (place, root_size, 0x89AB_CDEF));
+                assert_eq!(heap.io_filter_information(&header), Some(&information[..]));
+            }
+        }
+    }
+}
+
+#[test]
+fn a_filtered_header_that_is_cut_ends_with_its_checksum() {
+    let widths = widths(8, 4);
+    let file = filtered_file(&widths, &mut numbers(&widths), (9, 1), (4, b"filters"));
+    let fields = AT + Header::length(8, 4) - 4;
+    for available in fields..file.len() {
+        let due = Refusal::UnexpectedEof {
+            expected: file.len() as u64,
+            available: available as u64,
+        };
+        assert_eq!(heap(&file[..available], 8, 4).header(), Err(due));
+    }
+    for place in fields..file.len() {
+        let mut damaged = file.clone();
+        damaged[place] ^= 0x10;
+        let refusal = heap(&damaged, 8, 4).header().unwrap_err();
+        assert_eq!(refusal.number(), 7, "byte {place}");
+    }
+}
+
+// Worked case 17 of docs/RULES.md.
+#[test]
+fn a_lone_header_that_says_it_has_filters_ends_too_early() {
+    let mut bytes = [0; 146];
+    planned(8, 1003).write(8, 8, &mut bytes).unwrap();
+    bytes[7] = 1;
+    let lone = Heap {
+        file: &bytes,
+        header_at: 0,
+        offset_size: 8,
+        length_size: 8,
+    };
+    let due = Refusal::UnexpectedEof {
+        expected: 159,
+        available: 146,
+    };
+    assert_eq!(lone.header(), Err(due));
+}
+
+#[test]
+fn objects_of_a_filtered_heap_are_not_read_but_their_ids_are_decoded() {
+    let widths = widths(8, 8);
+    let mut numbers = numbers(&widths);
+    (numbers[0], numbers[19]) = (8, 40);
+    let file = filtered_file(&widths, &mut numbers, (9, 1), (8, b"filters"));
+    let heap = heap(&file, 8, 8);
+    let id = [0x00, 0x16, 0x00, 0x00, 0x00, 0x00, 0x1C, 0x00];
+    assert_eq!(heap.decode_managed_id(&id), Ok((22, 28)));
+    let due = Error::Refused(Refusal::UnsupportedFilteredHeapObject);
+    assert_eq!(heap.read_managed_object(&id), Err(due));
+    let due = Refusal::UnsupportedFilteredHeapObject;
+    let header = heap.header().unwrap();
+    assert_eq!(header.write(8, 8, &mut [0; 200]), Err(due));
+}
+
+#[test]
+fn a_writer_passes_over_what_filters_have() {
+    let sound = planned(8, 28);
+    let mut other = sound;
+    other.io_filter_information_position = 154;
+    other.filtered_root_direct_block_size = u64::MAX;
+    other.io_filter_mask = 1;
+    let (mut due, mut bytes) = ([0; 146], [0; 146]);
+    sound.write(8, 8, &mut due).unwrap();
+    other.write(8, 8, &mut bytes).unwrap();
+    assert_eq!(bytes, due);
 }
 
 #[test]

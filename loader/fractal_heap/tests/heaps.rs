@@ -250,7 +250,8 @@ fn the_length_of_ids_is_refused_as_the_header_is() {
 #[test]
 fn an_id_of_another_length_is_refused_in_words() {
     let file = direct_heap(EIGHT);
-    let id = [id_at(EIGHT.block_header()), vec![0; 8]].concat();
+    // The padding is all ones, and no part of the length.
+    let id = [id_at(EIGHT.block_header()), vec![0xFF; 8]].concat();
     for length in (0..=16).filter(|&length| length != 8) {
         let due = Error::IdLength { length, due: 8 };
         let heap = heap(&file, EIGHT);

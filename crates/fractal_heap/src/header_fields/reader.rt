@@ -21,7 +21,7 @@ impl Reader<'_> {
 
     /// The number of `width` bytes at `pos`, of which nothing is tested: they are there, and the width is one.
     #[inline(always)]
-    pub fn taken(&self, pos: usize, width: u8) -> (u64, usize)
+    pub fn untested(&self, pos: usize, width: u8) -> (u64, usize)
         requires width { legal width ≡ true }
         requires there { pos + width ≤ length self.now.file.now }
         ensures { result ≡ (le_at self.now.file.now pos width, pos + width) }
@@ -34,7 +34,7 @@ impl Reader<'_> {
     #[inline(always)]
     #[tactic(auto, unfolding(fields::specs::LittleEndian::le_at, fields::specs::LittleEndian::value))]
     pub fn u8(&self, pos: usize) -> Result<(u8, usize), FormatError>
-        ensures value { result ≡ plain_field self.now.file.now pos 1 }
+        ensures read { result ≡ plain_field self.now.file.now pos 1 }
         ensures next { IfOk result (λ field. field.1 ≡ pos + 1) }
         ensures there { IfOk result (λ field. field.1 ≤ length self.now.file.now) }
     {
@@ -45,7 +45,7 @@ impl Reader<'_> {
     /// A number of two bytes.
     #[inline(always)]
     pub fn u16(&self, pos: usize) -> Result<(u16, usize), FormatError>
-        ensures value { result ≡ plain_field self.now.file.now pos 2 }
+        ensures read { result ≡ plain_field self.now.file.now pos 2 }
         ensures next { IfOk result (λ field. field.1 ≡ pos + 2) }
         ensures there { IfOk result (λ field. field.1 ≤ length self.now.file.now) }
     {
@@ -56,7 +56,7 @@ impl Reader<'_> {
     /// A number of four bytes.
     #[inline(always)]
     pub fn u32(&self, pos: usize) -> Result<(u32, usize), FormatError>
-        ensures value { result ≡ plain_field self.now.file.now pos 4 }
+        ensures read { result ≡ plain_field self.now.file.now pos 4 }
         ensures next { IfOk result (λ field. field.1 ≡ pos + 4) }
         ensures there { IfOk result (λ field. field.1 ≤ length self.now.file.now) }
     {
@@ -67,7 +67,7 @@ impl Reader<'_> {
     /// An address; an `offset_size` that is no width is refused first (2).
     #[inline(always)]
     pub fn offset(&self, pos: usize) -> Result<(u64, usize), FormatError>
-        ensures value { result ≡ offset_field self.now.file.now pos self.now.offset_size }
+        ensures read { result ≡ offset_field self.now.file.now pos self.now.offset_size }
         ensures next { IfOk result (λ field. field.1 ≡ pos + self.now.offset_size) }
         ensures there { IfOk result (λ field. field.1 ≤ length self.now.file.now) }
         ensures width { OnOk result (legal self.now.offset_size ≡ true) }
@@ -79,7 +79,7 @@ impl Reader<'_> {
     /// A length; a `length_size` that is no width is refused first (3).
     #[inline(always)]
     pub fn length(&self, pos: usize) -> Result<(u64, usize), FormatError>
-        ensures value { result ≡ length_field self.now.file.now pos self.now.length_size }
+        ensures read { result ≡ length_field self.now.file.now pos self.now.length_size }
         ensures next { IfOk result (λ field. field.1 ≡ pos + self.now.length_size) }
         ensures there { IfOk result (λ field. field.1 ≤ length self.now.file.now) }
         ensures width { OnOk result (legal self.now.length_size ≡ true) }

@@ -8,7 +8,6 @@ use refusals::FormatError;
 use table::MAX_HEAP_SPACE;
 
 /// What is tested before an ID goes into `lent` bytes.
-#[tactic(auto, unfolding(table::specs::Sizes::offset_bytes))]
 pub fn check_id(offset: u64, length: u64, lent: usize) -> Result<(), FormatError>
     ensures answer { result ≡ id_checked fixed offset length lent }
     ensures there { OnOk result ((offset < MAX_HEAP_SPACE) × (length < LENGTH_SPACE) × (ID_LENGTH ≤ lent)) }

@@ -5,10 +5,10 @@ use Rattle.table.proofs.Rows.{row-29, row-lo, place_is}
 use Rattle.table.proofs.lookup.Goals as goal
 
 pub overflow_sub-result : goal.overflow_sub-result
-overflow_sub-result c = omega (arith, ap (row_offset fixed) c.row_of-row.ensures.value, row-lo fixed c.args.offset)
+overflow_sub-result c = omega (arith, ap (row_offset fixed) c.row_of-row.ensures.row, row-lo fixed c.args.offset)
 
 pub returns : goal.returns
 returns c = record {
-  value = place_is _ c.row_of-row.ensures.value c.row_offset.ensures c.row_block_size.ensures;
-  of_root = omega (arith, c.row_of-row.ensures.value, row-29 c.args.offset c.requires);
+  place = place_is _ c.row_of-row.ensures.row c.row_offset.ensures c.row_block_size.ensures;
+  of_root = omega (arith, c.row_of-row.ensures.row, row-29 c.args.offset c.requires);
 }

@@ -39,9 +39,11 @@ pub const FRACTAL_HEAP_OBJECT_BYTES_MISMATCH: u32 = 14;
 pub const FRACTAL_HEAP_ADDRESS_TOO_LARGE: u32 = 15;
 pub const FRACTAL_HEAP_HEAP_ID_TOO_LARGE: u32 = 16;
 pub const FRACTAL_HEAP_HEADER_FIELD_TOO_LARGE: u32 = 17;
+pub const FRACTAL_HEAP_OUTSIDE_HEAP: u32 = 20;
 
-// How many numbers the fields of a header are.
+// How many numbers the fields of a header are; and with the three that are told of its filters.
 pub const FRACTAL_HEAP_HEADER_FIELDS: u32 = 23;
+pub const FRACTAL_HEAP_HEADER_NUMBERS: u32 = 26;
 
 // Bytes of an open plan, its alignment, and how many numbers its totals are.
 pub const FRACTAL_HEAP_PLAN_SIZE: u32 = 72;

@@ -3,8 +3,10 @@
 
 #[link(name = "tools_c", kind = "static")]
 unsafe extern "C" {
-    // checksums: the checksum
+    // checksums: the checksum, the inverses of its mixes
     pub fn tools_jenkins_lookup3(bytes: *const u8, bytes_len: usize) -> u32;
+    pub fn tools_unmix(words: *mut u32, words_len: usize) -> u32;
+    pub fn tools_unfinal_mix(words: *mut u32, words_len: usize) -> u32;
 
     // field_reads: fields read, the undefined address
     pub fn tools_ensure_len(
@@ -90,6 +92,13 @@ unsafe extern "C" {
         slot: *mut u8,
         slot_len: usize,
     ) -> u32;
+
+    // slots: direct slots, by two engines, and how many there are
+    pub fn tools_locate(offset: u64, slot: *mut u8, slot_len: usize) -> u32;
+    pub fn tools_count_to(offset: u64, slot: *mut u8, slot_len: usize) -> u32;
+    pub fn tools_engines_agree_at(offset: u64) -> u32;
+    pub fn tools_entered(offset: u64, place: u64, block: *mut u64, block_len: usize) -> u32;
+    pub fn tools_count_slots(rows: u64, counts: *mut u64, counts_len: usize) -> u32;
 
     // headers: a header's fields
     pub fn tools_parse_header(

@@ -2,7 +2,7 @@
 //! order, types, the fields of structs, and the numbers of refusals. All are read from the sources, so that none can be
 //! changed alone. In a copy of this crate outside of the repository there is nothing to hold them to.
 use fractal_heap_sys::{
-    FRACTAL_HEAP_HEADER_FIELDS, FRACTAL_HEAP_PLAN_ALIGNMENT, FRACTAL_HEAP_PLAN_SIZE, OpenPlan,
+    FRACTAL_HEAP_HEADER_NUMBERS, FRACTAL_HEAP_PLAN_ALIGNMENT, FRACTAL_HEAP_PLAN_SIZE, OpenPlan,
     OpenedPlan, Planner, State,
 };
 use std::collections::{BTreeMap, BTreeSet};
@@ -77,6 +77,7 @@ fn pointer_and_length(name: &str, kind: &str) -> Vec<(String, String)> {
         "&[u8]" => "*const u8",
         "&[u64]" => "*const u64",
         "&mut [u8]" => "*mut u8",
+        "&mut [u32]" => "*mut u32",
         "&mut [u64]" => "*mut u64",
         "&OpenPlan" => return vec![(name.into(), "*const OpenPlan".into())],
         "&mut OpenPlan" => return vec![(name.into(), "*mut OpenPlan".into())],
@@ -284,7 +285,7 @@ fn the_header_declares_what_rust_is_declared() {
     assert_eq!(c_functions(&header), rust_functions(&rust));
     assert_eq!(rust_functions(&rust).len(), 9);
     assert_eq!(numbers(&header), numbers(&rust));
-    assert_eq!(numbers(&rust).len(), 18 + 4);
+    assert_eq!(numbers(&rust).len(), 19 + 5);
     assert_eq!(c_structs(&header), rust_structs(&rust));
     let fields: usize = rust_structs(&rust).values().map(Vec::len).sum();
     assert_eq!((rust_structs(&rust).len(), fields), (4, 7 + 2 + 2 + 2));
@@ -314,7 +315,7 @@ fn the_fields_of_a_header_have_their_places() {
         Some(name.to_lowercase())
     };
     let places: Vec<String> = body.split(',').filter_map(place).collect();
-    assert_eq!(places.len(), FRACTAL_HEAP_HEADER_FIELDS as usize);
+    assert_eq!(places.len(), FRACTAL_HEAP_HEADER_NUMBERS as usize);
     let rust = text(&root, "loader/fractal_heap/src/header.rs");
     assert_eq!(places, fields_of(&rust, "Header"));
     let proved = |of: &str, name| fields_of(&proved(&root.join(format!("crates/{of}/src"))), name);
@@ -429,6 +430,7 @@ fn a_change_of_one_side_is_seen() {
             "const uint8_t *bytes, size_t bytes_len,\n",
         ),
         ("HEADER_FIELDS = 23", "HEADER_FIELDS = 22"),
+        ("HEADER_NUMBERS = 26", "HEADER_NUMBERS = 23"),
         ("uint64_t fill;", "uint32_t fill;"),
         ("uint64_t indirect;", ""),
         ("uint64_t objects;", "uint64_t objects; uint64_t bytes;"),

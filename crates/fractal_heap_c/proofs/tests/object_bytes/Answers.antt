@@ -7,8 +7,8 @@ use Rattle.fractal_heap_c.proofs.tests.object_bytes.Goals.{then-refusal-ne0-via-
 use Rattle.fractal_heap_c.proofs.tests.object_bytes.Goals.{then-refusal-ne0-via-else-refusal-ne0+then-not-has_room}
 
 pub returns-then-refusal-ne0-clause-kept : goal.returns-then-refusal-ne0-clause-kept
-returns-then-refusal-ne0-clause-kept c h g call p k i H I =
-    let N = c.fractal_heap_read_managed_object-refusal.ensures.kept h g call p k i H I (omega arith) in
+returns-then-refusal-ne0-clause-kept c h g call p k i H I m =
+    let N = c.fractal_heap_read_managed_object-refusal.ensures.kept h g call p k i H I m (omega arith) in
     elim c.then-refusal-ne0.branch [
       | then-refusal-ne0-via-then-refusal-ne0 w ↦ w.if-refusal-ne0.true N.answers_zero
       | then-refusal-ne0-via-else-refusal-ne0+then-not-has_room w ↦
@@ -24,16 +24,16 @@ returns-then-refusal-ne0-clause-kept c h g call p k i H I =
     ]
 
 pub returns-clause-kept : goal.returns-clause-kept
-returns-clause-kept c h g call p k i H I =
-    let N = c.fractal_heap_read_managed_object-refusal.ensures.kept h g call p k i H I (omega arith) in
+returns-clause-kept c h g call p k i H I m =
+    let N = c.fractal_heap_read_managed_object-refusal.ensures.kept h g call p k i H I m (omega arith) in
     taken N c.read_u64_le-start.result
     (c.read_u64_le-start.result + c.read_u64_le-count.result - c.read_u64_le-start.result)
     c.read_u64_le-start.ensures
     (omega (arith, c.read_u64_le-count.ensures))
 
 pub returns-then-refusal-ne0-clause-from_bytes : goal.returns-then-refusal-ne0-clause-from_bytes
-returns-then-refusal-ne0-clause-from_bytes c h B call p k i H I =
-    let N = c.fractal_heap_read_managed_object-refusal.ensures.from_bytes h B call p k i H I (omega arith) in
+returns-then-refusal-ne0-clause-from_bytes c h B call p k i H I m =
+    let N = c.fractal_heap_read_managed_object-refusal.ensures.from_bytes h B call p k i H I m (omega arith) in
     elim c.then-refusal-ne0.branch [
       | then-refusal-ne0-via-then-refusal-ne0 w ↦ w.if-refusal-ne0.true N.answers_zero
       | then-refusal-ne0-via-else-refusal-ne0+then-not-has_room w ↦
@@ -49,8 +49,8 @@ returns-then-refusal-ne0-clause-from_bytes c h B call p k i H I =
     ]
 
 pub returns-clause-from_bytes : goal.returns-clause-from_bytes
-returns-clause-from_bytes c h B call p k i H I =
-    let N = c.fractal_heap_read_managed_object-refusal.ensures.from_bytes h B call p k i H I (omega arith) in
+returns-clause-from_bytes c h B call p k i H I m =
+    let N = c.fractal_heap_read_managed_object-refusal.ensures.from_bytes h B call p k i H I m (omega arith) in
     taken N c.read_u64_le-start.result
     (c.read_u64_le-start.result + c.read_u64_le-count.result - c.read_u64_le-start.result)
     c.read_u64_le-start.ensures

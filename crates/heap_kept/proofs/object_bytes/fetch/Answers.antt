@@ -4,15 +4,15 @@ use Rattle.heap_kept.proofs.Keeping.{kept, number-is, bytes-are, no-place}
 use Rattle.heap_kept.proofs.object_bytes.fetch.Goals as goal
 
 pub returns-in_err-place-clause-kept : goal.returns-in_err-place-clause-kept
-returns-in_err-place-clause-kept c s p k i H I l = absurd (no-place (kept H I c.in_err-place.ensures.value))
+returns-in_err-place-clause-kept c s p k i H I m l = absurd (no-place (kept H I m c.in_err-place.ensures.found))
 
 pub returns-then-found-count-clause-kept : goal.returns-then-found-count-clause-kept
-returns-then-found-count-clause-kept c s p k i H I l =
-    absurd (omega (arith, number-is (kept H I c.in_ok-place.ensures.value), l, c.if-found-count.true))
+returns-then-found-count-clause-kept c s p k i H I m l =
+    absurd (omega (arith, number-is (kept H I m c.in_ok-place.ensures.found), l, c.if-found-count.true))
 
 pub returns-clause-kept : goal.returns-clause-kept
-returns-clause-kept c s p k i H I l =
-    let P = kept H I c.in_ok-place.ensures.value in
+returns-clause-kept c s p k i H I m l =
+    let P = kept H I m c.in_ok-place.ensures.found in
     let n = number-is P in
     record {
       length_answered = ap (λ (x : ℕ). Ok x) n;

@@ -4,7 +4,7 @@ use Rattle.std.proofs.Common.{sym, arith}
 use Rattle.fields.proofs.LittleEndian.{le_at-last}
 use Rattle.ids.proofs.decode.number_behind_type.Goals as goal
 
-pub returns-then-n-eq8 : goal.returns-then-n-eq8
-returns-then-n-eq8 c =
-    rw c.read_u64_le-then-n-eq8.ensures
-    (sym (le_at-last _ (λ j. omega (arith, c.type_inv.id j)) 8 0 1 (sym c.if-n-eq8.true)))
+pub returns-then-bytes-eq8 : goal.returns-then-bytes-eq8
+returns-then-bytes-eq8 c =
+    rw c.read_u64_le-then-bytes-eq8.ensures
+    (sym (le_at-last _ (λ j. omega (arith, c.type_inv.id j)) 8 0 1 (sym c.if-bytes-eq8.true)))

@@ -8,5 +8,5 @@ end_alone s p n =
     let e : 0 + (p + n) ≡ p + n = omega arith in
     rw e
 
-pub returns-clause-value : goal.returns-clause-value
-returns-clause-value c = rw (c.ensure_len.ensures.value, c.from.ensures, c.from-2.ensures) (end_alone _ _ _)
+pub returns-clause-tested : goal.returns-clause-tested
+returns-clause-tested c = rw (c.ensure_len.ensures.tested, c.from.ensures, c.from-2.ensures) (end_alone _ _ _)

@@ -3,7 +3,8 @@ use Rattle.std.proofs.Common.{arith}
 use Rattle.open_plan.proofs.Planned.{extends, too-large, no-slot}
 use Rattle.open_plan.proofs.OpenPlan.add.Goals as goal
 
-pub returns-then-size-max_managed_object-clause-refused_as_planned : goal.returns-then-size-max_managed_object-clause-refused_as_planned
+pub returns-then-size-max_managed_object-clause-refused_as_planned :
+    goal.returns-then-size-max_managed_object-clause-refused_as_planned
 returns-then-size-max_managed_object-clause-refused_as_planned c xs P few o b lo lb =
     too-large _ xs c.args.size o b c.args.self.now.width_legal lo lb P (omega arith)
 

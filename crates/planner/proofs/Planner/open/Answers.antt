@@ -2,13 +2,8 @@
 use Rattle.std.proofs.Common.{◌+◌, arith}
 use Rattle.table.proofs.Locating.{entered-small}
 use Rattle.planner.proofs.Reaching.{reached-step, reached-bounded}
-use Rattle.planner.proofs.Adding.{opens-at, opens-none, if_none}
+use Rattle.planner.proofs.Adding.{opens-at}
 use Rattle.planner.proofs.Planner.open.Goals as goal
-
-pub returns-in_err-slot-clause-ends : goal.returns-in_err-slot-clause-ends
-returns-in_err-slot-clause-ends c =
-    let none = c.in_err-slot.ensures.first_large_enough in
-    if_none _ _ (opens-none _ _ _ c.requires.no_room_here c.direct_block_header-header.ensures none)
 
 pub overflow_add-self-5 : goal.overflow_add-self-5
 overflow_add-self-5 c =

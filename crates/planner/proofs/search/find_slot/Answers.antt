@@ -13,27 +13,6 @@ pub returns-then-need-slot-clause-in_heap : goal.returns-then-need-slot-clause-i
 returns-then-need-slot-clause-in_heap c =
     grind (arith, slot-some fixed c.loop-from.from, end-le fixed c.loop-from.from (omega arith) (omega arith))
 
-pub overflow_add-end : goal.overflow_add-end
-overflow_add-end c =
-    let span = c.next_power_of_two-span.ensures in
-    let j = jumped span.power span.upper_bound c.requires.need_in_block c.locate-slot.ensures c.loop-from-test.true
-    c.if-need-slot.false in
-    omega (arith, j.sum)
-
-pub overflow_add-end-in-loop-from : goal.overflow_add-end-in-loop-from
-overflow_add-end-in-loop-from c =
-    let span = c.next_power_of_two-span.ensures in
-    let j = jumped span.power span.upper_bound c.requires.need_in_block c.locate-slot.ensures c.loop-from-test.true
-    c.if-need-slot.false in
-    omega (arith, j.sum)
-
-pub loop-from-smaller : goal.loop-from-smaller
-loop-from-smaller c =
-    let span = c.next_power_of_two-span.ensures in
-    let j = jumped span.power span.upper_bound c.requires.need_in_block c.locate-slot.ensures c.loop-from-test.true
-    c.if-need-slot.false in
-    omega (arith, j.on, j.within)
-
 pub loop-from-preserved : goal.loop-from-preserved
 loop-from-preserved c =
     let span = c.next_power_of_two-span.ensures in

@@ -12,7 +12,7 @@ use Rattle.round_trip.specs.FromBytes.{file_with_both}
 use Rattle.round_trip.specs.RoundTrip.{came_back}
 use Rattle.round_trip.proofs.WholeWay.{accepts, accepted, root-sum, rows-small, if-accepted}
 use Rattle.round_trip.proofs.Fetching.{drawn, given-is, not-refused, lists-stay, its-id}
-use Rattle.round_trip.proofs.FromBytes.{header-passes, header-held, heap-held, came}
+use Rattle.round_trip.proofs.FromBytes.{header-passes, header-held, heap-held, heap-managed, came}
 use Rattle.round_trip.proofs.from_bytes.write_and_fetch_at.Goals as goal
 
 pub planned_header-header-requires-clause-width : goal.planned_header-header-requires-clause-width
@@ -31,7 +31,7 @@ returns-in_err-write_header_at c =
     let same = c.serialize_at.auto.file in
     absurd (header-passes (accepts c.in_ok-plan.ensures.answer) (omega arith) c.planned_header-header.ensures
     (omega (arith, length-drop c.args.site.heap_header_address c.serialize_at.new.file))
-    c.in_err-write_header_at.ensures.value)
+    c.in_err-write_header_at.ensures.answered)
 
 pub returns-in_err-id : goal.returns-in_err-id
 returns-in_err-id c =
@@ -52,7 +52,10 @@ returns c =
     let there = c.in_ok-write_header_at.ensures.written in
     let B = header-held A (omega arith) g n q.header_in_file q.header_before c.planned_header-header.ensures there in
     let H = heap-held A (omega arith) g n q.header_in_file q.header_before c.planned_header-header.ensures there in
-    let K = c.fetch_at.ensures.kept _ B _ _ _ _ H I (omega (arith, size-is H I, q.room)) in
+    let M =
+    heap-managed A (omega arith) g n q.header_in_file q.header_before c.planned_header-header.ensures there q.among_early
+    q.early_in_list in
+    let K = c.fetch_at.ensures.kept _ B _ _ _ _ H I M (omega (arith, size-is H I, q.room)) in
     let F = came A (omega arith) g n q.header_in_file q.header_before c.planned_header-header.ensures there
     c.args.found.now c.fetch_at.new.found I K in
     record {

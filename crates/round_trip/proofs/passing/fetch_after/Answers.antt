@@ -7,14 +7,14 @@ use Rattle.heap_kept.specs.Kept.{fetched}
 use Rattle.round_trip.specs.Passed.{fetched_in}
 use Rattle.heap_kept.proofs.Keeping.{size-is}
 use Rattle.round_trip.proofs.WholeWay.{accepts, root-sum, rows-small, on-accepted, if-accepted}
-use Rattle.round_trip.proofs.Fetching.{drawn, given-is, not-refused, lists-stay, holds, its-id, if-answered}
+use Rattle.round_trip.proofs.Fetching.{drawn, given-is, not-refused, lists-stay, holds, managed, its-id, if-answered}
 use Rattle.round_trip.proofs.passing.fetch_after.Goals as goal
 
-pub header_of-requires-clause-root_fits : goal.header_of-requires-clause-root_fits
-header_of-requires-clause-root_fits g c = root-sum (accepts c.in_ok-plan.ensures.answer)
+pub root_header-requires-clause-root_fits : goal.root_header-requires-clause-root_fits
+root_header-requires-clause-root_fits g c = root-sum (accepts c.in_ok-plan.ensures.answer)
 
-pub header_of-requires-clause-rows_fit : goal.header_of-requires-clause-rows_fit
-header_of-requires-clause-rows_fit g c = rows-small (accepts c.in_ok-plan.ensures.answer)
+pub root_header-requires-clause-rows_fit : goal.root_header-requires-clause-rows_fit
+root_header-requires-clause-rows_fit g c = rows-small (accepts c.in_ok-plan.ensures.answer)
 
 -- the writer accepts, so that the object has an ID
 pub returns-in_err-id : goal.returns-in_err-id
@@ -31,7 +31,7 @@ returns-clause-answer g c =
     let d = given-is A D c.in_ok-id.ensures.answer in
     let file = c.serialize_and_pass.new.file in
     c.fetch.ensures.answer
-    ∙ (λ j. fetched (managed_at (c.header_of.ensures j) file (d j) c.args.site.offset_size) (length c.args.found.now))
+    ∙ (λ j. fetched (managed_at (c.root_header.ensures j) file (d j) c.args.site.offset_size) (length c.args.found.now))
     ∙ ap (λ (r : Result ManagedPlan FormatError).
     fetched_in r c.args.site c.args.sizes.now c.args.early c.args.i file (length c.args.found.now)) (sym A.answer)
 
@@ -44,7 +44,7 @@ returns-clause-copied g c =
     let file = c.serialize_and_pass.new.file in
     if-accepted A _
     (if-answered _ _ (λ place e.
-    c.fetch.ensures.copied place ((λ j. managed_at (c.header_of.ensures j) file (d j) c.args.site.offset_size)
+    c.fetch.ensures.copied place ((λ j. managed_at (c.root_header.ensures j) file (d j) c.args.site.offset_size)
     ∙ e)))
 
 pub returns-clause-kept : goal.returns-clause-kept
@@ -56,8 +56,9 @@ returns-clause-kept g c =
     let I = its-id A c.requires.among_early c.requires.early_in_list c.requires.not_empty id in
     if-accepted A _
     (λ region room.
-    let H = holds A c.header_of.ensures (record { region_there = region }) in
-    c.fetch.ensures.kept _ _ _ _ H I (omega (arith, size-is H I, room)))
+    let H = holds A c.root_header.ensures (record { region_there = region }) in
+    let M = managed A c.root_header.ensures c.requires.among_early c.requires.early_in_list in
+    c.fetch.ensures.kept _ _ _ _ H I M (omega (arith, size-is H I, room)))
 
 pub returns-clause-lists : goal.returns-clause-lists
 returns-clause-lists g c =

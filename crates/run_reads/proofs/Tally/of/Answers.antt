@@ -23,9 +23,10 @@ loop-case-preserved c =
     let E = c.in-Some.ensures in
     let one = rw E.parts.head at c.with_case-tally.ensures.cases in
     let other = rw (E.parts.head, E.parts.file, E.parts.id) at c.with_case-tally.ensures.differ in
+    let same = answered_as_recorded (head_in s) (file_in s) (id_in s) in
     record {
       cases = omega (arith, one, I.cases, count_more (is_of c.args.kind) s _ (sym E.found) E.behind);
       differ = omega (arith, other, I.differ, count_more (differs c.args.kind) s _ (sym E.found) E.behind);
-      fewer = omega (arith, one, other, no_more (is_of c.args.kind s) (not (answered_as_recorded (head_in s) (file_in s) (id_in s))), I.fewer);
+      fewer = omega (arith, one, other, no_more (is_of c.args.kind s) (not same), I.fewer);
       passed = omega (arith, one, at_most (is_of c.args.kind s), I.passed, length_behind s _ E.in_list E.behind);
     }

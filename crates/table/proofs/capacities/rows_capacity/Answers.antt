@@ -1,21 +1,13 @@
--- What is left of `rows_capacity`: headers and sums are small, and each row is filled from those before it.
+-- What is left of `rows_capacity`: the sums are small, and each row is filled from those before it.
 use Rattle.std.proofs.Common.{arith}
-use Rattle.table.proofs.Capacity.{header-small, filling-start, filling-small, filling-more}
+use Rattle.table.proofs.Capacity.{filling-start, filling-small, filling-more}
 use Rattle.table.proofs.capacities.rows_capacity.Goals as goal
-
-pub overflow_sub-per_block : goal.overflow_sub-per_block
-overflow_sub-per_block c =
-    omega (arith, c.direct_block_header-header.ensures, header-small c.args.offset_size (omega arith))
 
 pub loop-row-init : goal.loop-row-init
 loop-row-init c = (c.direct_block_header-header.ensures, filling-start c.direct_block_header-header.result)
 
-pub block_capacity-requires : goal.block_capacity-requires
-block_capacity-requires c = record {
-  row_of_root = c.loop-row-test.true;
-  below_in_heap = omega (arith, filling-small c.loop-row.invariant.1);
-  header_in_block = omega (arith, c.direct_block_header-header.ensures, header-small c.args.offset_size (omega arith));
-}
+pub block_capacity-requires-clause-below_in_heap : goal.block_capacity-requires-clause-below_in_heap
+block_capacity-requires-clause-below_in_heap c = omega (arith, filling-small c.loop-row.invariant.1)
 
 pub overflow_add-below : goal.overflow_add-below
 overflow_add-below c =

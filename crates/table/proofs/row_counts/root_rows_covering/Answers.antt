@@ -13,5 +13,5 @@ returns-then-span-gt-MAX_HEAP_SPACE c = sym (covers-not c.args.span c.if-span-gt
 
 pub returns : goal.returns
 returns c =
-    ap (λ (n : ℕ). Some (n + 1)) c.row_of.ensures.value
+    ap (λ (n : ℕ). Some (n + 1)) c.row_of.ensures.row
     ∙ sym (covers c.args.span (omega arith) c.if-span-gt-MAX_HEAP_SPACE.false)

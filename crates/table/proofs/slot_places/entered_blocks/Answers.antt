@@ -9,22 +9,22 @@ loop-at-init c = entering-start c.args.offset_size c.args.end c.args.start c.req
 
 pub returns-then-is_direct : goal.returns-then-is_direct
 returns-then-is_direct c =
-    entering-done c.loop-at.invariant (direct-slot _ c.table_slot-at.ensures.value c.if-is_direct.ensures)
+    entering-done c.loop-at.invariant (direct-slot _ c.table_slot-at.ensures.slot c.if-is_direct.ensures)
 
 pub overflow_add-total : goal.overflow_add-total
 overflow_add-total c =
-    let e = c.table_slot-at.ensures.value in
+    let e = c.table_slot-at.ensures.slot in
     let deep = deep-slot _ e c.if-is_direct.ensures in
     let more = entering-more c.loop-at.invariant deep _ (rw e at c.entered_here-total.ensures) in
     omega (arith, more.rest, entered-small c.args.offset_size c.args.end c.args.start (omega arith))
 
 pub loop-at-smaller : goal.loop-at-smaller
 loop-at-smaller c =
-    let s = deep_start c.loop-at.local c.table_slot-at.ensures.value (omega arith) c.if-is_direct.ensures in
+    let s = deep_start c.loop-at.local c.table_slot-at.ensures.slot (omega arith) c.if-is_direct.ensures in
     omega arith
 
 pub loop-at-preserved : goal.loop-at-preserved
 loop-at-preserved c =
-    let e = c.table_slot-at.ensures.value in
+    let e = c.table_slot-at.ensures.slot in
     let deep = deep-slot _ e c.if-is_direct.ensures in
     rw e (entering-more c.loop-at.invariant deep _ (rw e at c.entered_here-total.ensures))

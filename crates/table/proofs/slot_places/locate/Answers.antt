@@ -8,15 +8,15 @@ loop-at-init c = loc_start c.args.offset c.requires
 
 pub returns-then-is_direct : goal.returns-then-is_direct
 returns-then-is_direct c =
-    let e = c.table_slot-at.ensures.value in
+    let e = c.table_slot-at.ensures.slot in
     rw e (loc_direct c.loop-at.invariant (direct-slot _ e c.if-is_direct.ensures))
 
 pub loop-at-smaller : goal.loop-at-smaller
 loop-at-smaller c =
-    let s = deep_start c.loop-at.local c.table_slot-at.ensures.value (omega arith) c.if-is_direct.ensures in
+    let s = deep_start c.loop-at.local c.table_slot-at.ensures.slot (omega arith) c.if-is_direct.ensures in
     omega arith
 
 pub loop-at-preserved : goal.loop-at-preserved
 loop-at-preserved c =
-    let e = c.table_slot-at.ensures.value in
+    let e = c.table_slot-at.ensures.slot in
     rw e (loc_deeper c.loop-at.invariant (deep-slot _ e c.if-is_direct.ensures))

@@ -1,0 +1,9 @@
+pub mod Numbers
+pub mod Sums
+pub mod Rows
+pub mod Levels
+pub mod Listing
+pub mod Walking
+pub mod Searching
+pub mod Counts
+pub mod Tallying

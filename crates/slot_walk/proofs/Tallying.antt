@@ -1,0 +1,374 @@
+-- Counting slots by size along the walk: what is counted and what is left give the whole.
+use Rattle.std.proofs.Common.{ℕ, suc, ◌+◌, ◌-◌, ◌*◌, ◌^◌, ◌≤◌, ◌<◌, ◌≡◌, zero-le, refl, sym, ap, ◌∙◌, subst}
+use Rattle.std.proofs.Common.{List, [], ◌∷◌, ◌++◌, length, set, replicate, length-set, inl, inr, arith}
+use Rattle.std.proofs.Math.Nat.{add-zero}
+use Rattle.std.proofs.Math.Pow.{pow_mono}
+use Rattle.std.proofs.Math.ListN.{get_or-eq_default}
+use Rattle.std.proofs.lemmas.Bool.{cases_lt}
+use Rattle.std.proofs.lemmas.Bool.Decides.{nat_tests}
+use Rattle.std.proofs.lemmas.List.{get_or-set_same, get_or-set_other, get_or-replicate, length-replicate, ext_get_or}
+use Rattle.std.proofs.lemmas.Nat.{pow_pos}
+use Rattle.std.specs.Prelude.{slice_index, IfOk, Result, Ok, Err, Some, None}
+use Rattle.refusals.specs.declared.FormatError.{FormatError}
+use Rattle.refusals.specs.declared.FormatError.TheVariants.{OutsideHeap}
+use Rattle.numbers.specs.Sums.{sum}
+use Rattle.table.specs.Table.{Table, fixed, row_bits, row_offset, max_rows}
+use Rattle.table.proofs.Rows.{row, row-mono, slot-rows}
+use Rattle.table_laws.specs.Laws.{IsTable}
+use Rattle.table_laws.proofs.Format.{heap-span}
+use Rattle.slot_walk.specs.Walk.{slot_sizes, sizes, slots, of_sizes, bytes_of}
+use Rattle.slot_walk.specs.Blocks.{Nested}
+use Rattle.slot_walk.specs.Counting.{tally, Tallied, CountBlock, BlockCounted, CountSlot, SlotCounted, counts_in}
+use Rattle.slot_walk.specs.Counting.{heap_rows_end}
+use Rattle.slot_walk.proofs.Rows.{pow-upto, pow-same, row-strict, double}
+use Rattle.slot_walk.proofs.Levels.{nested-fewer}
+use Rattle.slot_walk.proofs.Sums.{slot-own, slot-block, slot-sum}
+use Rattle.slot_walk.proofs.Counts.{tally-append, tally-one, tally-none, tally-le, of-size-is, of-sizes-length}
+use Rattle.slot_walk.proofs.Counts.{of-sizes-at, counts-fill}
+use Rattle.slot_walk.proofs.Walking.{AtRow, InRow, rows_are, walk_start, walk_end, row_start, row-end, next_small}
+use Rattle.slot_walk.proofs.Walking.{slot_in, slot_falls, weight, slot_next, slot_done, direct-bits, deep-bits}
+use Rattle.slot_walk.proofs.Walking.{slot-is-block}
+
+-- what the loops keep, l being the counts at the block's start and c those now
+pub record Kept (t : Table) (l c : List ℕ) (here : ℕ) (whole left : List ℕ) : Type 0 where
+  pub places : length c ≡ length l
+  pub low : (k : ℕ) → slice_index c k ≤ here
+  pub each : (k : ℕ) → k < length l
+      → slice_index l k + tally (2 ^ (t.start_bits + k)) whole ≡ slice_index c k + tally (2 ^ (t.start_bits + k)) left
+
+module _ {t : Table} where
+  kept-all : {l : List ℕ} {a : ℕ} → ((k : ℕ) → slice_index l k ≤ a) → (whole : List ℕ) → Kept t l l a whole whole
+  kept-all h whole = record { places = refl; low = h; each = λ k u. refl }
+
+  kept_slot : (l c r xs whole left : List ℕ) (here size : ℕ) → Kept t l c here whole (xs ++ left) → Tallied t xs c r
+      → sum xs ≡ size → Kept t l r (here + size) whole left
+  kept_slot l c r xs whole left here size K T e = record {
+    places = T.places ∙ K.places;
+    low = low;
+    each = λ k u.
+        let d = tally-append (2 ^ (t.start_bits + k)) xs left in
+        omega (arith, K.places, K.each k u, T.each k (omega (arith, K.places)));
+  }
+    where
+      low : (k : ℕ) → slice_index r k ≤ here + size
+      low k =
+          elim (cases_lt k (length c)) [
+            | inl u ↦
+                omega (arith, T.each k u, K.low k, tally-le (2 ^ (t.start_bits + k)) xs (pow_pos (t.start_bits + k)))
+            | inr u ↦
+                let z : slice_index r k ≡ 0 = get_or-eq_default r 0 {n = k} (omega (arith, T.places)) in
+                omega arith
+          ]
+
+  kept-end : {l c whole : List ℕ} {here : ℕ} → Kept t l c here whole [] → Tallied t whole l c
+  unfolding tally
+  kept-end K = record { places = K.places; each = λ k u. omega (arith, K.each k u) }
+
+-- before a row, with the size's place among the sizes
+pub record Rows (t : Table) (l c : List ℕ) (levels a e here size next place next_place : ℕ) : Type 0 where
+  pub at : AtRow t (Kept t l c here) levels a e here size next
+  pub room : t.direct_bits - t.start_bits < length c
+  pub nth : size ≡ 2 ^ (t.start_bits + place)
+  pub next-nth : next ≡ 2 ^ (t.start_bits + next_place)
+
+-- in a row: from whatever the row began with
+pub record Cols (t : Table) (c₀ c : List ℕ) (levels a e from here size next left : ℕ) : Type 0 where
+  pub go : (l : List ℕ) → AtRow t (Kept t l c₀ from) levels a e from size next
+      → InRow t (Kept t l c here) levels a e from here size next left
+
+module _ {t : Table} {levels a e : ℕ} where
+  pub rows_start : {l : List ℕ} {start : ℕ} → start ≡ 2 ^ t.start_bits → CountBlock t levels a e l
+      → Rows t l l levels a e a start start 0 0
+  rows_start {l} {start} s B = record {
+    at = walk_start start s B.block (kept-all B.low);
+    room = B.room;
+    nth = s ∙ ap (λ (k : ℕ). 2 ^ k) (sym (add-zero t.start_bits));
+    next-nth = s ∙ ap (λ (k : ℕ). 2 ^ k) (sym (add-zero t.start_bits));
+  }
+
+  pub cols_start : {c : List ℕ} {here size next width : ℕ} → width ≡ 2 ^ t.width_bits → here < e
+      → Cols t c c levels a e here here size next width
+  cols_start {c} {here} {size} {next} {width} v u = record { go = λ l I. row_start I width v u }
+
+  module _ {l c₀ c : List ℕ} {from here size next place next_place cols : ℕ}
+      (B : Rows t l c₀ levels a e from size next place next_place)
+      (I : Cols t c₀ c levels a e from here size next cols) where
+    inside : InRow t (Kept t l c here) levels a e from here size next cols
+    inside = I.go l B.at
+
+    same : length c ≡ length c₀
+    same = inside.rest.places ∙ sym B.at.rest.places
+
+    pub next_fits : next ≤ 2 ^ t.heap_bits
+    next_fits = next_small inside
+
+    pub place_fits : next_place ≤ t.heap_bits
+    place_fits =
+        let p : t.start_bits + next_place ≤ t.heap_bits = pow-upto (omega (arith, next_fits, B.next-nth)) in
+        omega arith
+
+    pub cols_end : cols ≡ 0
+        → (Rows t l c levels a e here next (next + next) next_place (next_place + 1)) × (from < here) × (here ≤ e)
+    cols_end z =
+        let r = row-end inside z in
+        let k = t.start_bits + next_place in
+        let v : 2 ^ (t.start_bits + (next_place + 1)) ≡ 2 ^ suc k = ap (λ (y : ℕ). 2 ^ y) (omega arith) in (
+          record {
+            at = r.0;
+            room = omega (arith, same, B.room);
+            nth = B.next-nth;
+            next-nth = omega (arith, B.next-nth);
+          },
+          r.1,
+          r.2,
+        )
+
+    module _ (some : 0 < cols) where
+      pub slot_asked : CountSlot t levels here size place c
+      slot_asked = record {
+        slot = slot_in inside some;
+        nth = B.nth;
+        room = omega (arith, same, B.room);
+        low = (slot_next inside some).low;
+      }
+
+      pub slot_lighter : t.start_bits ≤ t.direct_bits → (largest : ℕ) → largest ≡ 2 ^ t.direct_bits
+          → weight largest size < 2 * (e - a)
+      slot_lighter g largest q = slot_falls inside some g largest q
+
+  pub rows_done : {l c : List ℕ} {here size next place next_place : ℕ}
+      → Rows t l c levels a e here size next place next_place → e ≤ here → BlockCounted t a e l c
+  rows_done {l} {c} B u = record {
+    is = λ n f.
+        subst (λ (k : ℕ). Tallied t (sizes t k) l c) (rows_are B.at.block n f) (kept-end (walk_end B.at u));
+  }
+
+  module _ (g : t.start_bits ≤ t.direct_bits) (w : t.width_bits + t.start_bits ≤ suc t.direct_bits) where
+    pub cols_more : {c₀ c r : List ℕ} {from here size next cols : ℕ} → Cols t c₀ c levels a e from here size next cols
+        → 0 < cols → SlotCounted t size c r → Cols t c₀ r levels a e from (here + size) size next (cols - 1)
+    cols_more {c₀} {c} {r} {from} {here} {size} I some S = record {
+      go = λ l A.
+          let i = I.go l A in
+          slot_done i some (Kept t l r (here + size)) (here + size) refl
+          (λ left K.
+          kept_slot l c r (slot_sizes t (sizes t) i.row) (sizes t i.block.rows) left here size K (S.is i.row i.size_is)
+          (slot-sum t g w i.row ∙ sym i.size_is));
+    }
+
+-- ---- one slot
+
+module _ {t : Table} where
+  module _ (g : t.start_bits ≤ t.direct_bits) (w : t.width_bits + t.start_bits ≤ suc t.direct_bits) where
+    pub block-counted : {a z : ℕ} {l r : List ℕ} → 2 ^ t.direct_bits < z → BlockCounted t a (a + z) l r
+        → SlotCounted t z l r
+    block-counted {a} {z} {l} {r} d B = record {
+      is = λ n e.
+          let b = deep-bits t z n e d in
+          subst (λ (y : List ℕ). Tallied t y l r) (sym (slot-block t n b))
+          (B.is (n - t.width_bits) (omega (arith, slot-rows t n g w b)));
+    }
+
+    pub block-asked : {levels a z k : ℕ} {l : List ℕ} → 2 ^ t.direct_bits < z → CountSlot t levels a z k l
+        → (0 < levels) × CountBlock t (levels - 1) a (a + z) l
+    block-asked d S =
+        let B = slot-is-block g w d S.slot in
+        (B.0, record { block = B.1; room = S.room; low = S.low })
+
+  module _ {levels a z p : ℕ} {l : List ℕ} (d : z ≤ 2 ^ t.direct_bits) (S : CountSlot t levels a z p l) where
+    pub place-bits : t.start_bits + p ≤ t.direct_bits
+    place-bits = pow-upto (omega (arith, S.nth))
+
+    pub place-small : p < length l
+    place-small = omega (arith, place-bits, S.room)
+
+    pub direct-counted : SlotCounted t z l (set l p (slice_index l p + 1))
+    direct-counted = record {
+      is = λ n e.
+          subst (λ (y : List ℕ). Tallied t y l (set l p (slice_index l p + 1)))
+          (sym (slot-own t n (direct-bits t z n e d) ∙ ap (λ (y : ℕ). y ∷ []) (sym e)))
+          (record { places = length-set l p (slice_index l p + 1); each = each });
+    }
+      where
+        other : (k : ℕ) → (k ≡ p → ⊥)
+            → slice_index (set l p (slice_index l p + 1)) k ≡ slice_index l k + tally (2 ^ (t.start_bits + k)) (z ∷ [])
+        other k h =
+            let c = tally-none z (2 ^ (t.start_bits + k))
+            (λ q. h (omega (arith, pow-same (t.start_bits + k) (t.start_bits + p) (sym q ∙ S.nth)))) in
+            let s : slice_index (set l p (slice_index l p + 1)) k ≡ slice_index l k =
+            get_or-set_other l p k (slice_index l p + 1) 0 h in
+            omega arith
+
+        each : (k : ℕ) → k < length l
+            → slice_index (set l p (slice_index l p + 1)) k ≡ slice_index l k + tally (2 ^ (t.start_bits + k)) (z ∷ [])
+        each k v =
+            elim (cases_lt k p) [
+              | inl h ↦ other k (λ q. omega arith)
+              | inr h ↦ elim (cases_lt p k) [
+                | inl y ↦ other k (λ q. omega arith)
+                | inr y ↦
+                    subst
+                    (λ (j : ℕ). slice_index (set l p (slice_index l p + 1)) j
+                    ≡ slice_index l j + tally (2 ^ (t.start_bits + j)) (z ∷ []))
+                    (let q : p ≡ k = omega arith in q)
+                    (let s : slice_index (set l p (slice_index l p + 1)) p ≡ slice_index l p + 1 =
+                    get_or-set_same l p (slice_index l p + 1) 0 place-small in
+                    omega (arith, tally-one z (2 ^ (t.start_bits + p)) S.nth))
+              ]
+            ]
+
+-- ---- what so many rows span, row by row
+
+pub record Ends (t : Table) (rows end size next row : ℕ) : Type 0 where
+  pub some : 0 < rows
+  pub most : row ≤ max_rows t
+  pub end_is : end ≡ row_offset t row
+  pub size_is : size ≡ 2 ^ row_bits t row
+  pub next-is : next ≡ 2 ^ row_bits t (suc row)
+
+module _ {t : Table} {rows : ℕ} where
+  pub ends_start : {start : ℕ} → 0 < rows → start ≡ 2 ^ t.start_bits → Ends t rows 0 start start 0
+  ends_start p s = record {
+    some = p;
+    most = zero-le;
+    end_is = refl;
+    size_is = s ∙ sym (ap (λ (k : ℕ). 2 ^ k) (add-zero t.start_bits));
+    next-is = s ∙ sym (ap (λ (k : ℕ). 2 ^ k) (add-zero t.start_bits));
+  }
+
+  module _ (T : IsTable t) {end size next row' width : ℕ} (v : width ≡ 2 ^ t.width_bits)
+      (I : Ends t rows end size next row') where
+    abbrev span : ℕ
+    span = width * size
+
+    pub row-added : end + width * size ≡ row_offset t (suc row')
+    row-added =
+        let s = ap (λ (y : ℕ). 2 ^ t.width_bits * y) I.size_is in
+        let m = ap (λ (y : ℕ). y * size) v in
+        omega (arith, (row t row').ends, I.end_is)
+
+    -- one more row than the heap has spans at most twice the heap
+    pub row-small : end + width * size ≤ 2 ^ t.heap_bits + 2 ^ t.heap_bits
+    row-small =
+        let m : 2 ^ (t.start_bits + t.width_bits + row') ≤ 2 ^ suc t.heap_bits =
+        pow_mono (omega (arith, I.most, T.row_in_heap)) in
+        omega (arith, row-added)
+
+    pub next-small : next ≤ 2 ^ t.heap_bits + 2 ^ t.heap_bits
+    next-small =
+        let m : 2 ^ (t.start_bits + (suc row' - 1)) ≤ 2 ^ suc t.heap_bits = pow_mono (omega (arith, I.most, T.row_in_heap)) in
+        omega (arith, I.next-is)
+
+    -- a row that ends past the heap is one too many
+    pub rows-over : row' < rows → 2 ^ t.heap_bits < end + width * size → None ≡ heap_rows_end t rows
+    rows-over l u =
+        let n : ¬ (suc row' ≤ max_rows t) = λ m.
+        omega (arith, row-mono t (suc row') (max_rows t) m, heap-span t T.row_in_heap, row-added) in
+        grind (arith, nat_tests)
+
+    pub ends_more : end + width * size ≤ 2 ^ t.heap_bits
+        → Ends t rows (end + width * size) next (next + next) (row' + 1)
+    ends_more u =
+        let e : suc row' ≡ row' + 1 = omega arith in
+        let n : ¬ (max_rows t < suc row') = λ m.
+        omega (arith, row-strict t (max_rows t) (suc row') m, heap-span t T.row_in_heap, row-added) in
+        record {
+          some = I.some;
+          most = omega arith;
+          end_is = row-added ∙ ap (row_offset t) e;
+          size_is = I.next-is ∙ ap (λ (y : ℕ). 2 ^ row_bits t y) e;
+          next-is = omega (arith, I.next-is, double t row', ap (λ (y : ℕ). 2 ^ row_bits t (suc y)) e);
+        }
+
+  pub ends-done : {end size next row' : ℕ} → Ends t rows end size next row' → row' ≡ rows
+      → Some end ≡ heap_rows_end t rows
+  ends-done I e =
+      let m = I.most in
+      let p = I.some in
+      let s : Some (row_offset t rows) ≡ heap_rows_end t rows = grind (arith, nat_tests) in
+      ap Some (I.end_is ∙ ap (row_offset t) e) ∙ s
+
+-- ---- the answer
+
+zeros : (n k : ℕ) → slice_index (replicate {A = ℕ} n 0) k ≤ 0
+zeros n k =
+    elim (cases_lt k n) [
+      | inl l ↦ let e : slice_index (replicate {A = ℕ} n 0) k ≡ 0 = get_or-replicate n k 0 0 l in omega arith
+      | inr l ↦
+          let e : slice_index (replicate {A = ℕ} n 0) k ≡ 0 =
+          get_or-eq_default (replicate n 0) 0 {n = k} (omega (arith, length-replicate {A = ℕ} n 0)) in
+          omega arith
+    ]
+
+-- what the rows that a heap has span, as their end is told
+record Rooted (t : Table) (rows end : ℕ) : Type 0 where
+  some : 0 < rows
+  most : rows ≤ max_rows t
+  end_is : end ≡ row_offset t rows
+
+rooted : (t : Table) (rows end : ℕ) → Some end ≡ heap_rows_end t rows → Rooted t rows end
+rooted t rows end e = grind (arith, nat_tests)
+
+module _ {t : Table} (T : IsTable t) (rows : ℕ) where
+  module _ {end : ℕ} (e : Some end ≡ heap_rows_end t rows) where
+    of-rows : Rooted t rows end
+    of-rows = rooted t rows end e
+
+    pub count-from_0 : (levels places : ℕ) → Nested t levels (max_rows t) → t.direct_bits - t.start_bits < places
+        → CountBlock t levels 0 end (replicate places 0)
+    count-from_0 levels places N p =
+        let R = of-rows in
+        record {
+          block = record {
+            rows = rows;
+            ends = omega (arith, R.end_is);
+            top = omega (arith, R.end_is, row-mono t rows (max_rows t) R.most, heap-span t T.row_in_heap);
+            nested = nested-fewer t levels rows (max_rows t) R.most N;
+          };
+          room = omega (arith, length-replicate {A = ℕ} places 0);
+          low = zeros places;
+        }
+
+    counts-are : (places : ℕ) (r : List ℕ) → Tallied t (sizes t rows) (replicate places 0) r
+        → r ≡ of_sizes t.start_bits places (slots t rows)
+    counts-are places r Y =
+        let n : length (replicate {A = ℕ} places 0) ≡ places = length-replicate places 0 in
+        ext_get_or 0 r (of_sizes t.start_bits places (slots t rows))
+        (omega (arith, Y.places, of-sizes-length t.start_bits places (slots t rows)))
+        (λ i u.
+        let v : i < places = omega (arith, Y.places) in
+        let z : slice_index (replicate {A = ℕ} places 0) i ≡ 0 = get_or-replicate places i 0 0 v in
+        let c : slice_index r i ≡ tally (2 ^ (t.start_bits + i)) (sizes t rows) =
+        omega (arith, Y.each i (omega arith)) in
+        c
+        ∙ sym (of-size-is (2 ^ (t.start_bits + i)) 0 (sizes t rows))
+        ∙ sym (of-sizes-at t.start_bits places i (slots t rows) v))
+
+    pub counted : (places : ℕ) {r : List ℕ} → BlockCounted t 0 end (replicate places 0) r
+        → Ok r ≡ counts_in t places rows
+    counted places {r} B =
+        let R = of-rows in
+        let s = R.some in
+        let m = R.most in
+        let is : Ok (of_sizes t.start_bits places (slots t rows)) ≡ counts_in t places rows =
+        grind (arith, nat_tests) in
+        ap Ok (counts-are places r (B.is rows (omega (arith, R.end_is)))) ∙ is
+
+  pub not-counted : (places : ℕ) → None ≡ heap_rows_end t rows → Err (OutsideHeap rows) ≡ counts_in t places rows
+  not-counted places e = grind (arith, nat_tests)
+
+  -- what is counted fills the rows
+  pub counts-span : (places : ℕ) → t.direct_bits < t.start_bits + places → (r : List ℕ) → Ok r ≡ counts_in t places rows
+      → bytes_of t.start_bits r ≡ row_offset t rows
+  counts-span places p r e =
+      let is : r ≡ of_sizes t.start_bits places (slots t rows) = grind (arith, nat_tests) in
+      ap (bytes_of t.start_bits) is ∙ counts-fill t T places rows p
+
+-- ---- the fixed table
+
+pub fixed-fill : (rows : ℕ) (r : Result (List ℕ) FormatError) → r ≡ counts_in fixed 7 rows
+    → IfOk r (λ counts. bytes_of fixed.start_bits counts ≡ row_offset fixed rows)
+fixed-fill rows (Ok counts) e =
+    counts-span {t = fixed}
+    (record { start_in_direct = omega arith; row_in_heap = omega arith; row_in_indirect = omega arith })
+    rows 7 (omega arith) counts e
+fixed-fill rows (Err x) e = tt

@@ -1,0 +1,6 @@
+pub mod Geometry
+pub mod Walk
+pub mod Blocks
+pub mod Search
+pub mod Counting
+pub mod Laws

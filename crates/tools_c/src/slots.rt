@@ -1,0 +1,112 @@
+//! Direct slots: both engines, the blocks on the way, and how many slots there are.
+ghost use Rattle.std.specs.Prelude.{◌≡◌, nat_lt, if◌then◌else◌};
+ghost use Rattle.refusals.specs.Refusals.{report_of};
+ghost use Rattle.fields.specs.Slot.{slot_number, slot_bytes};
+ghost use Rattle.table.specs.Table.{fixed, heap_space};
+ghost use Rattle.slot_walk.specs.Search.{counted_in};
+ghost use Rattle.slot_walk.specs.Counting.{counts_in};
+ghost use Rattle.slot_engines.specs.Engines.{located_in};
+ghost use Rattle.slot_engines.specs.Way.{entered_in};
+ghost use Rattle.tools_c.specs.SlotTools.{slot_report, listed_number, entered_numbers, listed_by};
+
+use fields::slot::put_answer;
+use refusals::{Answer, FormatError, Reported, SLICE_TOO_SHORT};
+use slot_engines::way::entered;
+use slot_engines::{agree_at, locate};
+use slot_walk::counting::{SIZES, count_slots};
+use slot_walk::finding::count_to;
+use table::Slot;
+
+fn answer_of(found: Result<Slot, FormatError>) -> Answer
+    ensures { result ≡ report_of slot_report found }
+{
+    match found {
+        Ok(slot) => Answer::accepted(slot.start, slot.size),
+        Err(refusal) => refusal.answer(),
+    }
+}
+
+/// The heap offset and the bytes of an offset's direct slot, by descent.
+#[unsafe(no_mangle)]
+pub extern "C" fn tools_locate(offset: u64, slot: &mut [u8]) -> u32
+    ensures number { result
+        ≡ slot_number slot.old (report_of slot_report (located_in fixed offset)) }
+    ensures slot_after { slot.new
+        ≡ slot_bytes slot.old (report_of slot_report (located_in fixed offset)) }
+{
+    put_answer(slot, answer_of(locate(offset)))
+}
+
+/// The same, counted out from 0.
+#[unsafe(no_mangle)]
+pub extern "C" fn tools_count_to(offset: u64, slot: &mut [u8]) -> u32
+    ensures number { result
+        ≡ slot_number slot.old (report_of slot_report (counted_in fixed offset)) }
+    ensures slot_after { slot.new
+        ≡ slot_bytes slot.old (report_of slot_report (counted_in fixed offset)) }
+{
+    put_answer(slot, answer_of(count_to(offset)))
+}
+
+/// 1 where both name a slot, and the same, else 0.
+#[unsafe(no_mangle)]
+pub extern "C" fn tools_engines_agree_at(offset: u64) -> u32
+    ensures { result ≡ if nat_lt offset (heap_space fixed) then 1 else 0 }
+{
+    u32::from(agree_at(offset))
+}
+
+/// The indirect block at a place, counted from 0, on the way from the root to an offset's slot: 1, its row, column and
+/// heap offset, or four zeros where the way is shorter, in the first places of a list of at least 4. A refusal's pair is
+/// put there too; a shorter list gives 13 and is left as it is.
+#[tactic(auto, unfolding(fields::specs::LittleEndian::put))]
+#[unsafe(no_mangle)]
+pub extern "C" fn tools_entered(offset: u64, place: u64, block: &mut [u64]) -> u32
+    ensures number { result ≡ listed_number 4 block.old (entered_in fixed offset place) }
+    ensures block_after { block.new
+        ≡ listed_by 4 entered_numbers block.old (entered_in fixed offset place) }
+{
+    if block.len() < 4 {
+        return SLICE_TOO_SHORT;
+    }
+    match entered(offset, place) {
+        Ok(Some(b)) => {
+            block[..4].copy_from_slice(&[1, b.row, b.col, b.start]);
+            0
+        }
+        Ok(None) => {
+            block[..4].copy_from_slice(&[0; 4]);
+            0
+        }
+        Err(refusal) => {
+            let answer = refusal.answer();
+            block[..2].copy_from_slice(&[answer.first, answer.second]);
+            answer.number
+        }
+    }
+}
+
+/// How many direct slots a heap of so many rows has of each size, smallest first, in the first places of a list of at
+/// least 7. A refusal's pair is put there too; a shorter list gives 13 and is left as it is.
+#[tactic(auto, unfolding(fields::specs::LittleEndian::put))]
+#[unsafe(no_mangle)]
+pub extern "C" fn tools_count_slots(rows: u64, counts: &mut [u64]) -> u32
+    ensures number { result ≡ listed_number SIZES counts.old (counts_in fixed SIZES rows) }
+    ensures counts_after { counts.new
+        ≡ listed_by SIZES (λ numbers. numbers) counts.old (counts_in fixed SIZES rows) }
+{
+    if counts.len() < SIZES {
+        return SLICE_TOO_SHORT;
+    }
+    match count_slots(rows) {
+        Ok(numbers) => {
+            counts[..SIZES].copy_from_slice(&numbers);
+            0
+        }
+        Err(refusal) => {
+            let answer = refusal.answer();
+            counts[..2].copy_from_slice(&[answer.first, answer.second]);
+            answer.number
+        }
+    }
+}

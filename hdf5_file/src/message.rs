@@ -1,0 +1,244 @@
+//! An attribute's message that is read: IV.A.2.m, versions 1 to 3, with IV.A.2.b and d.
+use crate::Unreadable;
+use crate::cursor::{Bytes, Cursor};
+
+const WHAT: &str = "attribute's message";
+
+/// An attribute.
+#[derive(Debug, Clone, PartialEq, Eq)]
+pub struct Attribute<'f> {
+    /// Its name, without the zero byte behind it; of files of other programs it may be no UTF-8.
+    pub name: &'f [u8],
+    /// Its value's bytes as they lie in the file, or why there are none to give.
+    pub value: Result<&'f [u8], Unreadable>,
+}
+
+/// The attribute that a message is.
+pub fn attribute<'f>(bytes: &Bytes<'f>, message: &'f [u8]) -> Result<Attribute<'f>, Unreadable> {
+    let mut at = bytes.over(WHAT, 0, message);
+    let version = at.version("version of an attribute's message", &[1, 2, 3])?;
+    let flags = at.byte()?;
+    let [name, datatype, dataspace] = [at.number(2)?, at.number(2)?, at.number(2)?];
+    at.take(u64::from(version == 3))?; // the name's character set
+    let mut part = |length: u64| {
+        let part = at.take(length)?;
+        let padding = if version == 1 {
+            length.next_multiple_of(8) - length
+        } else {
+            0
+        };
+        at.take(padding)?;
+        Ok(part)
+    };
+    let name = name_of(part(name)?)?;
+    let datatype = bytes.over("datatype", 0, part(datatype)?);
+    let dataspace = bytes.over("dataspace", 0, part(dataspace)?);
+    let value = value(version, flags, datatype, dataspace, at);
+    Ok(Attribute { name, value })
+}
+
+/// A name as it is stored, with its one zero byte at the end.
+fn name_of(stored: &[u8]) -> Result<&[u8], Unreadable> {
+    match stored.split_last() {
+        Some((0, name)) if !name.contains(&0) => Ok(name),
+        _ => Err(Unreadable::Contradicts {
+            what: WHAT,
+            why: "its name does not end with its one zero byte",
+        }),
+    }
+}
+
+fn value<'f>(
+    version: u8,
+    flags: u8,
+    datatype: Cursor,
+    dataspace: Cursor,
+    mut data: Cursor<'f>,
+) -> Result<&'f [u8], Unreadable> {
+    let shared = |why| Err(Unreadable::NotHere { why });
+    // Version 1 has no flags.
+    match flags & if version == 1 { 0 } else { 3 } {
+        0 => {}
+        1 => return shared("its type is shared with other objects"),
+        _ => return shared("its space is shared with other objects"),
+    }
+    let element = element_size(datatype)?;
+    let elements = elements(dataspace)?;
+    let size = elements
+        .checked_mul(element)
+        .ok_or(Unreadable::Contradicts {
+            what: "dataspace",
+            why: "the value has more than 2^64 - 1 bytes",
+        })?;
+    data.take(size)
+}
+
+/// Bytes of one element, of a type whose bytes are the value. 'Datatype Message'.
+fn element_size(mut at: Cursor) -> Result<u64, Unreadable> {
+    let class = at.byte()?;
+    at.take(3)?; // bits of the class
+    let size = at.number(4)?;
+    match class >> 4 {
+        1..=3 => {}
+        number => {
+            let what = "version of a datatype";
+            return Err(Unreadable::Unknown {
+                what,
+                number: number.into(),
+            });
+        }
+    }
+    let why = match class & 0xF {
+        0 | 1 | 3 => return Ok(size), // fixed-point, floating-point, string
+        9 => {
+            "it has a variable length, as h5py writes a str: the message has only the place of its bytes"
+        }
+        6 => "it is a compound of several values",
+        7 => "it is a reference to another object",
+        _ => "its type is none of numbers and strings of fixed length",
+    };
+    Err(Unreadable::NotHere { why })
+}
+
+/// The number of elements. 'Dataspace Message', versions 1 and 2; largest sizes behind the sizes say nothing of it.
+fn elements(mut at: Cursor) -> Result<u64, Unreadable> {
+    let version = at.version("version of a dataspace", &[1, 2])?;
+    let rank = at.byte()?;
+    at.byte()?; // flags
+    let kind = at.byte()?;
+    // Version 1 knows no kinds: without dimensions there is one element. Five bytes are reserved, the first by now.
+    at.take(if version == 1 { 4 } else { 0 })?;
+    match (version, kind) {
+        (1, _) | (2, 0 | 1) => {}
+        (_, 2) => return Ok(0),
+        (_, number) => {
+            let what = "kind of a dataspace";
+            return Err(Unreadable::Unknown {
+                what,
+                number: number.into(),
+            });
+        }
+    }
+    let mut product = 1u64;
+    for _ in 0..rank {
+        let size = at.length()?;
+        product = product.checked_mul(size).ok_or(Unreadable::Contradicts {
+            what: "dataspace",
+            why: "it has more than 2^64 - 1 elements",
+        })?;
+    }
+    Ok(product)
+}
+
+#[cfg(test)]
+mod tests {
+    use super::*;
+    use crate::{Kind, message_head};
+
+    const BYTES: Bytes = Bytes {
+        all: &[],
+        offset_size: 8,
+        length_size: 8,
+    };
+
+    #[test]
+    fn what_is_written_is_read() {
+        for (kind, value) in [
+            (Kind::Bytes, &b""[..]),
+            (Kind::Bytes, b"a\0b"),
+            (Kind::Text, b"text"),
+        ] {
+            let mut message = message_head("größe", kind, value.len() as u64).unwrap();
+            message.extend(value);
+            let read = attribute(&BYTES, &message).unwrap();
+            assert_eq!(read.name, "größe".as_bytes());
+            assert_eq!(read.value, Ok(value));
+            for cut in 0..message.len() {
+                let read = attribute(&BYTES, &message[..cut]);
+                assert!(read.is_err() || read.unwrap().value.is_err(), "{cut}");
+            }
+        }
+    }
+
+    /// A message of version 1, with its three parts padded to eight bytes.
+    fn old(name: &[u8], datatype: &[u8], dataspace: &[u8], data: &[u8]) -> Vec<u8> {
+        let mut bytes = vec![1, 0];
+        for part in [name, datatype, dataspace] {
+            bytes.extend((part.len() as u16).to_le_bytes());
+        }
+        for part in [name, datatype, dataspace] {
+            bytes.extend(part);
+            bytes.resize(bytes.len().next_multiple_of(8), 0);
+        }
+        bytes.extend(data);
+        bytes
+    }
+
+    #[test]
+    fn version_1_is_padded() {
+        let float = b"\x11\x20\x3F\0\x08\0\0\0\0\0\x40\0\x34\x0B\0\x34\xFF\x03\0\0";
+        let (scalar, three) = (
+            &b"\x01\0\0\0\0\0\0\0"[..],
+            &b"\x01\x01\0\0\0\0\0\0\x03\0\0\0\0\0\0\0"[..],
+        );
+        for (space, length) in [(scalar, 8), (three, 24)] {
+            let data: Vec<u8> = (0..length).collect();
+            let message = old(b"name\0", float, space, &data);
+            let read = attribute(&BYTES, &message).unwrap();
+            assert_eq!((read.name, read.value), (&b"name"[..], Ok(&data[..])));
+        }
+    }
+
+    #[test]
+    fn what_is_not_here_is_said() {
+        let scalar = b"\x02\0\0\0";
+        for class in [2, 4, 5, 6, 7, 8, 9, 10, 11] {
+            let message = old(
+                b"n\0",
+                &[0x10 | class, 0, 0, 0, 16, 0, 0, 0],
+                scalar,
+                &[0; 16],
+            );
+            let read = attribute(&BYTES, &message).unwrap();
+            assert!(
+                matches!(read.value, Err(Unreadable::NotHere { .. })),
+                "{class}"
+            );
+        }
+        let whole = message_head("n", Kind::Bytes, 0).unwrap();
+        for flags in [1, 2, 3] {
+            let mut message = whole.clone();
+            message[1] = flags;
+            let read = attribute(&BYTES, &message).unwrap();
+            assert!(
+                matches!(read.value, Err(Unreadable::NotHere { .. })),
+                "{flags}"
+            );
+        }
+    }
+
+    #[test]
+    fn sizes_past_every_number_are_refused() {
+        let byte = &[0x10, 0, 0, 0, 255, 255, 255, 255, 0, 0, 8, 0][..];
+        let sizes = [&[2, 2, 0, 1][..], &[0xFF; 16]].concat();
+        for space in [&sizes[..], &[&[2, 1, 0, 1][..], &[0xFF; 8]].concat()] {
+            let message = old(b"n\0", byte, space, &[]);
+            let read = attribute(&BYTES, &message).unwrap().value;
+            assert!(
+                matches!(read, Err(Unreadable::Contradicts { .. })),
+                "{read:?}"
+            );
+        }
+    }
+
+    #[test]
+    fn a_name_has_one_zero_byte() {
+        for name in [&b""[..], b"n", b"\0\0", b"a\0b\0"] {
+            assert!(
+                attribute(&BYTES, &old(name, b"", b"", b"")).is_err(),
+                "{name:?}"
+            );
+        }
+        assert!(attribute(&BYTES, &old(b"\0", b"", b"", b"")).is_ok());
+    }
+}

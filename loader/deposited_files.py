@@ -1,0 +1,583 @@
+"""Lets HDF5's own library and tools judge the files that `poilures deposit` writes.
+    deposited_files.py POILURES FOLDER
+Each file is read whole by h5py and h5dump, every field of it is held to the format by hdf5_format.py, behind
+which nothing of ours stands, and h5debug's numbers to those that the program told. Then h5py adds, replaces and
+removes attributes, down to none, adds others, and the file must still be sound. What our reader of HDF5's files (the
+Rust crate hdf5_file, by its example) finds is held to what h5py put in, there and in files that HDF5 alone wrote."""
+
+import collections
+import ctypes
+import json
+import os
+import random
+import re
+import shutil
+import subprocess
+import sys
+
+import h5py
+import numpy
+from h5py import h5, h5a, h5f, h5p, h5s, h5t
+
+import h5debug
+import hdf5_format as form
+from hdf5_format import expect
+from hdf5_messages import little
+from made_files import WIDTHS, created, is_known
+from written_files import Dense, check_spaces, whole_file
+
+U = (1 << 64) - 1
+LARGEST = 65514  # bytes of an object
+MOST_IN_ORDER = 65534
+TOTALS = {  # of the program's words
+    "blocks": "block_count",
+    "region size": "region_size",
+    "root rows": "rows",
+    "root's place": "root_place",
+    "managed space": "managed_space",
+    "allocated space": "allocated_space",
+    "free space": "free_space",
+    "iterator": "iterator",
+}
+KINDS = ["none", "direct", "indirect", "nested"]  # of heaps
+READER = "target/cargo/release/examples/read_attributes"  # of the Rust crate, where it is built
+
+
+# Making files
+
+
+class Deposit:
+    """A file that the program wrote: its attributes by name, in their order, and what the program told of them."""
+
+    def __init__(self, program, folder, base, values, text=False, order=False):
+        self.name = os.path.join(folder, base + ".h5")
+        self.values, self.text, self.order = values, text, order
+        inputs = os.path.join(folder, base)
+        os.mkdir(inputs)
+        names = [os.path.join(inputs, name).encode() for name in values]
+        for name, data in zip(names, values.values()):
+            with open(name, "wb") as opened:
+                opened.write(data)
+        words = [program, "deposit", "--files0-from", "-", self.name]
+        words += ["--text"] * text + ["--track-order"] * order
+        told = self._run(words + ["--json"], names)
+        first = whole_file(self.name)
+        self.lines = [json.loads(line) for line in told.splitlines()]
+        self.totals = self._totals(self._run(words + ["--force"], names))
+        self.data = whole_file(self.name)
+        expect(self.data == first, "the same files give the same file")
+        shutil.rmtree(inputs)
+
+    def _run(self, words, names):
+        ended = subprocess.run(words, input=b"".join(name + b"\0" for name in names), capture_output=True)
+        expect(ended.returncode == 0 and not ended.stderr, f"{words}: {ended.stderr.decode()}")
+        return ended.stdout.decode()
+
+    def _totals(self, told):
+        found = re.findall(r"^  ([a-z' ]+?) +([0-9,]+)(?:$|  )", told, re.MULTILINE)
+        found = {name: int(number.replace(",", "")) for name, number in found}
+        return {field: found[name] for name, field in TOTALS.items() if self.values}
+
+    def is_text(self, data):
+        """Whether a value is to be a string."""
+        try:
+            return self.text and data != b"" and b"\0" not in data and data.decode() is not None
+        except UnicodeDecodeError:
+            return False
+
+    def message(self, name, data):
+        """The attribute message that a value must have, by the format."""
+        if self.is_text(data):
+            kind = b"\x13\x11\0\0" + little(len(data), 4)
+            space = b"\2\0\0\0"
+        else:
+            kind = b"\x10\0\0\0" + little(1, 4) + little(0, 2) + little(8, 2)
+            space = b"\2\1\0\1" + little(len(data), 8)
+        head = bytes([3, 0]) + b"".join(little(size, 2) for size in (len(name) + 1, len(kind), len(space)))
+        return head + b"\1" + name + b"\0" + kind + space + data
+
+
+def some_names(draw, count):
+    """Names that differ, some of them long, some not ASCII."""
+    kinds = ["note {}", "größe {}", "{}", "a {}" + " long" * 40, "日 {}"]
+    return [draw.choice(kinds).format(i) for i in range(count)]
+
+
+def some_values(draw, count, sizes):
+    return {name: draw.randbytes(draw.choice(sizes)) for name in some_names(draw, count)}
+
+
+# Holding a file to the format
+
+
+def check_superblock(data):
+    """II.A, version 2."""
+    body = b"\x89HDF\r\n\x1a\n" + bytes([2, 8, 8, 0]) + b"".join(little(n, 8) for n in (0, U, len(data), 48))
+    expect(data[:48] == body + little(form.lookup3(body), 4), "superblock")
+
+
+def check_root_group(deposit, heap, index):
+    """IV.A.1.b with IV.A.2.c, k and v; returns where it ends."""
+    count = len(deposit.values)
+    order, number = (b"\0\0", little(count, 2)) if deposit.order else (b"", b"")
+    body = b""
+    for kind, data in [
+        (0x02, b"\0\0" + little(U, 8) * 2),
+        (0x0A, b"\0\0"),
+        (0x15, bytes([0, deposit.order]) + number + little(heap, 8) + little(index, 8)),
+    ]:
+        body += bytes([kind]) + little(len(data), 2) + b"\0" + order + data
+    header = b"OHDR\2" + bytes([6 if deposit.order else 2]) + little(len(body), 4) + body
+    end = 48 + len(header) + 4
+    expect(deposit.data[48:end] == header + little(form.lookup3(header), 4), "object header of the root group")
+    return end
+
+
+def check_heap(deposit, dense):
+    """III.G: every field of the header, every byte of the blocks that is no object's."""
+    heap, data, totals = dense.heap, deposit.data, deposit.totals
+    due = dict(id_length=8, filter_length=0, flags=2, largest_object=LARGEST, next_huge=0, huge_tree=U)
+    due.update(space_manager=U, managed_count=len(deposit.values), huge_size=0, huge_count=0)
+    due.update(tiny_size=0, tiny_count=0, width=4, start=1024, largest_direct=65536, bits=40, start_rows=1)
+    region = heap.address + form.header_length(heap.image)
+    due.update({name: totals[name] for name in totals if name in heap.fields})
+    due["root"] = region + totals["root_place"]
+    for name, number in due.items():
+        expect(getattr(heap, name) == number, f"{name}: {getattr(heap, name)}, not {number}")
+    check_spaces(dense)
+    expect(len(heap.blocks) == totals["block_count"], "number of blocks")
+    filled = collections.defaultdict(int)
+    for heap_id in dense.places:
+        offset, length = heap.decode(heap_id)
+        filled[heap.block(offset)[2]] += length
+    for _, size, at, _ in heap.blocks:
+        stands = data[at + 18 : at + 22]
+        zeroed = data[at : at + 18] + bytes(4) + data[at + 22 : at + size]
+        expect(stands == little(form.lookup3(zeroed), 4), f"checksum of the block at {at}")
+        expect(not any(zeroed[22 + filled[at] :]), f"room behind the objects of the block at {at}")
+    for at, _, rows, _ in heap.indirects:
+        end = at + heap.indirect_size(rows)
+        expect(data[end - 4 : end] == little(form.lookup3(data[at : end - 4]), 4), f"checksum of the block at {at}")
+    return region
+
+
+def check_index(deposit, dense):
+    """III.A.2: header, nodes, and the records in their order."""
+    tree, data = dense.trees[0], deposit.data
+    found = tree.kind, tree.node_size, tree.record_size, tree.split, tree.merge
+    expect(found == (8, 512, 17, 100, 40), f"index: {found}")
+    depth = next(i for i, most in enumerate([29, 569, 10259, 184679]) if len(deposit.values) <= most)
+    expect(tree.depth == depth, f"a depth of {tree.depth}")
+    starts = [tree.header_span] + tree.nodes
+    for start, end in starts:
+        expect(data[end : end + 4] == little(form.lookup3(data[start:end]), 4), f"checksum of the node at {start}")
+    for start, end in tree.nodes:
+        expect(not any(data[end + 4 : start + 512]), f"room behind the node at {start}")
+    numbers = {line["id"].replace(":", ""): line["object"] for line in deposit.lines}
+    keys = []
+    for record in tree.records:
+        name = dense.name_of(record[:8])
+        number = numbers[record[:8].hex().upper()] if deposit.order else 65535
+        keys.append((form.lookup3(name), name))
+        due = record[:8] + b"\0" + little(number, 4) + little(keys[-1][0], 4)
+        expect(record == due, f"record of {name}")
+    expect(keys == sorted(keys), "order of the records")
+
+
+def check_spans(deposit, dense, root_end, region):
+    """Every byte of the file is in one part of it."""
+    heap, tree = dense.heap, dense.trees[0]
+    spans = [(48, root_end), (root_end, region)]
+    spans += [(at, at + size) for _, size, at, _ in heap.blocks]
+    spans += [(at, at + heap.indirect_size(rows)) for at, _, rows, _ in heap.indirects]
+    spans += [(tree.header_span[0], tree.header_span[1] + 4)] + [(at, at + 512) for at, _ in tree.nodes]
+    end = 48
+    for start, stop in sorted(spans):
+        expect(start == end, f"a part at {start}, not at {end}")
+        end = stop
+    expect(end == len(deposit.data), "end of the file")
+
+
+def check_format(deposit):
+    """Every field of a file; returns its heap and its index, if it has attributes."""
+    check_superblock(deposit.data)
+    image = form.Image(deposit.data)
+    expect(image.root == 48, "address of the root group")
+    parts = form.dense_storage(image, image.root, form.ATTRIBUTE_INFO)
+    if parts is None:
+        expect(not deposit.values, "no dense storage")
+        expect(check_root_group(deposit, U, U) == len(deposit.data), "end of a file without attributes")
+        return None
+    heap, (index,) = parts
+    root_end = check_root_group(deposit, heap, index)
+    expect(heap == root_end, "address of the heap")
+    dense = Dense(image, "/", image.root)
+    region = check_heap(deposit, dense)
+    check_index(deposit, dense)
+    check_spans(deposit, dense, root_end, region)
+    by_name = {dense.name_of(heap_id): (heap_id, data) for heap_id, data in dense.objects.items()}
+    expect(len(by_name) == len(deposit.values) == len(deposit.lines), "number of attributes")
+    for line, (name, data) in zip(deposit.lines, deposit.values.items()):
+        heap_id, message = by_name[name.encode()]
+        expect(message == deposit.message(name.encode(), data), f"message of {name}")
+        told = line["name"], line["length"], line["size"], bytes.fromhex(line["id"].replace(":", ""))
+        expect(told == (name, len(data), len(message), heap_id), f"what is told of {name}: {line}")
+        expect(dense.heap.decode(heap_id)[0] == line["offset"], f"heap offset of {name}")
+    return dense
+
+
+# What HDF5 reads
+
+
+def bytes_of(attribute):
+    """The bytes of an attribute, as they lie in the file; of a str of variable length those of its text."""
+    kind, space = attribute.get_type(), attribute.get_space()
+    if isinstance(kind, h5t.TypeStringID) and kind.is_variable_str():
+        read = numpy.empty((), attribute.dtype)
+        attribute.read(read)
+        return read[()] if isinstance(read[()], bytes) else read[()].encode()
+    expect(kind.get_class() in (h5t.INTEGER, h5t.STRING), "another type")
+    if space.get_simple_extent_type() == h5s.NULL:
+        return b""
+    if kind.get_class() == h5t.STRING:
+        read = numpy.empty((), f"S{kind.get_size()}")
+        attribute.read(read, mtype=kind)
+        return read.tobytes()
+    read = numpy.empty(attribute.shape, attribute.dtype)
+    attribute.read(read, mtype=kind)
+    return read.tobytes()
+
+
+def h5py_reads(file, index_type=h5.INDEX_NAME):
+    """All attributes of a file, by its index, and each once more by its name."""
+    root = file["/"].id
+    numbers = range(h5a.get_num_attrs(root))
+    found = (h5a.open(root, index=i, index_type=index_type, order=h5.ITER_INC) for i in numbers)
+    return {attribute.name: bytes_of(attribute) for attribute in found}
+
+
+def check_h5py(name, due, order=False):
+    """h5py reads every byte of every attribute, by its name, and all that there are."""
+    with h5py.File(name, "r") as file:
+        root = file["/"].id
+        for key, data in due.items():
+            expect(bytes_of(h5a.open(root, key.encode())) == data, f"attribute {key}")
+        names = []
+        h5a.iterate(root, names.append, index_type=h5.INDEX_CRT_ORDER if order else h5.INDEX_NAME)
+        names = [key.decode() for key in names]
+        expect(names == list(due) if order else sorted(names) == sorted(due), "names of the attributes")
+
+
+NUMBERS = re.compile(rb"\d+")
+ESCAPES = {"n": "\n", "t": "\t", "r": "\r", "b": "\b", "f": "\f", '"': '"', "\\": "\\", "'": "'"}
+
+
+def check_h5dump(deposit):
+    """h5dump prints every byte of every attribute; of strings only how many there are."""
+    words = ["h5dump", "-y", "-w", "0", os.path.basename(deposit.name)]
+    run = subprocess.run(words, cwd=os.path.dirname(deposit.name), capture_output=True)
+    expect(run.returncode == 0, f"h5dump: {run.stderr}")
+    parts = run.stdout.split(b'\n   ATTRIBUTE "')[1:]
+    expect(len(parts) == len(deposit.values), f"h5dump prints {len(parts)} attributes")
+    for part in parts:
+        name, _, rest = part.partition(b'" {')
+        data = deposit.values[name.decode()]
+        if deposit.is_text(data):
+            expect(b"STRSIZE %d;" % len(data) in rest and b"H5T_STR_NULLPAD" in rest, f"string {name}")
+            expect(b"CSET H5T_CSET_UTF8" in rest and b"DATASPACE  SCALAR" in rest, f"string {name}")
+            continue
+        space = b"DATASPACE  SIMPLE { ( %d ) / ( %d ) }" % (len(data), len(data))
+        expect(b"DATATYPE  H5T_STD_U8LE" in rest and space in rest, f"type of {name}")
+        values = rest.partition(b"DATA {")[2].partition(b"}")[0]
+        expect(bytes(map(int, NUMBERS.findall(values))) == data, f"h5dump of {name}")
+
+
+def check_debug(deposit, dense, draw):
+    """h5debug tells the numbers of the heap and of the index as we wrote them; returns how many places it told of."""
+    heap, tree = dense.heap, dense.trees[0]
+    name = deposit.name
+    h5debug.check_header(name, heap)
+    text = h5debug.told(name, heap.address)
+    fields = {
+        "Managed space data block size": deposit.totals["managed_space"],
+        "Total managed space allocated": deposit.totals["allocated_space"],
+        "Free space in managed blocks": deposit.totals["free_space"],
+        "Offset of managed space iterator": deposit.totals["iterator"],
+        "Number of managed objects in heap": len(deposit.values),
+        "Current # of rows in root indirect block": deposit.totals["rows"],
+    }
+    h5debug.hold(text, fields)
+    directs = {heap.blocks[0], heap.blocks[-1], draw.choice(heap.blocks)}
+    for at, offset, rows, _ in heap.indirects:
+        h5debug.check_indirect(name, heap, at, offset, rows)
+    for offset, size, at, _ in directs:
+        h5debug.check_direct(name, heap, at, offset, size)
+    at = tree.header_span[0]
+    text = h5debug.told(name, at)
+    fields = {
+        "Size of node": 512,
+        "Size of raw (disk) record": 17,
+        "Number of records in tree": len(deposit.values),
+        "Depth": tree.depth,
+    }
+    h5debug.hold(text, fields)
+    expect(re.search(r"Split/Merge percent: +100%/40%", text) or "100" in text, "percentages")
+    return 2 + len(heap.indirects) + len(directs)
+
+
+# What our reader reads
+
+
+class Text(bytes):
+    """A value of variable length: the file has its bytes somewhere else, so none are to be given."""
+
+
+class Other(bytes):
+    """A value of another type than numbers and strings, or of a type that is shared."""
+
+
+def read_attributes(name, *keys):
+    """What our reader says of a file, or of these names: each attribute's name, and its bytes or why there are none."""
+    ended = subprocess.run([READER, name, *keys], capture_output=True, text=True)
+    expect(ended.returncode == 0, f"read_attributes of {name}: {ended.stderr}")
+    found = []
+    for line in ended.stdout.splitlines():
+        _, key, value = line.split(" ", 2) if line != "-" else ("", "-", "")
+        key = bytes.fromhex(key[:-1]).decode() if key.endswith(".") else None
+        found.append((key, value if value.startswith("(") else bytes.fromhex(value)))
+    return found
+
+
+def check_reader(name, due, draw, counts, order=False):
+    """Our reader gives every byte of every attribute, or says why not: of a str, of another type, of a huge object."""
+    if not os.path.exists(READER):
+        return
+    found, huge = read_attributes(name), 0
+    for key, value in found:
+        if key is None:
+            expect("it is a huge object" in value, f"{value} in {name}")
+            huge += 1
+        elif isinstance(due[key], (Text, Other)):
+            words = "it has a variable length" if isinstance(due[key], Text) else "its bytes are not read"
+            expect(isinstance(value, str) and words in value, f"{key}: {value}")
+            counts["not read"] += 1
+        else:
+            expect(value == due[key], f"{key} of {name}")
+            counts["read"] += 1
+    names = [key for key, _ in found if key is not None]
+    given = set(names)
+    expect(len(given) == len(names) == len(due) - huge, f"{len(names)} and {huge} of {len(due)} attributes of {name}")
+    expect(not order or names == [key for key in due if key in given], f"order of the attributes of {name}")
+    counts["huge"] += huge
+    some = draw.sample(names, min(len(names), 20))
+    if some:
+        by_name = dict(found)
+        expect(read_attributes(name, *some) == [(key, by_name[key]) for key in some], f"attributes of {name} by name")
+    expect(read_attributes(name, "no such name") == [(None, b"")], "an attribute that is not there")
+
+
+def own_value(draw, file, most):
+    """A value for a file that HDF5 alone writes, and its bytes."""
+    kind = draw.choice(["<u1", "<i4", ">i4", "<f8", ">f4", "S", "str", "compound", "shared", "square", "scalar"])
+    size = draw.randrange(1, most)
+    data = draw.randbytes(size // 8 * 8 + 8)
+    if kind == "S":
+        return numpy.bytes_(data.hex().encode()), data.hex().encode()
+    if kind == "str":
+        return "größe " * 9, Text()
+    if kind == "compound":
+        return numpy.zeros(3, [("a", "<i4"), ("b", "<f8")]), Other()
+    if kind == "shared":
+        return h5py.Empty(file["a type"].dtype), Other(b"shared")
+    if kind == "square":
+        value = numpy.frombuffer(data, "<u2").reshape(2, -1)
+    elif kind == "scalar":
+        value = numpy.int16(draw.randrange(30000))
+    else:
+        value = numpy.frombuffer(data, kind)
+    return value, value.tobytes()
+
+
+def own_files(name):
+    """Ways in which HDF5 makes a file: as the call that opens it, and the most attributes that it takes."""
+    for libver in ("earliest", "v108", "latest"):  # superblocks 0, 2 and 3; object headers 1 and 2
+        for order in (False, True):
+            for block in (0, 512):
+                words = dict(libver=(libver, "latest"), track_order=order, userblock_size=block)
+                yield order, 300, lambda words=words: h5py.File(name, "w", **words)
+    sizes = h5p.create(h5p.FILE_CREATE)
+    set_k = ctypes.CDLL(h5p.__file__).H5Pset_istore_k  # h5py has none
+    expect(set_k(ctypes.c_int64(sizes.id), 64) >= 0, "a K of 64")  # superblock 1
+    yield False, 300, lambda: h5py.File(h5f.create(name.encode(), h5f.ACC_TRUNC, sizes))
+    for widths in WIDTHS:
+        yield False, 9 if widths[0] == 2 else 300, lambda widths=widths: created(name, *widths)
+
+
+def check_own(folder, draw, counts):
+    """Files that HDF5 alone wrote: all superblocks, object headers 1 and 2 with continuations, user blocks, widths,
+    attributes in the object header and in dense storage, order tracked and indexed."""
+    name, versions = os.path.join(folder, "own.h5"), set()
+    for order, most, opened in own_files(name):
+        for count in [count for count in (0, 1, 7, 8, 9, 40, 300) if count <= most]:
+            due = {}
+            with opened() as file:
+                file["a type"] = numpy.dtype("<i4")
+                for i in range(count):
+                    key = draw.choice(["note {}", "größe {}"]).format(i)
+                    value, data = own_value(draw, file, 3000 if most == 300 else 60)
+                    if data == b"shared":
+                        file.attrs.create(key, 7, dtype=file["a type"])
+                    else:
+                        file.attrs.create(key, value)
+                    due[key] = data
+                for key in draw.sample(list(due), count // 4):
+                    del file.attrs[key], due[key]
+            data = whole_file(name)
+            versions.add(data[data.index(b"\x89HDF\r\n") + 8])
+            check_reader(name, due, draw, counts, order)
+            counts["own files"] += 1
+    expect(versions == {0, 1, 2, 3}, f"superblocks: {versions}")
+    os.remove(name)
+
+
+# HDF5 goes on with a file
+
+
+def some_value(draw, large):
+    """A value of h5py's, and the bytes that it gives back."""
+    kind = draw.choice(["bytes", "bytes", "string", "str", "none"] + ["large"] * large)
+    if kind == "str":
+        text = "größe " * draw.randrange(1, 50)
+        return text, Text(text.encode())
+    if kind == "none":
+        return numpy.empty(0, "u1"), b""
+    size = draw.choice([4097, 10000, 65514, 70000]) if kind == "large" else draw.randrange(1, 3000)
+    data = draw.randbytes(size)
+    if kind == "string":
+        data = data.hex().encode()
+        return numpy.bytes_(data), data
+    return numpy.frombuffer(data, "u1"), data
+
+
+def check_going_on(deposit, draw, counts):
+    """h5py removes, replaces and adds, then removes all, adds a group and attributes again; how often it was read."""
+    name, now = deposit.name, dict(deposit.values)
+    keys = list(now)
+
+    def put(file, key):
+        value, now[key] = some_value(draw, True)
+        file.attrs.create(key, value)
+
+    with h5py.File(name, "r+", libver="latest") as file:
+        for key in draw.sample(keys, min(len(keys) // 3, 400)):
+            del file.attrs[key], now[key]
+        for key in draw.sample(list(now), min(len(now) // 3, 400)):
+            put(file, key)
+        for i in range(40):
+            put(file, f"new {i}")
+    check_h5py(name, now)
+    check_reader(name, now, draw, counts)
+    with h5py.File(name, "r+") as file:
+        few = set(draw.sample(list(now), min(len(now), 7)))
+        for key in [key for key in now if key not in few]:
+            del file.attrs[key], now[key]
+    check_h5py(name, now)  # few enough to lie in the object header, where they are short
+    check_reader(name, now, draw, counts)
+    with h5py.File(name, "r+") as file:
+        for key in list(now):
+            del file.attrs[key], now[key]
+        file.create_group("a group").attrs["of it"] = 7
+        file["a set"] = numpy.arange(5)
+    check_h5py(name, now)
+    check_reader(name, now, draw, counts)
+    with h5py.File(name, "r+", libver="latest") as file:
+        for i in range(60):
+            put(file, f"again {i}")
+    check_h5py(name, now)
+    check_reader(name, now, draw, counts)
+    with h5py.File(name, "r") as file:
+        expect(list(file["a set"]) == [0, 1, 2, 3, 4] and file["a group"].attrs["of it"] == 7, "other objects")
+    return 4
+
+
+# All of it
+
+
+def deposits(program, folder):
+    """The files, one after the other."""
+    small, some = [0, 1, 7, 60, 900, 3900], [0, 1, 20, 200, 977, 978, 4000, 20000, 65000]
+    todo = [(count, some) for count in (0, 1, 8, 9, 29, 30, 40)]
+    todo += [(300, some), (569, small), (570, small), (5000, [0, 1, 50, 400] * 8 + [65000])]
+    todo += [(10259, [0, 60]), (10260, [3]), (70000, range(201))]
+    for number, (count, sizes) in enumerate(todo):
+        for order in (False, True) if count < 5000 else (count == 10260,):
+            draw = random.Random(f"{count} {order}")
+            text = order and count not in (0, 10260)
+            values = some_values(draw, count, sizes)
+            if text:  # some that can be strings, and some that cannot
+                for key in draw.sample(list(values), count // 2):
+                    long = values[key].hex().encode()[:65000]
+                    values[key] = draw.choice([b"", b"a\0", b"\xff", "größe\n".encode() * 30, long])
+            yield Deposit(program, folder, f"{number} {count} {order}", values, text, order), draw
+    draw = random.Random("edges")
+    values = {}  # as large as their names let them be, and one byte of each direct block's edge
+    for i in range(9):
+        name = f"edge {i}"
+        values[name] = draw.randbytes(LARGEST - 34 - len(name) - i // 3)
+    values["n" * 250] = draw.randbytes(LARGEST - 34 - 250)
+    yield Deposit(program, folder, "edges", values), draw
+    # Two names of one hash, in both orders.
+    pair = ["note 85167", "note 96241"]
+    expect(len({form.lookup3(name.encode()) for name in pair}) == 1, "two names of one hash")
+    for names in (pair, pair[::-1]):
+        others = [f"other {i}" for i in range(40)]
+        values = {name: name.encode() for name in others[:20] + names + others[20:]}
+        yield Deposit(program, folder, f"hash {names[0]}", values), draw
+
+
+def kind_of(dense):
+    return KINDS[0 if dense is None else 1 + min(dense.heap.depth, 2)]
+
+
+def main():
+    program, folder = sys.argv[1:]
+    tools = bool(shutil.which("h5dump") and shutil.which("h5debug"))
+    counts, met = collections.Counter(), set()
+    for deposit, draw in deposits(os.path.abspath(program), folder):
+        dense = check_format(deposit)
+        check_h5py(deposit.name, deposit.values, deposit.order)
+        if tools:
+            check_h5dump(deposit)
+            counts["places"] += check_debug(deposit, dense, draw) if dense else 0
+        check_reader(deposit.name, deposit.values, draw, counts, True)
+        counts["went on"] += check_going_on(deposit, draw, counts)
+        counts["files"] += 1
+        counts["attributes"] += len(deposit.values)
+        met.add(kind_of(dense))
+        if dense:
+            met.add(dense.trees[0].depth)
+        os.remove(deposit.name)
+    for due in KINDS + [0, 1, 2, 3]:
+        expect(due in met, f"no file with {due}")
+    check_own(folder, random.Random("own"), counts)
+    if not tools:
+        print("deposited files: h5dump and h5debug: skipped, they are not at hand")
+    if not is_known():
+        print("deposited files: tried with HDF5 1.10, and here is another one")
+    if os.path.exists(READER):
+        print(
+            f"deposited files: the Rust crate reads {counts['read']} attributes there and in {counts['own files']} "
+            f"files that HDF5 alone wrote; of {counts['not read']} of other types and {counts['huge']} huge ones it says so"
+        )
+    else:
+        print("deposited files: reading by the Rust crate: skipped, its example is not built")
+    readers = "h5py and h5dump" if tools else "h5py"
+    print(
+        f"deposited files: {counts['files']} files of {counts['attributes']} attributes read by {readers}, held to the "
+        f"format field by field; h5debug told {counts['places']} places; h5py went on with all files, and read them "
+        f"{counts['went on']} times more"
+    )
+
+
+if __name__ == "__main__":
+    main()
