@@ -197,9 +197,10 @@ def check_orders():
     check_order(sound, 40, (8, 8), too_early(70, 40))
     check_order(sound, 80, (8, 8), too_early(112, 80))
     check_order(b"", 0, (8, 8), too_early(5, 0))
-    signature = "4: no signature: FRHP has to begin the heap's header, FHIB an indirect block"
+    version = "5: the version of the heap's header, or of a block, is 1, not 0"
+    signature = "4: no signature: FRHP has to begin the heap's header, FHIB an indirect block, FHDB a direct block"
     check_order(b"FRHQ" + sound[4:], len(sound), (8, 8), signature)
-    check_order(b"FRHP\1" + sound[5:], len(sound), (8, 8), "5: the header's version is 1, not 0")
+    check_order(b"FRHP\1" + sound[5:], len(sound), (8, 8), version)
 
 
 pairs = list(itertools.product((2, 4, 8), repeat=2))

@@ -1,6 +1,8 @@
 //! Times, ours against the original: one process, the same input, the two in turn, the best of many rounds. A table
 //! at the end; what each line measures is said in docs/BENCHMARKS.md.
 use crate::back::{by_rule, by_table};
+use crate::checked;
+use crate::checked_reader::{Ended, Kind, Layout, Table, computed};
 use crate::format;
 use crate::made::{self, Heap, Written};
 use crate::ours::{self, View, Writing, view_of};
@@ -94,7 +96,7 @@ impl Times {
 /// A part by its name.
 pub type Part = (&'static str, fn(&mut Times));
 
-pub const PARTS: [Part; 9] = [
+pub const PARTS: [Part; 10] = [
     ("checksum", checksum),
     ("slots", slots),
     ("plan", plan),
@@ -102,6 +104,7 @@ pub const PARTS: [Part; 9] = [
     ("decode", decode),
     ("tiny", tiny),
     ("read", read),
+    ("checked", checked_reads),
     ("ids", ids),
     ("write", write),
 ];
@@ -491,6 +494,112 @@ fn together(times: &mut Times, name: &str, written: &Written) {
     times.line("  ours copying too", again * n, || all(true), original);
 }
 
+/// A heap of one direct block of so many bytes, by the format, and the ID of its first ten bytes.
+fn one_block(size: u64) -> (Heap, [u8; 8]) {
+    let mut head = made::fixed(0, 0);
+    (head.starting, head.root) = (size, 146);
+    let table = Table {
+        width: 4,
+        starting: size,
+        largest: 65_536,
+        bits: 40,
+    };
+    let kind = Kind::Direct { size };
+    let layout = Layout::new(&table, 8, 2, kind);
+    let mut block = b"FHDB".to_vec();
+    block.resize(size as usize, 0);
+    let sum = layout.sum.expect("a checksum") as usize;
+    let checksum = computed(&block, kind, sum);
+    block[sum..sum + 4].copy_from_slice(&checksum.to_le_bytes());
+    let mut file = made::header(&mut Random::new(8), &head, 8, 8);
+    file[9] = 2;
+    file.extend(block);
+    let mut heap = Heap {
+        file,
+        at: 0,
+        offset_size: 8,
+        length_size: 8,
+    };
+    heap.mend();
+    (heap, by_rule(layout.header as u64, 10))
+}
+
+/// A heap whose last object is in an indirect root's block, or a nested one's.
+fn last_object(sizes: &[u64]) -> (Heap, [u8; 8]) {
+    let made::Written {
+        mut heap,
+        header,
+        objects,
+        ..
+    } = made::written(&mut Random::new(8), sizes, [8, 8], 0);
+    heap.file[header.start + 9] = 2;
+    heap.mend();
+    let last = objects.last().expect("an object");
+    let id = last.id[..].try_into().expect("eight bytes");
+    (heap, id)
+}
+
+/// The original does not test blocks: a checked read is held to what it has to take in any case, one checksum of each
+/// block on its way, and an unchecked read.
+fn checked_reads(times: &mut Times) {
+    let one = [64, 128, 256, 511, 512, 1024, 2048, 4096, 16_384, 65_536]
+        .map(|size| (format!("checked: one block of {size}"), one_block(size)));
+    let some = [
+        ("checked: root of 1 row, block of 1,024", &[1002, 1][..]),
+        ("checked: root of 3 rows, block of 2,048", &[1003]),
+        ("checked: root of 8 rows, block of 65,536", &[65_514]),
+        (
+            "checked: nested, block of 1,024",
+            &[65_514, 65_514, 65_514, 65_514, 1],
+        ),
+    ];
+    let some = some.map(|(name, sizes)| (name.to_owned(), last_object(sizes)));
+    for (name, (heap, id)) in one.into_iter().chain(some) {
+        checked_read(times, name, &heap, &id);
+    }
+}
+
+fn checked_read(times: &mut Times, name: String, heap: &Heap, id: &[u8; 8]) {
+    let view = view_of(heap);
+    let parsed = format::parsed_of(heap);
+    let Ended { answer, blocks } = checked::due(view, &parsed, (8, heap.at), id);
+    let read = |view, id: &[u8]| ours::answered(|s, n| ours::checked_into(view, heap.at, id, s, n));
+    assert_eq!((read(view, id), answer.0), (answer, 0), "{name}");
+    let numbers = parsed
+        .unwrap_or_else(|refusal| panic!("{refusal:?}"))
+        .numbers;
+    let covered = |block: &crate::checked_reader::Block| {
+        let layout = Layout::new(&Table::of(&numbers), 8, 2, block.kind);
+        let length = match block.kind {
+            Kind::Direct { size } => size,
+            Kind::Indirect { .. } => layout.length as u64 - 4,
+        };
+        &heap.file[block.address as usize..][..length as usize]
+    };
+    let covered: Vec<&[u8]> = blocks.iter().map(covered).collect();
+    let bytes: usize = covered.iter().map(|part| part.len()).sum();
+    let calls = ((1 << 20) / bytes).clamp(10, 2000);
+    let ours = || {
+        for _ in 0..calls {
+            black_box(read(black_box(view), black_box(id)));
+        }
+    };
+    let due = || {
+        for _ in 0..calls {
+            each(covered.iter().copied(), ours::jenkins_lookup3);
+            let (view, id) = black_box((view, id));
+            black_box(ours::answered(|s, n| ours::read_into(view, id, s, n)));
+        }
+    };
+    times.line(name, calls, ours, due);
+    let line = times.0.last().expect("a line");
+    let more = line.ours - line.original;
+    println!(
+        "bench: {}, {bytes} bytes of blocks: {more:.1} ns more",
+        line.what
+    );
+}
+
 /// The original has no writer of IDs: the rules' words in plain Rust, with the same memory lent, stand for it.
 #[inline(never)]
 fn plain_id(offset: u64, size: u64, id: &mut [u8], slot: &mut [u8]) -> u32 {
@@ -525,18 +634,26 @@ fn ids(times: &mut Times) {
     );
 }
 
+/// Three numbers of the table, as the counting engine has them: when it runs.
+struct Numbers {
+    width: u64,
+    starting: u64,
+    largest: u64,
+}
+
 /// Plain Rust that walks the slots as the counting engine does: where it comes to, past the offset or not.
 fn plain_walk(
+    numbers: &Numbers,
     at: u64,
     end: u64,
     offset: u64,
     passed: &mut impl FnMut(u64),
 ) -> Result<[u64; 2], u64> {
-    let (mut here, mut size, mut next) = (at, 1_024, 1_024);
+    let (mut here, mut size, mut next) = (at, numbers.starting, numbers.starting);
     while here < end {
-        for _ in 0..4 {
-            if size > 65_536 {
-                here = match plain_walk(here, here + size, offset, passed) {
+        for _ in 0..numbers.width {
+            if size > numbers.largest {
+                here = match plain_walk(numbers, here, here + size, offset, passed) {
                     Err(past) => past,
                     found => return found,
                 };
@@ -568,6 +685,11 @@ fn slots(times: &mut Times) {
         || all(&|offset| original::slot(offset).0),
     );
     let last = (1 << 40) - 1;
+    let numbers = black_box(Numbers {
+        width: 4,
+        starting: 1_024,
+        largest: 65_536,
+    });
     times.line(
         "slot of the farthest offset, counted",
         1,
@@ -575,13 +697,20 @@ fn slots(times: &mut Times) {
             black_box(ours::count_to(black_box(last)));
         },
         || {
-            black_box(plain_walk(0, 1 << 40, black_box(last), &mut |_| ())).unwrap();
+            black_box(plain_walk(
+                &numbers,
+                0,
+                1 << 40,
+                black_box(last),
+                &mut |_| (),
+            ))
+            .unwrap();
         },
     );
     let counted = || {
         let mut counts = [0_u64; 7];
         let count = &mut |size: u64| counts[size.ilog2() as usize - 10] += 1;
-        black_box(plain_walk(0, 1 << 40, black_box(u64::MAX), count)).unwrap_err();
+        black_box(plain_walk(&numbers, 0, 1 << 40, black_box(u64::MAX), count)).unwrap_err();
         black_box(counts);
     };
     times.line(

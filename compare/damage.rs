@@ -1,12 +1,16 @@
 //! Damaged files, ours against the original: heaps of many kinds with one to four things wrong, each read by some
 //! sound and some damaged IDs through the C functions that the loader calls. File and ID are lent with nothing
-//! readable around them (guarded.rs), so a read outside of them, or a store into them, ends the program.
+//! readable around them (guarded.rs), so a read outside of them, or a store into them, ends the program. The checked
+//! reader is held to the one by the format (checked_reader.rs), and files with one byte changed come after them
+//! (one_byte.rs).
 use crate::beds::{Bed, KINDS, Spot};
+use crate::checked::due as checked_due;
 use crate::format;
 use crate::guarded::{Edge, Lent};
 use crate::heap::{counted, hex, pinned, told};
 use crate::ids::unpadded;
 use crate::made::right_checksum;
+use crate::one_byte;
 use crate::ours::{self, View};
 use crate::panics::{self, Panics, caught};
 use crate::random::Random;
@@ -293,6 +297,8 @@ struct Counts {
     /// Answers of reading by kind of heap and number, and those of decoding by number.
     read: [[u64; 11]; KINDS.len()],
     decoded: [u64; 11],
+    /// Answers of the checked reader by number.
+    checked: [u64; 20],
     pinned: u64,
     panics: Panics,
     /// By function, how often the original panicked; and in how many answers not as docs/DIFFERENCES.md says.
@@ -332,7 +338,7 @@ fn due<T>(
 
 impl Counts {
     /// Both functions with one ID: the answers of ours.
-    fn same(&mut self, work: &mut Work, parsed: &Result<Header, Answer>) -> [Answer; 2] {
+    fn same(&mut self, work: &mut Work, parsed: Result<&Header, &Answer>) -> [Answer; 2] {
         let (view, id) = (work.view(), work.id.bytes());
         let (read, decoded) = (ours::read_in(view, id), ours::decode_in(view, id));
         let header = match parsed {
@@ -395,13 +401,30 @@ impl Counts {
         self.pinned += u64::from(pinned);
     }
 
-    /// A damaged heap with some IDs; fewer if its header is refused.
+    /// The checked reader and its stopping block, by the address that the heap had.
+    fn checked(&mut self, work: &Work, bed: &Bed, parsed: &Result<format::Parsed, Answer>) {
+        let (view, id, address) = (work.view(), work.id.bytes(), bed.heap.at);
+        let ended = checked_due(view, parsed, (view.offset_size, address), id);
+        let got = [
+            ours::checked(view, address, id),
+            ours::stopping_block(view, address, id),
+        ];
+        let due = [ended.answer, ended.last()];
+        assert_eq!(got, due, "address {address}, {}", told(view, id));
+        self.checked[got[0].0 as usize] += 1;
+    }
+
+    /// A damaged heap with some IDs; fewer if its header is refused. One in four is read by the checked reader, too.
     fn heap(&mut self, work: &mut Work, bed: &Bed) {
-        let parsed = format::parsed(work.view()).map(|parsed| parsed.header);
+        let parsed = format::parsed(work.view());
         self.damaged[bed.kind] += 1;
-        for _ in 0..if parsed.is_ok() { READS } else { 2 } {
+        for i in 0..if parsed.is_ok() { READS } else { 2 } {
             work.any_id(bed);
-            let [read, decoded] = self.same(work, &parsed);
+            if i % 4 == 0 {
+                self.checked(work, bed, &parsed);
+            }
+            let header = parsed.as_ref().map(|parsed| &parsed.header);
+            let [read, decoded] = self.same(work, header);
             self.read[bed.kind][read.0 as usize] += 1;
             self.decoded[decoded.0 as usize] += 1;
         }
@@ -421,6 +444,9 @@ impl Counts {
         let met = |times: &[u64]| times.iter().all(|&times| times > 0);
         assert!(met(&read[..10]) && read[10] == 0, "{read:?}");
         assert!(met(&decoded[..8]) && decoded[8..] == [0; 3], "{decoded:?}");
+        let checked = self.checked;
+        let is_due = |n: usize| matches!(n, 0..9 | 18 | 19) == (checked[n] > 0);
+        assert!((0..checked.len()).all(is_due), "{checked:?}");
     }
 
     /// A line for each kind of heap, and the sums.
@@ -453,6 +479,16 @@ impl Counts {
     fn print(&self, damages: [u64; 13]) {
         let damages = DAMAGES.iter().zip(damages);
         let damages: Vec<String> = damages.map(|(name, n)| format!("{name} {n}")).collect();
+        let checked = self.checked.iter().enumerate().skip(1);
+        let checked = checked.filter(|(_, times)| **times > 0);
+        let checked: Vec<String> = checked
+            .map(|(n, times)| format!("by {n} {times}"))
+            .collect();
+        println!(
+            "damage: checked reads accepted {}, {}",
+            self.checked[0],
+            checked.join(", ")
+        );
         println!(
             "{}\ndamage: {}\ndamage: {} places pinned; 10 cannot occur (no path has more than 64 blocks), nor 8 and 9 in decoding (no filter is tested, no block met); {} panics of another kind than DIFFERENCES.md 5",
             self.table(),
@@ -489,12 +525,18 @@ pub fn run(n: u64, plain: bool) -> Vec<Row> {
     if !plain {
         counts.complete();
     }
-    vec![
+    let mut rows = vec![
         row("reads of damaged files, C function", counts.reads())
             .with_panics(counts.panicked[READ]),
         row("their IDs decoded, C function", counts.decoded.iter().sum())
             .with_panics(counts.panicked[DECODE]),
-    ]
+        row(
+            "checked reads of damaged files, C function",
+            counts.checked.iter().sum(),
+        ),
+    ];
+    rows.extend(one_byte::run(n / 8, plain));
+    rows
 }
 
 /// A read outside, and a store, does end the program: tried in programs of their own.

@@ -75,6 +75,23 @@ fn both_read(heap: &Heap, id: &[u8], bytes: &[u8], at: u64) {
     assert_eq!(ours::read(heap, id), (0, at, bytes.len() as u64));
 }
 
+/// What the checked reader answers; the blocks are to have the header's place as its address.
+fn checked(heap: &Heap, id: &[u8]) -> Answer {
+    ours::checked(ours::view_of(heap), heap.at, id)
+}
+
+/// A file whose header says that direct blocks have checksums or not.
+fn with_flags(mut heap: Heap, flags: u8) -> Heap {
+    heap.file[FLAGS] = flags;
+    heap.mend();
+    heap
+}
+
+/// The root block of a heap without objects at offset size 2, as the original writes it for a header at 0.
+fn empty_root() -> Vec<u8> {
+    original::region(&[], 2, 0, 0)
+}
+
 /// Both refuse to read by an ID.
 fn both_refuse(heap: &Heap, id: &[u8], refusal: Answer) {
     let read = parsed(heap).read(&heap.file, id, heap.offset_size);
@@ -171,10 +188,12 @@ fn none_managed() {
     decoded_apart(&heap, &[0, 1, 0, 0, 0, 0, 2], 1, [0, 2]);
 }
 
-/// 4. A direct block that is none: neither its checksum nor anything else is tested.
+/// 4. A direct block that is none: neither its checksum nor anything else is tested, but by the checked reader.
 fn block_not_tested() {
     let (heap, root) = rooted(made::fixed(0, 0), &[0x5A]);
-    both_read(&heap, &by_rule(0, 1), &[0x5A], root);
+    let id = by_rule(0, 1);
+    both_read(&heap, &id, &[0x5A], root);
+    assert_eq!(checked(&heap, &id), (1, root + 1024, root + 1));
 }
 
 /// 5. At 64 heap bits the original shifts by 64 where bits are left; by the format the length is 9.
@@ -274,6 +293,12 @@ fn past_the_end() {
 fn past_the_block() {
     let (heap, root) = rooted(made::fixed(0, 0), &[0x5A; 1025]);
     both_read(&heap, &by_rule(0, 1025), &[0x5A; 1025], root);
+    let block = [empty_root(), vec![0x5A]].concat();
+    let (heap, root) = rooted(made::fixed(0, 0), &block);
+    let heap = with_flags(heap, 2);
+    both_read(&heap, &by_rule(0, 1025), &block, root);
+    assert_eq!(checked(&heap, &by_rule(0, 1025)), (1, 1025, 1024));
+    assert_eq!(checked(&heap, &by_rule(0, 1024)), (0, root, 1024));
 }
 
 /// 17. A doubling table of no columns.
@@ -368,11 +393,13 @@ fn empty_objects() {
     for Written { heap, region, .. } in written(&[0]) {
         let place = region.start as u64 + 22;
         both_read(&heap, &by_rule(22, 0), &[], place);
+        assert_eq!(checked(&heap, &by_rule(22, 0)), (0, place, 0));
     }
     assert_eq!(both_plan(&[1002, 1002, 0]).offsets, [22, 1046, 2048]);
     for Written { heap, .. } in written(&[1002, 1002, 0]) {
         let len = heap.file.len() as u64;
         both_refuse(&heap, &by_rule(2048, 0), (1, 2048, len));
+        assert_eq!(checked(&heap, &by_rule(2048, 0)), (1, 2048, len));
     }
 }
 
@@ -406,14 +433,18 @@ fn small_managed() {
 
 /// 30. An object in the header of its block.
 fn in_the_header() {
-    let (heap, root) = rooted(made::fixed(0, 0), &original::region(&[], 2, 0, 0));
+    let (heap, root) = rooted(made::fixed(0, 0), &empty_root());
+    let heap = with_flags(heap, 2);
     both_read(&heap, &by_rule(0, 4), b"FHDB", root);
+    assert_eq!(checked(&heap, &by_rule(0, 4)), (0, root, 4));
 }
 
 /// 31. An object behind the heap's one block.
 fn behind_the_block() {
-    let (heap, root) = rooted(made::fixed(0, 0), &[0x5A; 1025]);
+    let (heap, root) = rooted(made::fixed(0, 0), &[empty_root(), vec![0x5A]].concat());
+    let heap = with_flags(heap, 2);
     both_read(&heap, &by_rule(1024, 1), &[0x5A], root + 1024);
+    assert_eq!(checked(&heap, &by_rule(1024, 1)), (1, 1025, 1024));
 }
 
 /// 32. An object above the header's largest managed size; by the format a huge one. The length has one byte then.
@@ -490,19 +521,45 @@ fn huge_object() {
 }
 
 /// 38. Direct blocks have a checksum; by the format only where bit 1 of the header's flags is set, and without it
-/// the object would lie at 18. The reader does not look at the flags.
+/// the object would lie at 18. The unchecked reader does not look at the flags, and the checked one does.
 fn sums_always() {
     assert_eq!(both_plan(&[1]).offsets, [22]);
     let mut block = both_write(&[&[7]]);
     let stored: [u8; 4] = block[18..22].try_into().expect("four bytes");
     block[18..22].fill(0);
     assert_eq!(stored, original::jenkins_lookup3(&block).to_le_bytes());
-    let (mut heap, root) = rooted(made::fixed(0, 0), &[0x5A]);
+    let (heap, root) = rooted(made::fixed(0, 0), &[0x5A]);
     for flags in [0, 2] {
-        heap.file[FLAGS] = flags;
-        heap.mend();
+        let heap = with_flags(heap.clone(), flags);
         both_read(&heap, &by_rule(0, 1), &[0x5A], root);
     }
+    let mut block = empty_root();
+    block[1023] = 0x5A;
+    let stored = format::number(&block[12..16]);
+    block[12..16].fill(0);
+    let computed = original::jenkins_lookup3(&block).into();
+    block[12..16].copy_from_slice(&stored.to_le_bytes()[..4]);
+    let (heap, root) = rooted(made::fixed(0, 0), &block);
+    let id = by_rule(1023, 1);
+    for (flags, due) in [(0, (0, root + 1023, 1)), (2, (18, stored, computed))] {
+        let heap = with_flags(heap.clone(), flags);
+        both_read(&heap, &id, &[0x5A], root + 1023);
+        assert_eq!(checked(&heap, &id), due, "flags {flags}");
+    }
+}
+
+/// 42. A block that says that it begins at another heap offset, under a checksum that holds. HDF5 reckons with what it
+/// says: by offset 16 it has the last byte of the checksum, which stands before.
+fn block_offset() {
+    let mut block = empty_root();
+    (block[7], block[16]) = (1, 0x5A);
+    block[12..16].fill(0);
+    let sum = original::jenkins_lookup3(&block);
+    block[12..16].copy_from_slice(&sum.to_le_bytes());
+    let (heap, root) = rooted(made::fixed(0, 0), &block);
+    let (heap, id) = (with_flags(heap, 2), by_rule(16, 1));
+    both_read(&heap, &id, &[0x5A], root + 16);
+    assert_eq!(checked(&heap, &id), (19, 1, 0));
 }
 
 /// Tests by the number of their case, with their names.
@@ -510,7 +567,7 @@ macro_rules! named {
     ($($number:literal $case:ident),* $(,)?) => { [$(($number, stringify!($case), $case as fn())),*] };
 }
 
-const CASES: [(u64, &str, fn()); 38] = named![
+const CASES: [(u64, &str, fn()); 39] = named![
     1 filtered_checksum,
     2 version_bits,
     3 leftover_bits,
@@ -549,10 +606,11 @@ const CASES: [(u64, &str, fn()); 38] = named![
     38 sums_always,
     39 power_of_256,
     40 none_managed,
+    42 block_offset,
 ];
 
 /// Kept in `heap.rs` and `plan.rs`, since their inputs are long; and by `loader/`, which has HDF5.
-const ELSEWHERE: [u64; 3] = [6, 10, 41];
+const ELSEWHERE: [u64; 4] = [6, 10, 41, 43];
 
 /// The document's row of a case.
 fn documented(number: u64) -> &'static str {

@@ -1,4 +1,5 @@
-//! Headers, IDs and reading, ours against the original: every number of every answer, and all lent memory.
+//! Headers, IDs and reading without tests of the blocks, ours against the original: every number of every answer, and all
+//! lent memory. The reader that tests blocks is compared in `checked.rs`.
 //! The original answers a read by bytes: ours must answer a place that holds them, and the original must see
 //! a change of the byte at that place.
 use crate::format;

@@ -2,6 +2,8 @@
 mod back;
 mod beds;
 mod bench;
+mod checked;
+mod checked_reader;
 mod checksum;
 mod damage;
 mod differences;
@@ -13,6 +15,7 @@ mod heap;
 mod ids;
 mod image;
 mod made;
+mod one_byte;
 mod open_plans;
 mod ours;
 mod panics;
@@ -22,6 +25,7 @@ mod reads;
 mod record;
 mod regions;
 mod round_trips;
+mod sealed;
 mod slots;
 mod summary;
 mod write;
@@ -35,11 +39,12 @@ use summary::Row;
 type Part = (&'static str, fn() -> Vec<Row>);
 
 /// All parts, the longest first.
-const PARTS: [Part; 20] = [
+const PARTS: [Part; 21] = [
     ("back", || back::compare(200_000)),
     ("write", || write::compare(40_000)),
     ("heap space 8", || plan::heap_space(8)),
     ("heap", || heap::compare(1_000_000)),
+    ("checked", || checked::compare(1_000_000)),
     ("slots counted", || slots::counted(1_000_000)),
     ("slots", || slots::compare(10_000_000)),
     ("heap space 4", || plan::heap_space(4)),

@@ -221,9 +221,10 @@ pub fn count_to(offset: u64) -> Answer {
     answered(|s, n| unsafe { tools_count_to(offset, s, n) })
 }
 
-/// Whether both name a slot of the offset, and the same.
-pub fn engines_agree_at(offset: u64) -> bool {
-    unsafe { tools_engines_agree_at(offset) == 1 }
+/// 0, or 13 for a list of fewer than 7 places; number and pair of both engines, the one that counts first, and 1 where
+/// both name a slot, and the same, or 0, are put into `answers`.
+pub fn ask_both(offset: u64, answers: &mut [u64]) -> u32 {
+    unsafe { tools_ask_both(offset, answers.as_mut_ptr(), answers.len()) }
 }
 
 /// The refusal's number, or 0; its pair, or 1, row, column and heap offset of a block on the way, or four zeros, are put
@@ -317,13 +318,38 @@ pub fn decode_into(view: View, id: &[u8], slot: *mut u8, len: usize) -> u32 {
 pub fn read_into(view: View, id: &[u8], slot: *mut u8, len: usize) -> u32 {
     let (file, w, l) = (view.file, view.offset_size, view.length_size);
     let (f, n, i, k) = (file.as_ptr(), file.len(), id.as_ptr(), id.len());
-    unsafe { fractal_heap_read_managed_object(f, n, view.at, w, l, i, k, slot, len) }
+    unsafe { fractal_heap_read_managed_object_unchecked(f, n, view.at, w, l, i, k, slot, len) }
 }
 
 fn sized_into(heap: &Heap, read_size: u8, id: &[u8], slot: *mut u8, len: usize) -> u32 {
     let (file, w, l) = (&heap.file, heap.offset_size, heap.length_size);
     let (f, n, i, k) = (file.as_ptr(), file.len(), id.as_ptr(), id.len());
-    unsafe { tools_read_managed_object(f, n, heap.at, w, l, read_size, i, k, slot, len) }
+    unsafe { tools_read_managed_object_unchecked(f, n, heap.at, w, l, read_size, i, k, slot, len) }
+}
+
+/// The checked reader, which holds every block to the address that its header is said to have.
+pub fn checked_into(view: View, address: u64, id: &[u8], slot: *mut u8, len: usize) -> u32 {
+    let (file, w, l) = (view.file, view.offset_size, view.length_size);
+    let (f, n, i, k) = (file.as_ptr(), file.len(), id.as_ptr(), id.len());
+    unsafe { fractal_heap_read_managed_object(f, n, view.at, w, l, address, i, k, slot, len) }
+}
+
+fn stopping_block_into(view: View, address: u64, id: &[u8], slot: *mut u8, len: usize) -> u32 {
+    let (file, w, l) = (view.file, view.offset_size, view.length_size);
+    let (f, n, i, k) = (file.as_ptr(), file.len(), id.as_ptr(), id.len());
+    unsafe { fractal_heap_stopping_block(f, n, view.at, w, l, address, i, k, slot, len) }
+}
+
+fn checked_sized_into(
+    heap: &Heap,
+    (read_size, address): (u8, u64),
+    id: &[u8],
+    slot: *mut u8,
+    len: usize,
+) -> u32 {
+    let (file, w, l) = (&heap.file, heap.offset_size, heap.length_size);
+    let (f, n, i, k) = (file.as_ptr(), file.len(), id.as_ptr(), id.len());
+    unsafe { tools_read_managed_object(f, n, heap.at, w, l, read_size, address, i, k, slot, len) }
 }
 
 pub fn tiny_into(heap_id_length: u16, id: &[u8], slot: *mut u8, len: usize) -> u32 {
@@ -343,7 +369,7 @@ pub fn decode(heap: &Heap, id: &[u8]) -> Answer {
     decode_in(view_of(heap), id)
 }
 
-/// The loader's: parses, then reads at the offset size of the parse.
+/// The loader's unchecked reader: parses, then reads at the offset size of the parse.
 pub fn read_in(view: View, id: &[u8]) -> Answer {
     with_slot(|s, n| read_into(view, id, s, n))
 }
@@ -352,7 +378,22 @@ pub fn read(heap: &Heap, id: &[u8]) -> Answer {
     read_in(view_of(heap), id)
 }
 
-/// Parses, then reads at any offset size.
+/// The loader's checked reader, likewise.
+pub fn checked(view: View, address: u64, id: &[u8]) -> Answer {
+    with_slot(|s, n| checked_into(view, address, id, s, n))
+}
+
+/// The block at which it ends.
+pub fn stopping_block(view: View, address: u64, id: &[u8]) -> Answer {
+    with_slot(|s, n| stopping_block_into(view, address, id, s, n))
+}
+
+/// The checked reader at any offset size.
+pub fn checked_sized(heap: &Heap, size_and_address: (u8, u64), id: &[u8]) -> Answer {
+    with_slot(|s, n| checked_sized_into(heap, size_and_address, id, s, n))
+}
+
+/// Parses, then reads at any offset size, unchecked.
 pub fn read_sized(heap: &Heap, read_size: u8, id: &[u8]) -> Answer {
     with_slot(|s, n| sized_into(heap, read_size, id, s, n))
 }
@@ -365,8 +406,26 @@ pub fn id_type(id: &[u8]) -> Answer {
     with_slot(|s, n| type_into(id, s, n))
 }
 
-/// Every eight-byte ID of `ids`: number and pair of each answer, three numbers in `found`.
+/// Every eight-byte ID of `ids`: number and pair of each answer, three numbers in `found`; unchecked.
 pub fn read_each(heap: &Heap, ids: &[u8], found: &mut [u64]) -> u32 {
+    let (file, w, l) = (&heap.file, heap.offset_size, heap.length_size);
+    unsafe {
+        tools_read_each_unchecked(
+            file.as_ptr(),
+            file.len(),
+            heap.at,
+            w,
+            l,
+            ids.as_ptr(),
+            ids.len(),
+            found.as_mut_ptr(),
+            found.len(),
+        )
+    }
+}
+
+/// The same by the checked reader.
+pub fn checked_each(heap: &Heap, address: u64, ids: &[u8], found: &mut [u64]) -> u32 {
     let (file, w, l) = (&heap.file, heap.offset_size, heap.length_size);
     unsafe {
         tools_read_each(
@@ -375,6 +434,7 @@ pub fn read_each(heap: &Heap, ids: &[u8], found: &mut [u64]) -> u32 {
             heap.at,
             w,
             l,
+            address,
             ids.as_ptr(),
             ids.len(),
             found.as_mut_ptr(),
@@ -390,6 +450,14 @@ pub fn short_heap_slot(len: usize, heap: &Heap, id: &[u8]) {
     with_short_slot(len, |s, k| sized_into(heap, 8, id, s, k));
     with_short_slot(len, |s, k| tiny_into(8, id, s, k));
     with_short_slot(len, |s, k| type_into(id, s, k));
+}
+
+/// The checked functions over a heap, likewise.
+pub fn short_checked_slot(len: usize, heap: &Heap, address: u64, id: &[u8]) {
+    let view = view_of(heap);
+    with_short_slot(len, |s, k| checked_into(view, address, id, s, k));
+    with_short_slot(len, |s, k| stopping_block_into(view, address, id, s, k));
+    with_short_slot(len, |s, k| checked_sized_into(heap, (8, address), id, s, k));
 }
 
 /// A plan that stays open.

@@ -1,4 +1,5 @@
 //! Random numbers for the comparisons (xorshift64*), the same in every run.
+#[derive(Clone)]
 pub struct Random(u64);
 
 impl Random {

@@ -274,7 +274,7 @@ pub fn lines(lists: Vec<Named>, w: u8, line: fn(&str, &[u64], u8) -> String) -> 
 }
 
 pub fn heaps() -> String {
-    let first = "The original Rust's answers (refusals 2, 11 and 13: by the scope's table), from compare/run --record\n";
+    let first = "The original Rust's answers (refusals 2, 11 and 13: by the rules' table), from compare/run --record\n";
     let worked = lines(worked(), 8, case);
     let shifted = [2, 4].map(|w| lines(shifted(w), w, case)).concat();
     let long = [2, 4, 8].map(long).concat();

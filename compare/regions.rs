@@ -201,7 +201,7 @@ fn order() -> String {
 
 pub fn regions() -> String {
     let first =
-        "The original Rust's answers (refusals: by the scope's table), from compare/run --record\n";
+        "The original Rust's answers (refusals: by the rules' table), from compare/run --record\n";
     [
         first,
         &lines(worked(), 8, line),

@@ -113,7 +113,7 @@ fn list(k: u64) -> (Vec<u64>, u8) {
 }
 
 pub fn round_trips() -> String {
-    let first = "The original Rust's answers (IDs and refusals of writing: by the scope's words), from compare/run --record\n";
+    let first = "The original Rust's answers (IDs and refusals of writing: by the rules' words), from compare/run --record\n";
     let (mut out, mut file) = (String::from(first), vec![0xA5; FILE]);
     for k in 0..66 {
         let (sizes, w) = list(k);

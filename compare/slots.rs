@@ -80,7 +80,12 @@ fn refused(engines: &[fn(u64) -> original::Answer]) -> u64 {
         let number = ours::entered(offset, 0, block.places());
         assert_eq!(number, 20, "offset {offset}");
         block.holds(&[offset, 0], || format!("offset {offset}"));
-        assert!(!ours::engines_agree_at(offset), "offset {offset}");
+        both_answer(offset, (20, offset, 0), 0);
+    }
+    for places in 0..7 {
+        let mut answers = Lent::new(places);
+        assert_eq!(ours::ask_both(0, answers.places()), 13, "{places} places");
+        answers.holds(&[], || format!("{places} places"));
     }
     for places in 0..4 {
         let mut block = Lent::new(places);
@@ -134,28 +139,51 @@ pub fn compare(n: u64) -> Vec<Row> {
     ]
 }
 
+/// Both engines asked at once, each answering so, and whether that is agreement.
+fn both_answer(offset: u64, (number, first, second): original::Answer, agree: u64) {
+    let mut answers = Lent::new(9);
+    let told = ours::ask_both(offset, answers.places());
+    assert_eq!(told, 0, "offset {offset}");
+    let number = u64::from(number);
+    let due = [number, first, second, number, first, second, agree];
+    answers.holds(&due, || format!("offset {offset}"));
+}
+
+/// Both name the original's slot.
 fn both(offset: u64) {
-    let counted = ours::count_to(offset);
-    assert_eq!(counted, due(offset), "offset {offset}");
-    assert_eq!(counted, ours::locate(offset), "offset {offset}");
+    both_answer(offset, due(offset), 1);
+}
+
+/// Each by itself names it, too.
+fn each(offset: u64) {
+    assert_eq!(ours::count_to(offset), due(offset), "offset {offset}");
+    assert_eq!(ours::locate(offset), due(offset), "offset {offset}");
 }
 
 /// The engine that counts, against both; and the counts.
 pub fn counted(n: u64) -> Vec<Row> {
     let mut ends = 0;
     for (start, size) in slots(16) {
-        both(start);
-        both(start + size - 1);
+        for offset in [start, start + size - 1] {
+            both(offset);
+            each(offset);
+        }
         ends += 1;
     }
     assert_eq!(ends, 14_192, "slots of 16 rows");
     let mut random = Random::new(72);
-    (0..n).for_each(|_| both(random.below(1 << 26)));
-    (0..100).for_each(|_| both(random.below(END)));
-    let last = [END - 1, END - 65_536, END - 65_537];
-    last.iter().for_each(|&offset| both(offset));
-    for offset in [0, 1_024, 22, 1 << 22, (1 << 26) - 1] {
-        assert!(ours::engines_agree_at(offset), "offset {offset}");
+    for i in 0..n {
+        let offset = random.below(1 << 26);
+        each(offset);
+        // Both at once count as far again.
+        if i % 100 == 0 {
+            both(offset);
+        }
+    }
+    let far = (0..100).map(|_| random.below(END));
+    for offset in far.chain([END - 1, END - 65_536, END - 65_537]) {
+        both(offset);
+        each(offset);
     }
     vec![
         row("slots of 16 rows, first and last byte counted to", ends),

@@ -21,6 +21,12 @@ def ask(program, name, image, address, ids, *words):
     return answers
 
 
+def ask_all(program, name, image, address, ids):
+    """For each ID three answers: of the checked reader, of the other, and the stopping block."""
+    answers = ask(program, name, image, address, ids, "all")
+    return [(answer[:3], answer[3:6], answer[6:]) for answer in answers]
+
+
 def told_headers(name, *words):
     """What the command tells of the headers in a file."""
     run = subprocess.run([COMMAND, "header", "--json", "--quiet", name, *words], capture_output=True, text=True)

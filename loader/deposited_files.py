@@ -1,9 +1,12 @@
 """Lets HDF5's own library and tools judge the files that `poilures deposit` writes.
-    deposited_files.py POILURES FOLDER
+    deposited_files.py POILURES FOLDER SECONDS
 Each file is read whole by h5py and h5dump, every field of it is held to the format by hdf5_format.py, behind
 which nothing of ours stands, and h5debug's numbers to those that the program told. Then h5py adds, replaces and
-removes attributes, down to none, adds others, and the file must still be sound. What our reader of HDF5's files (the
-Rust crate hdf5_file, by its example) finds is held to what h5py put in, there and in files that HDF5 alone wrote."""
+removes attributes, down to none, adds others, and the file must still be sound. What `poilures list` and `get` find is
+held to what h5py put in, there and in files that HDF5 alone wrote; a folder comes back from `get --all` as h5py left
+it; and `deposit --add` makes the file that `deposit` makes of all at once, and takes no file that h5py has open.
+Files whose bytes were changed at random, with their checksums made right again, are read for so many seconds, where
+the program that does it is built."""
 
 import collections
 import ctypes
@@ -17,7 +20,7 @@ import sys
 
 import h5py
 import numpy
-from h5py import h5, h5a, h5f, h5p, h5s, h5t
+from h5py import h5, h5a, h5f, h5o, h5p, h5s, h5t
 
 import h5debug
 import hdf5_format as form
@@ -40,7 +43,8 @@ TOTALS = {  # of the program's words
     "iterator": "iterator",
 }
 KINDS = ["none", "direct", "indirect", "nested"]  # of heaps
-READER = "target/cargo/release/examples/read_attributes"  # of the Rust crate, where it is built
+MOST_NAMES = 1000  # of one run of the program
+FUZZ = "target/cargo/release/examples/fuzz_attributes"  # of the Rust crate, where it is built
 
 
 # Making files
@@ -269,12 +273,25 @@ def check_h5py(name, due, order=False):
 
 
 NUMBERS = re.compile(rb"\d+")
-ESCAPES = {"n": "\n", "t": "\t", "r": "\r", "b": "\b", "f": "\f", '"': '"', "\\": "\\", "'": "'"}
+STRING = re.compile(rb'"((?:[^"\\]|\\.)*)"')
+# A byte above 127 is printed as if it were negative, in eleven digits.
+ESCAPED = re.compile(rb"\\(37777777[67][0-7]{2}|[0-7]{3}|.)")
+ESCAPES = dict(zip(b'ntrbf"\\', b'\n\t\r\b\f"\\'))
+
+
+def unescaped(printed):
+    """The bytes of a string that h5dump printed."""
+
+    def byte(found):
+        word = found[1]
+        return bytes([int(word, 8) & 255 if word.isdigit() else ESCAPES[word[0]]])
+
+    return ESCAPED.sub(byte, printed)
 
 
 def check_h5dump(deposit):
-    """h5dump prints every byte of every attribute; of strings only how many there are."""
-    words = ["h5dump", "-y", "-w", "0", os.path.basename(deposit.name)]
+    """h5dump prints every byte of every attribute."""
+    words = ["h5dump", "-e", "-y", "-w", "0", os.path.basename(deposit.name)]
     run = subprocess.run(words, cwd=os.path.dirname(deposit.name), capture_output=True)
     expect(run.returncode == 0, f"h5dump: {run.stderr}")
     parts = run.stdout.split(b'\n   ATTRIBUTE "')[1:]
@@ -285,6 +302,8 @@ def check_h5dump(deposit):
         if deposit.is_text(data):
             expect(b"STRSIZE %d;" % len(data) in rest and b"H5T_STR_NULLPAD" in rest, f"string {name}")
             expect(b"CSET H5T_CSET_UTF8" in rest and b"DATASPACE  SCALAR" in rest, f"string {name}")
+            printed = STRING.search(rest.partition(b"DATA {")[2])
+            expect(printed and unescaped(printed[1]) == data, f"h5dump of {name}")
             continue
         space = b"DATASPACE  SIMPLE { ( %d ) / ( %d ) }" % (len(data), len(data))
         expect(b"DATATYPE  H5T_STD_U8LE" in rest and space in rest, f"type of {name}")
@@ -328,65 +347,87 @@ def check_debug(deposit, dense, draw):
 # What our reader reads
 
 
-class Text(bytes):
-    """A value of variable length: the file has its bytes somewhere else, so none are to be given."""
-
-
 class Other(bytes):
-    """A value of another type than numbers and strings, or of a type that is shared."""
+    """A value of another type than numbers and strings, or of a type that is shared, so that no bytes are to be given."""
 
 
-def read_attributes(name, *keys):
-    """What our reader says of a file, or of these names: each attribute's name, and its bytes or why there are none."""
-    ended = subprocess.run([READER, name, *keys], capture_output=True, text=True)
-    expect(ended.returncode == 0, f"read_attributes of {name}: {ended.stderr}")
-    found = []
-    for line in ended.stdout.splitlines():
-        _, key, value = line.split(" ", 2) if line != "-" else ("", "-", "")
-        key = bytes.fromhex(key[:-1]).decode() if key.endswith(".") else None
-        found.append((key, value if value.startswith("(") else bytes.fromhex(value)))
-    return found
+def run(words, status=0):
+    """Runs the program; what it prints, and what it says on standard error."""
+    ended = subprocess.run(words, capture_output=True)
+    told = ended.stderr.decode(errors="replace")
+    expect(ended.returncode == status, f"{words[:6]} ends with {ended.returncode}: {told[:400]}")
+    expect("panicked" not in told, told)
+    return ended.stdout, told
 
 
-def check_reader(name, due, draw, counts, order=False):
-    """Our reader gives every byte of every attribute, or says why not: of a str, of another type, of a huge object."""
-    if not os.path.exists(READER):
-        return
-    found, huge = read_attributes(name), 0
-    for key, value in found:
-        if key is None:
-            expect("it is a huge object" in value, f"{value} in {name}")
-            huge += 1
-        elif isinstance(due[key], (Text, Other)):
-            words = "it has a variable length" if isinstance(due[key], Text) else "its bytes are not read"
-            expect(isinstance(value, str) and words in value, f"{key}: {value}")
-            counts["not read"] += 1
+def listed(program, name):
+    lines, _ = run([program, "list", "--json", name])
+    return [json.loads(line) for line in lines.splitlines()]
+
+
+def check_all(program, name, due):
+    """All into a folder: the bytes of each, and of those that are not read why not."""
+    folder = name + ".all"
+    others = {key for key, data in due.items() if isinstance(data, Other)}
+    _, told = run([program, "get", "--all", "--out-dir", folder, name], 1 if others else 0)
+    expect(all(f"{key}: its bytes are not read: " in told for key in others), f"what is said of {others}: {told}")
+    given = {file: whole_file(os.path.join(folder, file)) for file in os.listdir(folder)}
+    expect(given == {key: data for key, data in due.items() if key not in others}, f"all of {name}")
+    shutil.rmtree(folder)
+
+
+def check_reader(program, name, due, draw, counts, order=False):
+    """Our reader gives every byte of every attribute, or says why not."""
+    lines = listed(program, name)
+    names = [line["name"] for line in lines]
+    expect(len(set(names)) == len(names) == len(due), f"{len(names)} of {len(due)} attributes of {name}")
+    expect(not order or names == list(due), f"order of the attributes of {name}")
+    for line in lines:
+        data = due[line["name"]]
+        if isinstance(data, Other):
+            expect(line["length"] is None and "its bytes are not read" in line["why"], f"{line}")
         else:
-            expect(value == due[key], f"{key} of {name}")
-            counts["read"] += 1
-    names = [key for key, _ in found if key is not None]
-    given = set(names)
-    expect(len(given) == len(names) == len(due) - huge, f"{len(names)} and {huge} of {len(due)} attributes of {name}")
-    expect(not order or names == [key for key in due if key in given], f"order of the attributes of {name}")
-    counts["huge"] += huge
-    some = draw.sample(names, min(len(names), 20))
-    if some:
-        by_name = dict(found)
-        expect(read_attributes(name, *some) == [(key, by_name[key]) for key in some], f"attributes of {name} by name")
-    expect(read_attributes(name, "no such name") == [(None, b"")], "an attribute that is not there")
+            expect(line["length"] == len(data) and "why" not in line, f"{line}: {len(data)}")
+    read = [key for key in names if not isinstance(due[key], Other)]
+    draw.shuffle(read)
+    for i in range(0, len(read), MOST_NAMES):
+        part = read[i : i + MOST_NAMES]
+        given, _ = run([program, "get", name, "--", *part])
+        expect(given == b"".join(due[key] for key in part), f"attributes of {name} by name")
+    for line in draw.sample(lines, min(len(lines), 2)):
+        if line["id"] and "why" not in line:
+            given, _ = run([program, "get", "--id", line["id"], name])
+            expect(given == due[line["name"]], f"attribute of {name} by its ID")
+    for key in [key for key in names if isinstance(due[key], Other)][:3]:
+        given, told = run([program, "get", name, "--", key], 1)
+        expect(given == b"" and "its bytes are not read" in told, f"{key}: {told}")
+    _, told = run([program, "get", name, "no such name"], 1)
+    expect("the root group has no attribute of the name no such name" in told, told)
+    if len(due) <= 60:
+        check_all(program, name, due)
+    counts["read"] += len(read)
+    counts["not read"] += len(names) - len(read)
+    counts["huge"] += sum(1 for line in lines if line["id"] and line["id"].startswith("10"))
 
 
 def own_value(draw, file, most):
     """A value for a file that HDF5 alone writes, and its bytes."""
-    kind = draw.choice(["<u1", "<i4", ">i4", "<f8", ">f4", "S", "str", "compound", "shared", "square", "scalar"])
+    kind = draw.choice(["<u1", "<i4", ">i4", "<f8", ">f4", "S", "str", "square", "scalar", "other"])
+    if kind == "other":
+        kind = draw.choice(["compound", "shared", "strs", "bool"])
     size = draw.randrange(1, most)
     data = draw.randbytes(size // 8 * 8 + 8)
     if kind == "S":
         return numpy.bytes_(data.hex().encode()), data.hex().encode()
     if kind == "str":
-        return "größe " * 9, Text()
+        text = draw.choice(["größe " * 9, "", "a"])
+        return text, text.encode()
     if kind == "compound":
         return numpy.zeros(3, [("a", "<i4"), ("b", "<f8")]), Other()
+    if kind == "strs":
+        return ["a", "größe"], Other()
+    if kind == "bool":
+        return True, Other()
     if kind == "shared":
         return h5py.Empty(file["a type"].dtype), Other(b"shared")
     if kind == "square":
@@ -413,7 +454,7 @@ def own_files(name):
         yield False, 9 if widths[0] == 2 else 300, lambda widths=widths: created(name, *widths)
 
 
-def check_own(folder, draw, counts):
+def check_own(program, folder, draw, counts):
     """Files that HDF5 alone wrote: all superblocks, object headers 1 and 2 with continuations, user blocks, widths,
     attributes in the object header and in dense storage, order tracked and indexed."""
     name, versions = os.path.join(folder, "own.h5"), set()
@@ -434,7 +475,7 @@ def check_own(folder, draw, counts):
                     del file.attrs[key], due[key]
             data = whole_file(name)
             versions.add(data[data.index(b"\x89HDF\r\n") + 8])
-            check_reader(name, due, draw, counts, order)
+            check_reader(program, name, due, draw, counts, order)
             counts["own files"] += 1
     expect(versions == {0, 1, 2, 3}, f"superblocks: {versions}")
     os.remove(name)
@@ -447,8 +488,8 @@ def some_value(draw, large):
     """A value of h5py's, and the bytes that it gives back."""
     kind = draw.choice(["bytes", "bytes", "string", "str", "none"] + ["large"] * large)
     if kind == "str":
-        text = "größe " * draw.randrange(1, 50)
-        return text, Text(text.encode())
+        text = "größe " * draw.randrange(50)
+        return text, text.encode()
     if kind == "none":
         return numpy.empty(0, "u1"), b""
     size = draw.choice([4097, 10000, 65514, 70000]) if kind == "large" else draw.randrange(1, 3000)
@@ -459,7 +500,7 @@ def some_value(draw, large):
     return numpy.frombuffer(data, "u1"), data
 
 
-def check_going_on(deposit, draw, counts):
+def check_going_on(program, deposit, draw, counts):
     """h5py removes, replaces and adds, then removes all, adds a group and attributes again; how often it was read."""
     name, now = deposit.name, dict(deposit.values)
     keys = list(now)
@@ -476,28 +517,336 @@ def check_going_on(deposit, draw, counts):
         for i in range(40):
             put(file, f"new {i}")
     check_h5py(name, now)
-    check_reader(name, now, draw, counts)
+    check_reader(program, name, now, draw, counts)
     with h5py.File(name, "r+") as file:
         few = set(draw.sample(list(now), min(len(now), 7)))
         for key in [key for key in now if key not in few]:
             del file.attrs[key], now[key]
     check_h5py(name, now)  # few enough to lie in the object header, where they are short
-    check_reader(name, now, draw, counts)
+    check_reader(program, name, now, draw, counts)
     with h5py.File(name, "r+") as file:
         for key in list(now):
             del file.attrs[key], now[key]
         file.create_group("a group").attrs["of it"] = 7
         file["a set"] = numpy.arange(5)
     check_h5py(name, now)
-    check_reader(name, now, draw, counts)
+    check_reader(program, name, now, draw, counts)
     with h5py.File(name, "r+", libver="latest") as file:
         for i in range(60):
             put(file, f"again {i}")
     check_h5py(name, now)
-    check_reader(name, now, draw, counts)
+    check_reader(program, name, now, draw, counts)
     with h5py.File(name, "r") as file:
         expect(list(file["a set"]) == [0, 1, 2, 3, 4] and file["a group"].attrs["of it"] == 7, "other objects")
     return 4
+
+
+# Folders, and files that are added
+
+
+def put(folder, values):
+    os.mkdir(folder)
+    for name, data in values.items():
+        with open(os.path.join(folder, name), "wb") as opened:
+            opened.write(data)
+    return [os.path.join(folder, name) for name in values]
+
+
+def check_folder(program, folder, draw):
+    """A folder that is deposited comes back byte for byte, also when h5py has rewritten half of it."""
+    values = some_values(draw, 200, [0, 1, 60, 900, 3900, 20000])
+    name = os.path.join(folder, "folder.h5")
+    files = put(os.path.join(folder, "folder"), values)
+    run([program, "deposit", name, *files])
+    check_all(program, name, values)
+    with h5py.File(name, "r+", libver="latest") as file:
+        for key in draw.sample(list(values), 100):
+            value, values[key] = some_value(draw, True)
+            file.attrs.create(key, value)
+    check_all(program, name, values)
+    shutil.rmtree(os.path.join(folder, "folder"))
+    os.remove(name)
+
+
+def check_added(program, folder, draw, order, text):
+    """Files that are added one run after the other make the file that all of them make, and every ID stays."""
+    values = some_values(draw, 120, [0, 1, 20, 977, 978, 4000, 65000])
+    options = ["--track-order"] * order + ["--text"] * text
+    files = put(os.path.join(folder, "added"), values)
+    all_of, name = os.path.join(folder, "all.h5"), os.path.join(folder, "parts.h5")
+    run([program, "deposit", *options, all_of, *files])
+    run([program, "deposit", *options, name])
+    ids, at = [], 0
+    while at < len(files):
+        count = draw.choice([0, 1, 2, 7, 40])
+        printed, _ = run([program, "deposit", "-q", "--add", *["--text"] * text, name, *files[at : at + count]])
+        ids += printed.decode().split()
+        at += count
+    expect(whole_file(name) == whole_file(all_of), "files that are added one after the other")
+    expect([line["id"] for line in listed(program, name)] == ids, "IDs of files that were added")
+    check_changed(program, name, values, files, draw)
+    shutil.rmtree(os.path.join(folder, "added"))
+    os.remove(name)
+    os.remove(all_of)
+
+
+def check_changed(program, name, values, files, draw):
+    """Where HDF5 has changed the file, IDs that change are told, and need --force; h5py reads what comes of it."""
+    late = os.path.join(os.path.dirname(files[0]), "late")
+    shutil.copy(files[0], late)
+    before = {line["name"]: line["id"] for line in listed(program, name)}
+    with h5py.File(name, "r+", libver="latest") as file:
+        for key in draw.sample(list(values), 30):
+            data = draw.randbytes(draw.randrange(3000))
+            file.attrs.create(key, numpy.frombuffer(data, "u1"))
+            values[key] = data
+        for key in draw.sample(list(values), 10):
+            del file.attrs[key], values[key]
+    now = {line["name"]: line["id"] for line in listed(program, name)}
+    changed = whole_file(name)
+    _, told = run([program, "deposit", "--add", name, late], 1)
+    expect(whole_file(name) == changed, "a refused addition changes nothing")
+    _, forced = run([program, "deposit", "--add", "--force", name, late])
+    after = {line["name"]: line["id"] for line in listed(program, name)}
+    values["late"] = whole_file(late)
+    moved = {key for key in now if now[key] != after[key]}
+    expect(moved and any(now[key] != before[key] for key in now), "some IDs change")
+    for words in (told, forced):
+        lines = {line for line in words.splitlines() if ", then " in line}
+        due = {f"  {key}: {now[key] or 'x'}, then {after[key]}" for key in moved}
+        expect(lines == due, f"IDs that change: {lines ^ due}")
+    check_h5py(name, values)
+    check_all(program, name, values)
+
+
+ADDED_ANYHOW = "new ones may get the IDs of removed ones"
+
+
+def check_removed(program, folder):
+    """Where HDF5 has removed the last attributes, those that are there keep their IDs, and none of the removed ones' is
+    given to another without --force."""
+    name = os.path.join(folder, "removed.h5")
+    values = {f"note {i:02}": b"a note " * i for i in range(20)} | {"long": bytes(60000)}
+    files = put(os.path.join(folder, "removed"), values)
+    late = os.path.join(folder, "late")
+    shutil.copy(files[1], late)
+    for last, count in ((20, 1), (20, 2), (20, 11), (21, 1), (21, 2), (21, 21)):
+        run([program, "deposit", "--force", name, *files[:last]])
+        with h5py.File(name, "r+") as file:
+            for key in list(values)[last - count : last]:
+                del file.attrs[key]
+        changed, before = whole_file(name), listed(program, name)
+        _, told = run([program, "deposit", "--add", name, late], 1)
+        expect(ADDED_ANYHOW in told and "--force adds" in told and whole_file(name) == changed, told)
+        _, told = run([program, "deposit", "--add", "--force", name, late])
+        expect(ADDED_ANYHOW in told, told)
+        expect(listed(program, name)[:-1] == before, "those that are there stay as they are")
+        due = {key: values[key] for key in list(values)[: last - count]} | {"late": whole_file(late)}
+        check_h5py(name, due)
+        run([program, "deposit", "--add", "--name", "later", name, late])  # it is ours again
+    shutil.rmtree(os.path.join(folder, "removed"))
+    os.remove(name)
+    os.remove(late)
+
+
+def is_locked(name):
+    """Whether h5py cannot change a file."""
+    try:
+        with h5py.File(name, "r+"):
+            return False
+    except OSError as error:
+        expect("unable to lock file" in str(error), f"h5py: {error}")
+        return True
+
+
+def check_held(program, folder):
+    """While h5py has the file open nothing is added, and while we add h5py cannot change it; and a file that is marked as
+    open for writing needs --force."""
+    name, late = os.path.join(folder, "held.h5"), os.path.join(folder, "late")
+    files = put(os.path.join(folder, "held"), {"a note": b"a note"})
+    for mode in ("r+", "r"):
+        run([program, "deposit", "--force", name, *files])
+        due = {"a note": b"a note"}
+        with h5py.File(name, mode) as file:
+            if mode == "r+":
+                file.attrs.create("new", numpy.frombuffer(b"new", "u1"))
+                due["new"] = b"new"
+            _, told = run([program, "deposit", "--add", "--force", "--name", "late", name, *files], 2)
+            expect("another program has it open, and has locked it" in told, told)
+        check_h5py(name, due)
+    os.mkfifo(late)
+    run([program, "deposit", "--force", name, *files])
+    adding = subprocess.Popen([program, "deposit", "--add", "-q", name, late], stdout=subprocess.DEVNULL)
+    with open(late, "wb") as opened:  # when the program comes to it
+        expect(is_locked(name), "h5py is refused while we add")
+        opened.write(b"late")
+    expect(adding.wait() == 0 and not is_locked(name), "an addition")
+    check_h5py(name, {"a note": b"a note", "late": b"late"})
+    data = bytearray(whole_file(name))
+    data[11] = 1
+    data[44:48] = little(form.lookup3(bytes(data[:44])), 4)
+    with open(name, "wb") as opened:
+        opened.write(data)
+    _, told = run([program, "deposit", "--add", "--name", "later", name, *files], 1)
+    expect("is marked as open for writing" in told and whole_file(name) == data, told)
+    run([program, "deposit", "--add", "--force", "--name", "later", name, *files])
+    check_h5py(name, {"a note": b"a note", "late": b"late", "later": b"a note"})
+    shutil.rmtree(os.path.join(folder, "held"))
+    os.remove(name)
+    os.remove(late)
+
+
+def check_other_types(program, folder):
+    """A message that lies whole in the heap is kept, whatever its type is, and h5py reads the value."""
+    name, late = os.path.join(folder, "types.h5"), os.path.join(folder, "late")
+    with open(late, "wb") as opened:
+        opened.write(b"late")
+    colours = h5py.enum_dtype({"red": 1, "green": 2}, basetype="<u2")
+    values = {"yes": True, "colour": numpy.array([2, 1], "<u2"), "opaque": numpy.void(b"opaque \xff")}
+    with h5py.File(name, "w", libver="latest") as file:
+        for i in range(9):
+            file.attrs[f"note {i}"] = i
+        for key, value in values.items():
+            file.attrs.create(key, value, dtype=colours if key == "colour" else None)
+    run([program, "deposit", "--add", "--force", name, late])
+    with h5py.File(name, "r") as file:
+        expect(len(file.attrs) == 13 and file.attrs["late"].tobytes() == b"late", "attributes of other types")
+        for key, value in values.items():
+            read = file.attrs[key]
+            expect(numpy.array(read).tobytes() == numpy.array(value).tobytes(), f"{key}: {read}")
+        expect(h5py.check_enum_dtype(file.attrs.get_id("colour").dtype) == {"red": 1, "green": 2}, "an enumeration")
+    os.remove(name)
+    os.remove(late)
+
+
+def check_shared(program, folder):
+    """Attributes whose messages HDF5 keeps in a heap for several objects: they are listed as not read, with status 0, and
+    without an ID or a place, which would be those of that heap."""
+    name, library = os.path.join(folder, "shared.h5"), ctypes.CDLL(h5p.__file__)
+    create, access = h5p.create(h5p.FILE_CREATE), h5p.create(h5p.FILE_ACCESS)
+    access.set_libver_bounds(h5f.LIBVER_LATEST, h5f.LIBVER_LATEST)
+    attributes = ctypes.c_uint(1 << 12)  # the flag of a message's type
+    ident = ctypes.c_int64(create.id)
+    expect(library.H5Pset_shared_mesg_nindexes(ident, 1) >= 0, "one index of shared messages")
+    expect(library.H5Pset_shared_mesg_index(ident, 0, attributes, 1) >= 0, "of attributes")
+    with h5py.File(h5f.create(name.encode(), h5f.ACC_TRUNC, create, access)) as file:
+        for i in range(12):
+            file.attrs[f"note {i}"] = numpy.arange(50)
+            file.require_group("a group").attrs[f"note {i}"] = numpy.arange(50)
+    lines = listed(program, name)
+    expect(len(lines) == 12, f"{len(lines)} shared attributes")
+    for line in lines:
+        nothing = [line[key] for key in ("name", "length", "offset", "id")]
+        expect(nothing == [None] * 4 and "its message is shared" in line["why"], f"a shared attribute: {line}")
+    printed, _ = run([program, "list", name])
+    expect(b"12 attributes of 0 bytes" in printed, printed)
+    _, told = run([program, "get", name, "note 1"], 1)
+    expect("its message is shared with other objects" in told, told)
+    os.remove(name)
+
+
+def check_not_added(program, folder):
+    """To a file that has more than attributes that can be kept nothing is added."""
+    name, late = os.path.join(folder, "more.h5"), os.path.join(folder, "late")
+    with open(late, "wb") as opened:
+        opened.write(b"late")
+
+    def refused(words, change, behind=b"", **options):
+        run([program, "deposit", "--force", name, late])
+        with h5py.File(name, **dict(dict(mode="r+"), **options)) as file:
+            change(file)
+        with open(name, "ab") as file:
+            file.write(behind)
+        data = whole_file(name)
+        _, told = run([program, "deposit", "--add", "--name", "later", "--force", name, late], 1)
+        expect(words in told and whole_file(name) == data, f"{words}: {told}")
+
+    refused("other objects, which its root group has links to", lambda file: file.create_group("a group"))
+    refused("other objects", lambda file: [file.create_group(f"group {i}") for i in range(40)], libver="latest")
+    refused("its value, of variable length, would be lost", lambda file: file.attrs.create("a", "text"))
+    refused("it is a compound of several values", lambda file: file.attrs.create("a", numpy.zeros(1, "i4, f8")))
+    refused("refused by 11", lambda file: [file.attrs.create(f"{i}", numpy.zeros(65500, "u1")) for i in range(9)])
+    refused("other objects", lambda file: None, mode="w")  # a symbol table
+    refused("a user block", lambda file: None, mode="w", userblock_size=512, libver="latest")
+    refused("more in its root group", lambda file: h5o.set_comment(file["/"].id, b"a comment"))
+    refused("bytes behind its end", lambda file: None, b"what another program keeps there")
+    kept = dict(mode="w", libver="latest", fs_strategy="fsm", fs_persist=True, fs_threshold=1)
+    refused("a superblock extension", lambda file: file.attrs.create("a", 7), **kept)
+    os.remove(name)
+    os.remove(late)
+
+
+def check_unknown(program, folder):
+    """A version of a datatype that the format did not have is told as not read, and is no damage; the one that it has for
+    its later references is read. HDF5 seals no object header of version 1, so that a byte can be changed."""
+    name = os.path.join(folder, "unknown.h5")
+    with h5py.File(name, "w", libver="earliest") as file:
+        file.attrs.create("a number", 7, dtype="<i4")
+        file.attrs.create("another", 8, dtype="<i4")
+    data = whole_file(name)
+    at = data.index(b"\x10\x08\0\0\x04\0\0\0", data.index(b"a number"))  # class and version, its bits, its size
+    for version, length, why in ((4, 4, None), (5, None, "the version of a datatype is 5, which is not known here")):
+        with open(name, "r+b") as file:
+            file.seek(at)
+            file.write(bytes([version << 4]))
+        lines = {line["name"]: line for line in listed(program, name)}
+        found = lines["a number"]
+        expect((found["length"], found.get("why")) == (length, why), f"version {version}: {found}")
+        expect(lines["another"]["length"] == 4, f"version {version}: {lines}")
+    given, told = run([program, "get", name, "a number"], 1)
+    expect(given == b"" and why in told, told)
+    given, _ = run([program, "get", name, "another"])
+    expect(given == little(8, 4), "an attribute beside one that is not known")
+    os.remove(name)
+
+
+def check_readme(program, folder):
+    """README's command with h5py prints what it says, of the file that README's first command makes."""
+    os.mkdir(os.path.join(folder, "out"))
+    files = put(os.path.join(folder, "readme"), {"postscript": b"a postscript"})
+    run([program, "deposit", os.path.join(folder, "out", "run.h5"), *files])
+    with open("README.md") as readme:
+        (line,) = [line.strip() for line in readme if "h5py.File('out/run.h5')" in line]
+    words = line.replace("python3", sys.executable, 1)
+    ended = subprocess.run(words, shell=True, cwd=folder, capture_output=True)
+    expect(ended.stdout == b"a postscript\n", f"README's {line}: {ended.stdout} {ended.stderr}")
+
+
+# Changed at random
+
+
+def small_files(program, folder, draw):
+    """Files of every structure that is read: deposited, changed by h5py since, and HDF5's own."""
+    names = [os.path.join(folder, f"small {i}.h5") for i in range(8)]
+    files = put(os.path.join(folder, "inputs"), some_values(draw, 40, [0, 1, 20, 60]))
+    run([program, "deposit", names[0], *files[:3]])
+    run([program, "deposit", "--track-order", names[1], *files])
+    for name, count in ((names[2], 20), (names[3], 4)):
+        run([program, "deposit", name, *files])
+        with h5py.File(name, "r+", libver="latest") as file:
+            for key in list(file.attrs)[count:]:
+                del file.attrs[key]
+            file.attrs["a str"] = "größe"
+            file.attrs["another"] = "text"
+            if count == 4:  # dense storage is made anew, with huge objects
+                for i in range(9):
+                    file.attrs.create(f"large {i}", numpy.zeros(5000 if i < 2 else 9, "u1"))
+    for name, words in zip(names[4:7], (dict(libver="earliest"), dict(userblock_size=512), dict(libver="latest"))):
+        with h5py.File(name, "w", **words) as file:
+            for i in range(12 if words.get("libver") == "latest" else 20):
+                file.attrs[f"note {i}"] = ["größe", numpy.float32(7), numpy.bytes_(b"text")][i % 3]
+    with created(names[7], 2, 4) as file:
+        for i in range(12):
+            file.attrs[f"note {i}"] = "größe" if i % 3 else 7
+    return names
+
+
+def check_changed_bytes(program, folder, seconds):
+    if not os.path.exists(FUZZ):
+        print("deposited files: changed bytes: skipped, the program that reads them is not built")
+        return
+    printed, _ = run([FUZZ, seconds, *small_files(program, folder, random.Random("small"))])
+    print(f"deposited files: changed bytes: {printed.decode().strip()}")
 
 
 # All of it
@@ -517,7 +866,7 @@ def deposits(program, folder):
             if text:  # some that can be strings, and some that cannot
                 for key in draw.sample(list(values), count // 2):
                     long = values[key].hex().encode()[:65000]
-                    values[key] = draw.choice([b"", b"a\0", b"\xff", "größe\n".encode() * 30, long])
+                    values[key] = draw.choice([b"", b"a\0", b"\xff", 'größe "\\\t\n'.encode() * 30, long])
             yield Deposit(program, folder, f"{number} {count} {order}", values, text, order), draw
     draw = random.Random("edges")
     values = {}  # as large as their names let them be, and one byte of each direct block's edge
@@ -540,37 +889,47 @@ def kind_of(dense):
 
 
 def main():
-    program, folder = sys.argv[1:]
+    program, folder, seconds = os.path.abspath(sys.argv[1]), *sys.argv[2:]
     tools = bool(shutil.which("h5dump") and shutil.which("h5debug"))
     counts, met = collections.Counter(), set()
-    for deposit, draw in deposits(os.path.abspath(program), folder):
+    for deposit, draw in deposits(program, folder):
         dense = check_format(deposit)
         check_h5py(deposit.name, deposit.values, deposit.order)
         if tools:
             check_h5dump(deposit)
             counts["places"] += check_debug(deposit, dense, draw) if dense else 0
-        check_reader(deposit.name, deposit.values, draw, counts, True)
-        counts["went on"] += check_going_on(deposit, draw, counts)
+        check_reader(program, deposit.name, deposit.values, draw, counts, True)
+        counts["went on"] += check_going_on(program, deposit, draw, counts)
         counts["files"] += 1
         counts["attributes"] += len(deposit.values)
         met.add(kind_of(dense))
         if dense:
             met.add(dense.trees[0].depth)
         os.remove(deposit.name)
+    expect(counts["huge"] > 0, "no huge object was read")
     for due in KINDS + [0, 1, 2, 3]:
         expect(due in met, f"no file with {due}")
-    check_own(folder, random.Random("own"), counts)
+    check_own(program, folder, random.Random("own"), counts)
+    check_folder(program, folder, random.Random("folder"))
+    for order in (False, True):
+        check_added(program, folder, random.Random(f"added {order}"), order, order)
+    check_not_added(program, folder)
+    check_removed(program, folder)
+    check_held(program, folder)
+    check_other_types(program, folder)
+    check_shared(program, folder)
+    check_unknown(program, folder)
+    check_readme(program, folder)
+    check_changed_bytes(program, folder, seconds)
     if not tools:
         print("deposited files: h5dump and h5debug: skipped, they are not at hand")
     if not is_known():
         print("deposited files: tried with HDF5 1.10, and here is another one")
-    if os.path.exists(READER):
-        print(
-            f"deposited files: the Rust crate reads {counts['read']} attributes there and in {counts['own files']} "
-            f"files that HDF5 alone wrote; of {counts['not read']} of other types and {counts['huge']} huge ones it says so"
-        )
-    else:
-        print("deposited files: reading by the Rust crate: skipped, its example is not built")
+    print(
+        f"deposited files: get and list read {counts['read']} attributes there and in {counts['own files']} files that HDF5 "
+        f"alone wrote, {counts['huge']} of them huge; of {counts['not read']} of other types they say so; a folder came back "
+        "as h5py left it; what was added was as if deposited at once"
+    )
     readers = "h5py and h5dump" if tools else "h5py"
     print(
         f"deposited files: {counts['files']} files of {counts['attributes']} attributes read by {readers}, held to the "

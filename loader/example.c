@@ -140,6 +140,20 @@ static void put_superblock(uint8_t *to, uint8_t version, uint8_t offset_size, ui
 typedef uint32_t call(const uint8_t *, size_t, uint64_t, uint8_t, uint8_t, const uint8_t *, size_t,
                       uint8_t *, size_t);
 
+/* The checked reader and what tells its stopping block, with the address that the blocks here have of their header. */
+static uint32_t checked(const uint8_t *bytes, size_t bytes_len, uint64_t at, uint8_t offset_size, uint8_t length_size,
+                        const uint8_t *id, size_t id_len, uint8_t *slot, size_t slot_len)
+{
+    return fractal_heap_read_managed_object(bytes, bytes_len, at, offset_size, length_size, AT, id, id_len, slot,
+                                            slot_len);
+}
+
+static uint32_t stopping_block(const uint8_t *bytes, size_t bytes_len, uint64_t at, uint8_t offset_size,
+                               uint8_t length_size, const uint8_t *id, size_t id_len, uint8_t *slot, size_t slot_len)
+{
+    return fractal_heap_stopping_block(bytes, bytes_len, at, offset_size, length_size, AT, id, id_len, slot, slot_len);
+}
+
 /* Calls with the first `len` bytes of the file and a slot of 16 bytes. */
 static uint32_t ask(call *function, size_t len, const uint8_t *id)
 {
@@ -171,10 +185,14 @@ static void accepted(const uint8_t *id)
     check(answers(ask(fractal_heap_decode_managed_id, FILE_LEN, id), FRACTAL_HEAP_OK, BLOCK_HEADER,
                   sizeof OBJECT),
           "the object's ID is the offset after the block's header, and the object's length");
-    check(answers(ask(fractal_heap_read_managed_object, FILE_LEN, id), FRACTAL_HEAP_OK,
-                  ROOT + BLOCK_HEADER, sizeof OBJECT),
+    check(answers(ask(checked, FILE_LEN, id), FRACTAL_HEAP_OK, ROOT + BLOCK_HEADER, sizeof OBJECT),
           "the object lies after the root block's header");
     check(memcmp(file + first, OBJECT, sizeof OBJECT) == 0, "its bytes are those that were put there");
+    check(answers(ask(fractal_heap_read_managed_object_unchecked, FILE_LEN, id), FRACTAL_HEAP_OK, ROOT + BLOCK_HEADER,
+                  sizeof OBJECT),
+          "so it is read unchecked");
+    check(answers(ask(stopping_block, FILE_LEN, id), FRACTAL_HEAP_OK, ROOT, 0),
+          "its block is the root, at heap offset 0");
 }
 
 static void refused(const uint8_t *id)
@@ -183,42 +201,93 @@ static void refused(const uint8_t *id)
     uint8_t huge[8];
     put_id(huge, BLOCK_HEADER, sizeof OBJECT);
     huge[0] = 0x10;
-    check(answers(ask(fractal_heap_read_managed_object, end - 1, id), FRACTAL_HEAP_UNEXPECTED_EOF,
-                  end, end - 1),
-          "a file cut in the object: 1 with its end and the bytes there are");
-    check(answers(ask(fractal_heap_read_managed_object, AT + 3, id), FRACTAL_HEAP_UNEXPECTED_EOF,
-                  AT + 5, AT + 3),
-          "a file cut in the header's signature: 1");
-    check(answers(ask(fractal_heap_read_managed_object, FILE_LEN, huge),
-                  FRACTAL_HEAP_INVALID_HEAP_ID_TYPE, 1, 0),
-          "an ID of a huge object: 6 with its type");
+    check(answers(ask(checked, end - 1, id), FRACTAL_HEAP_UNEXPECTED_EOF, FILE_LEN, end - 1),
+          "a file cut in the object: 1 with its block's end and the bytes there are");
+    check(answers(ask(fractal_heap_read_managed_object_unchecked, end - 1, id), FRACTAL_HEAP_UNEXPECTED_EOF, end,
+                  end - 1),
+          "unchecked: 1 with its own end");
+    check(answers(ask(checked, AT + 3, id), FRACTAL_HEAP_UNEXPECTED_EOF, AT + 5, AT + 3) &&
+              answers(ask(stopping_block, AT + 3, id), FRACTAL_HEAP_UNEXPECTED_EOF, AT + 5, AT + 3),
+          "a file cut in the header's signature: 1, and no block");
+    check(answers(ask(checked, FILE_LEN, huge), FRACTAL_HEAP_INVALID_HEAP_ID_TYPE, 1, 0) &&
+              answers(ask(stopping_block, FILE_LEN, huge), FRACTAL_HEAP_INVALID_HEAP_ID_TYPE, 1, 0),
+          "an ID of a huge object: 6 with its type, and no block");
 
     file[AT] ^= 1;
-    check(answers(ask(fractal_heap_read_managed_object, FILE_LEN, id),
-                  FRACTAL_HEAP_INVALID_SIGNATURE, 0, 0),
-          "another signature: 4");
+    check(answers(ask(checked, FILE_LEN, id), FRACTAL_HEAP_INVALID_SIGNATURE, 0, 0), "another signature: 4");
     file[AT] ^= 1;
 
     file[AT + 20] ^= 1;
-    check(answers(ask(fractal_heap_read_managed_object, FILE_LEN, id), FRACTAL_HEAP_CHECKSUM_MISMATCH,
-                  get(file + AT + HEADER - 4, 4), fractal_heap_checksum(file + AT, HEADER - 4)),
+    check(answers(ask(checked, FILE_LEN, id), FRACTAL_HEAP_CHECKSUM_MISMATCH, get(file + AT + HEADER - 4, 4),
+                  fractal_heap_checksum(file + AT, HEADER - 4)),
           "a flipped byte in the header: 7 with the stored and the computed checksum");
     file[AT + 20] ^= 1;
 }
 
-static void slots(const uint8_t *id)
+/* The checksum that the root must have, its own field taken as zero. */
+static uint32_t root_sum(void)
+{
+    static uint8_t block[START];
+    memcpy(block, file + ROOT, START);
+    memset(block + BLOCK_HEADER - 4, 0, 4);
+    return fractal_heap_checksum(block, START);
+}
+
+/* What the checked reader answers with one bit of the root changed, and that it is the root at which it stops. A
+ * refusal by 18 has the two checksums, whatever is due. */
+static int is_refused(const uint8_t *id, size_t place, uint32_t number, uint64_t due_first, uint64_t due_second)
+{
+    int holds;
+    file[ROOT + place] ^= 1;
+    if (number == FRACTAL_HEAP_BLOCK_CHECKSUM_MISMATCH) {
+        due_first = get(file + ROOT + BLOCK_HEADER - 4, 4);
+        due_second = root_sum();
+    }
+    holds = answers(ask(checked, FILE_LEN, id), number, due_first, due_second) &&
+            answers(ask(stopping_block, FILE_LEN, id), FRACTAL_HEAP_OK, ROOT, 0);
+    file[ROOT + place] ^= 1;
+    return holds;
+}
+
+/* A block is tested before anything of it is handed out. */
+static void damaged(const uint8_t *id)
+{
+    uint8_t slot[16], past[8];
+    size_t place;
+    int holds = 1;
+    check(is_refused(id, 3, FRACTAL_HEAP_INVALID_SIGNATURE, 0, 0), "another signature of the root: 4");
+    check(is_refused(id, 4, FRACTAL_HEAP_INVALID_VERSION, 1, 0), "another version: 5");
+    check(is_refused(id, 5, FRACTAL_HEAP_FOREIGN_BLOCK, AT ^ 1, AT),
+          "another header's address in it: 19 with that and the one that is wanted");
+    check(is_refused(id, 5 + WIDTH, FRACTAL_HEAP_FOREIGN_BLOCK, 1, 0), "another heap offset: 19");
+    for (place = BLOCK_HEADER - 4; place < START; place++)
+        holds = holds && is_refused(id, place, FRACTAL_HEAP_BLOCK_CHECKSUM_MISMATCH, 0, 0);
+    check(holds, "a bit changed in its checksum or anywhere behind it: 18 with the stored and the computed one");
+    file[ROOT + BLOCK_HEADER] ^= 1;
+    check(answers(ask(fractal_heap_read_managed_object_unchecked, FILE_LEN, id), FRACTAL_HEAP_OK, ROOT + BLOCK_HEADER,
+                  sizeof OBJECT) &&
+              file[first] == (OBJECT[0] ^ 1),
+          "unchecked, what was changed is handed out");
+    file[ROOT + BLOCK_HEADER] ^= 1;
+    check(fractal_heap_read_managed_object(file, FILE_LEN, AT, WIDTH, WIDTH, AT + 1, id, 8, slot, 16) ==
+                  FRACTAL_HEAP_FOREIGN_BLOCK &&
+              get(slot, 8) == AT && get(slot + 8, 8) == AT + 1,
+          "another address handed in: 19 with the stored one and that");
+    put_id(past, START - 1, 2);
+    check(answers(ask(checked, FILE_LEN, past), FRACTAL_HEAP_UNEXPECTED_EOF, START + 1, START),
+          "an object that ends past its block: 1 with its end in it and the block's size");
+}
+
+static void slots(call *function, const uint8_t *id, uint64_t due_first, uint64_t due_second)
 {
     uint8_t slot[24], before[24];
     for (int i = 0; i < 24; i++)
         slot[i] = before[i] = (uint8_t)(0xA0 + i);
-    check(fractal_heap_read_managed_object(file, FILE_LEN, AT, WIDTH, WIDTH, id, 8, slot, 15) ==
-                  FRACTAL_HEAP_SLICE_TOO_SHORT &&
+    check(function(file, FILE_LEN, AT, WIDTH, WIDTH, id, 8, slot, 15) == FRACTAL_HEAP_SLICE_TOO_SHORT &&
               memcmp(slot, before, 24) == 0,
           "a slot of 15 bytes: 13, and the slot is as it was");
-    check(fractal_heap_read_managed_object(file, FILE_LEN, AT, WIDTH, WIDTH, id, 8, slot, 24) ==
-                  FRACTAL_HEAP_OK &&
-              get(slot, 8) == ROOT + BLOCK_HEADER && get(slot + 8, 8) == sizeof OBJECT &&
-              memcmp(slot + 16, before + 16, 8) == 0,
+    check(function(file, FILE_LEN, AT, WIDTH, WIDTH, id, 8, slot, 24) == FRACTAL_HEAP_OK &&
+              get(slot, 8) == due_first && get(slot + 8, 8) == due_second && memcmp(slot + 16, before + 16, 8) == 0,
           "a slot of 24 bytes: the answer in 16, the rest as it was");
 }
 
@@ -274,7 +343,7 @@ static void user_block(const uint8_t *id)
     check(find(bytes, sizeof bytes) == FRACTAL_HEAP_OK && found.at == USER_BLOCK,
           "the superblock behind a user block of 512 bytes");
     check(fractal_heap_read_managed_object(bytes + found.at, sizeof bytes - found.at, AT, found.offset_size,
-                                           found.length_size, id, 8, slot, sizeof slot) == FRACTAL_HEAP_OK &&
+                                           found.length_size, AT, id, 8, slot, sizeof slot) == FRACTAL_HEAP_OK &&
               memcmp(bytes + found.at + get(slot, 8), OBJECT, sizeof OBJECT) == 0,
           "lent from its superblock on, the file gives the object");
 }
@@ -284,8 +353,7 @@ static void id_lengths(const uint8_t *id)
 {
     uint8_t slot[16];
     check(fractal_heap_id_length(file, FILE_LEN, AT) == 8, "the heap's IDs have 8 bytes");
-    check(fractal_heap_read_managed_object(file, FILE_LEN, AT, WIDTH, WIDTH, id, 3, slot, sizeof slot) ==
-                  FRACTAL_HEAP_OK &&
+    check(checked(file, FILE_LEN, AT, WIDTH, WIDTH, id, 3, slot, sizeof slot) == FRACTAL_HEAP_OK &&
               get(slot + 8, 8) == 0,
           "an ID of 3 bytes is no reason for a refusal: 0, and an object of no bytes");
     check(fractal_heap_id_length(file, AT + 7, AT) == 8 && fractal_heap_id_length(file, AT + 6, AT) == 0,
@@ -476,9 +544,13 @@ static void filtered_header(void)
                 get(slot, 8) == AT + LEN && get(slot + 8, 8) == (uint64_t)(AT + i);
     check(holds, "cut at each byte of these: 1 with the end of its checksum");
     put_id(id, due[FRACTAL_HEAP_ROOT_BLOCK_ADDRESS], 1);
-    check(fractal_heap_read_managed_object(bytes, sizeof bytes, AT, WIDTH, WIDTH, id, 8, slot, 16) ==
-              FRACTAL_HEAP_UNSUPPORTED_FILTERED_HEAP_OBJECT,
-          "an object of a filtered heap: 8");
+    check(checked(bytes, sizeof bytes, AT, WIDTH, WIDTH, id, 8, slot, 16) ==
+                  FRACTAL_HEAP_UNSUPPORTED_FILTERED_HEAP_OBJECT &&
+              stopping_block(bytes, sizeof bytes, AT, WIDTH, WIDTH, id, 8, slot, 16) ==
+                  FRACTAL_HEAP_UNSUPPORTED_FILTERED_HEAP_OBJECT &&
+              fractal_heap_read_managed_object_unchecked(bytes, sizeof bytes, AT, WIDTH, WIDTH, id, 8, slot, 16) ==
+                  FRACTAL_HEAP_UNSUPPORTED_FILTERED_HEAP_OBJECT,
+          "an object of a filtered heap: 8, and no block");
     header[LEN - 5] ^= 1;
     check(fractal_heap_parse_header(bytes, sizeof bytes, AT, WIDTH, WIDTH, fields, 26, slot, 16) ==
               FRACTAL_HEAP_CHECKSUM_MISMATCH,
@@ -780,7 +852,10 @@ int main(void)
     checksums();
     accepted(id);
     refused(id);
-    slots(id);
+    damaged(id);
+    slots(checked, id, ROOT + BLOCK_HEADER, sizeof OBJECT);
+    slots(fractal_heap_read_managed_object_unchecked, id, ROOT + BLOCK_HEADER, sizeof OBJECT);
+    slots(stopping_block, id, ROOT, 0);
     id_lengths(id);
     header_written();
     header_refused();
@@ -789,7 +864,9 @@ int main(void)
     superblocks();
     user_block(id);
     nulls(fractal_heap_decode_managed_id, id);
-    nulls(fractal_heap_read_managed_object, id);
+    nulls(checked, id);
+    nulls(fractal_heap_read_managed_object_unchecked, id);
+    nulls(stopping_block, id);
     layout();
     marked_bytes();
     plans();

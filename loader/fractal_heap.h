@@ -1,4 +1,4 @@
-/* The loader's interface to the fractal heap: the nine functions of the library fractal_heap_c
+/* The loader's interface to the fractal heap: the eleven functions of the library fractal_heap_c
  * (loader/static_libraries fractal_heap_c, target/staticlib/libfractal_heap_c.a), and three short ones that stand
  * here whole: where a file's superblock is, how long a heap's IDs are, and how long a header is.
  *
@@ -14,8 +14,10 @@
  *     if (id_len != fractal_heap_id_length(file, file_len, address))
  *         ... it is no ID of this heap ...
  *     if (fractal_heap_read_managed_object(file, file_len, address, found.offset_size, found.length_size,
- *                                          id, id_len, slot, 16) == FRACTAL_HEAP_OK)
+ *                                          address, id, id_len, slot, 16) == FRACTAL_HEAP_OK)
  *         ... the object begins at file + the first number in the slot ...
+ *
+ * The address stands there twice: it is where the header is, and what each block says that it is.
  *
  * loader/read_file.c is a whole program. */
 #ifndef FRACTAL_HEAP_H
@@ -30,9 +32,10 @@ extern "C" {
 #endif
 
 /* What the functions answer, but for the checksum and the length of IDs: 0, or why they refuse. Behind each number are
- * its two values, which go into the slot where a function takes one. Those that read give 0 to 10 and 13; an open plan
- * gives 0, 2 and 11 to 13, the writer of IDs 0, 13 and 16, that of headers 0, 2, 3, 8, 13 and 17; 14 and 15 are those
- * of writing a region, 20 is that of finding and counting slots, in the same table. */
+ * its two values, which go into the slot where a function takes one. Those that read give 0 to 10 and 13, the one that
+ * tests blocks never 9, but 18 and 19; an open plan gives 0, 2 and 11 to 13, the writer of IDs 0, 13 and 16, that of
+ * headers 0, 2, 3, 8, 13 and 17; 14 and 15 are those of writing a region, 20 is that of finding and counting slots, in
+ * the same table. */
 enum fractal_heap_number {
     FRACTAL_HEAP_OK = 0,                                /* the answer's own */
     FRACTAL_HEAP_UNEXPECTED_EOF = 1,                    /* expected end (at most 2^64 - 1), available */
@@ -52,6 +55,8 @@ enum fractal_heap_number {
     FRACTAL_HEAP_ADDRESS_TOO_LARGE = 15,                /* header address, 0; or region address, region size */
     FRACTAL_HEAP_HEAP_ID_TOO_LARGE = 16,                /* offset, length */
     FRACTAL_HEAP_HEADER_FIELD_TOO_LARGE = 17,           /* the field's place in header order, its value */
+    FRACTAL_HEAP_BLOCK_CHECKSUM_MISMATCH = 18,          /* stored, computed */
+    FRACTAL_HEAP_FOREIGN_BLOCK = 19,                    /* stored, wanted: the header's address, or the heap offset */
     FRACTAL_HEAP_OUTSIDE_HEAP = 20                      /* heap offset or number of rows, 0 */
 };
 
@@ -109,7 +114,7 @@ static inline size_t fractal_heap_id_length(const uint8_t *file, size_t file_len
 /* Jenkins' lookup3 (hashlittle, initial value 0), the checksum of HDF5's metadata. */
 uint32_t fractal_heap_checksum(const uint8_t *bytes, size_t bytes_len);
 
-/* The two functions below parse the heap header at `at` in the file first: that is the heap's address in HDF5,
+/* The four functions below parse the heap header at `at` in the file first: that is the heap's address in HDF5,
  * where the file that is lent begins at its superblock. offset_size and length_size are the superblock's
  * (2, 4 or 8). They return 0, or the number of a refusal.
  *
@@ -127,18 +132,60 @@ uint32_t fractal_heap_decode_managed_id(const uint8_t *file, size_t file_len, ui
                                         const uint8_t *id, size_t id_len,
                                         uint8_t *slot, size_t slot_len);
 
-/* The answer is the object's position in the file that is lent and its length; all of it lies in that file. */
+/* CHANGED: heap_header_address is new, before the ID. A program that was compiled when this function had nine arguments
+ * links all the same, and then lends its ID's pointer as the address, the ID's length as the ID, and so on: compile
+ * every caller anew. Whoever wants what this function did then calls fractal_heap_read_managed_object_unchecked, which
+ * has those nine arguments.
+ *
+ * Reads by an ID, and tests every block on the way. The answer is the object's position in the file that is lent and
+ * its length; all of it lies in its block, and the block in that file. heap_header_address is what each block says of
+ * where its header is: `at`, in a file that is lent from its superblock on; another number where blocks and header were
+ * carried elsewhere since they were written.
+ *
+ * Refused are, in this order, a header, a filtered heap (8), an ID (1 where it is empty, 6), a heap without a root
+ * block (1), and then each block from the root down, before it is read:
+ *    1  a direct block smaller than its own header: the header's length, the block's size; a block that ends past the
+ *       file: the block's end, the file's length
+ *    4  a block that does not begin with FHIB or FHDB, whichever is due
+ *    5  a block of another version than 0: the version
+ *   19  a block of another header, then one of another place in the heap: the number that is stored, the one wanted
+ *   18  a block with a bit changed: the checksum that is stored, and that of its bytes. A direct block has a checksum
+ *       where the bit of value 2 is set in the header's flags; without it only its header is tested, and nobody sees
+ *       what was changed behind that
+ *    1  behind a direct block, an object that ends past it: where it ends in the block, the block's size; behind an
+ *       indirect one that has no block at the ID's place: the object's end in the heap, the file's length
+ *   10  behind 64 indirect blocks, an indirect one more: it is not tested
+ * An object that begins in its block's header, or has no bytes, is not refused for that. */
 uint32_t fractal_heap_read_managed_object(const uint8_t *file, size_t file_len, uint64_t at,
                                           uint8_t offset_size, uint8_t length_size,
+                                          uint64_t heap_header_address,
                                           const uint8_t *id, size_t id_len,
                                           uint8_t *slot, size_t slot_len);
+
+/* Reads by an ID, and of the blocks tests nothing but an indirect one's signature: what is handed out may be wrong bytes
+ * where the file is damaged, and lies in the file, but perhaps in no block. For whoever repairs such a file, and for blocks
+ * whose checksums were never put in. The answer is the object's position in the file that is lent and its length. */
+uint32_t fractal_heap_read_managed_object_unchecked(const uint8_t *file, size_t file_len, uint64_t at,
+                                                    uint8_t offset_size, uint8_t length_size,
+                                                    const uint8_t *id, size_t id_len,
+                                                    uint8_t *slot, size_t slot_len);
+
+/* The block at which fractal_heap_read_managed_object stops that is lent the same: the one that it refuses; the direct
+ * block, where it finds the object or refuses it; the indirect block that has no block at the ID's place; and of a read
+ * that is refused for its depth (10) the 64th block, the last that was tested. Returns 0, with the block's address and
+ * its heap offset in the slot; or what the read is refused by, with its two numbers, where that is before any block. */
+uint32_t fractal_heap_stopping_block(const uint8_t *file, size_t file_len, uint64_t at,
+                                     uint8_t offset_size, uint8_t length_size,
+                                     uint64_t heap_header_address,
+                                     const uint8_t *id, size_t id_len,
+                                     uint8_t *slot, size_t slot_len);
 
 enum {
     FRACTAL_HEAP_HEADER_FIELDS = 23,    /* 64-bit numbers that the fields of every header are */
     FRACTAL_HEAP_HEADER_NUMBERS = 26    /* with the three that are told of the filters */
 };
 
-/* What the heap header at `at` in the file says, as the two functions above find it. The fields that every header has
+/* What the heap header at `at` in the file says, as the four functions above find it. The fields that every header has
  * between version and checksum go into the first 23 places of the list, in header order, and into the next three what
  * is told of the filters; the order is that of enum fractal_heap_field below. Places behind these 26 keep their content,
  * and two zeros go into the slot. An address is told as it is stored, undefined where all its offset_size bytes are

@@ -253,6 +253,9 @@ def key_and_id(kind, record):
     return int.from_bytes(key, "little"), heap_id
 
 
+Block = collections.namedtuple("Block", "signature address offset size")  # on a way: its place, heap offset, bytes
+
+
 Filter = collections.namedtuple("Filter", "number flags name values")
 UNDO = {1: zlib.decompress, 3: lambda stored: stored[:-4]}  # deflate; fletcher32, whose sum is behind the bytes
 
@@ -370,10 +373,13 @@ class Heap:
                     yield from self._indirect(child, offset, self.child_rows(size), above)
                 offset += size
 
+    def has_sums(self):
+        """Whether direct blocks have checksums."""
+        return bool(self.flags & 2)
+
     def direct_header(self):
         """Bytes of a direct block's header."""
-        expect(self.flags & 2, "direct blocks without checksums")
-        return 9 + self.image.offset_size + (self.bits + 7) // 8
+        return (9 if self.has_sums() else 5) + self.image.offset_size + (self.bits + 7) // 8
 
     def indirect_size(self, rows):
         """Bytes of an indirect block."""
@@ -405,6 +411,13 @@ class Heap:
     def block(self, offset):
         """The direct block that holds a heap offset."""
         return self.blocks[bisect.bisect(self.blocks, (offset, 1 << 64)) - 1]
+
+    def way(self, offset):
+        """The blocks on the way to a heap offset, the root first."""
+        start, size, address, above = self.block(offset)
+        rows = {address: (start, rows) for address, start, rows, _ in self.indirects}
+        found = [Block(b"FHIB", at, rows[at][0], self.indirect_size(rows[at][1])) for at in above]
+        return found + [Block(b"FHDB", address, start, size)]
 
     def position(self, offset, length):
         """Where in the file the bytes from a heap offset on lie."""

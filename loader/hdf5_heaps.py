@@ -106,6 +106,17 @@ class OwnHeap:
         expect(self.library.H5HF_read(self.heap, heap_id, found) >= 0, f"HDF5's reading by {heap_id.hex()}")
         return found.raw
 
+    def read_or_none(self, heap_id, length):
+        """What HDF5 reads by an ID whose object has so many bytes; None where it refuses."""
+        found = ctypes.create_string_buffer(max(length, 1))
+        read = self.library.H5HF_read(self.heap, heap_id, found) >= 0
+        return found.raw[:length] if read else None
+
+    def opened(self, name):
+        """The heap in another file, at the same address, opened by HDF5; nothing where it refuses the header."""
+        self.heap = self.library.H5HF_open(self._in(h5py.File(name, "r")), self.address)
+        return self.heap
+
     def kept(self):
         """The heap in its file, which is left."""
         self.library.H5HF_close(self.heap)

@@ -1,4 +1,4 @@
-/* Prints managed objects of a heap in an HDF5 file, which may have a user block.
+/* Prints managed objects of a heap in an HDF5 file, which may have a user block. Of a damaged one it says at which block.
  *   read_file FILE ADDRESS ID...
  * ADDRESS is that of the heap's header, in decimal as HDF5's tools tell it; an ID is hexadecimal digits, two a byte. */
 #include "files.h"
@@ -44,16 +44,28 @@ static uint8_t *id_of(struct heap heap, const char *hex, size_t *len)
     return id;
 }
 
+/* Says by what an object is refused, with its two numbers, and at which block, if it is at one. */
+static void tell_refusal(struct heap heap, const uint8_t *id, size_t id_len, uint32_t number, const uint8_t *numbers)
+{
+    uint8_t slot[16];
+    fprintf(stderr, "refused by %" PRIu32 ": %" PRIu64 ", %" PRIu64, number, number_at(numbers), number_at(numbers + 8));
+    if (fractal_heap_stopping_block(heap.file, heap.file_len, heap.address, heap.offset_size, heap.length_size,
+                                    heap.address, id, id_len, slot, sizeof slot) == FRACTAL_HEAP_OK)
+        fprintf(stderr, "; the block at address %" PRIu64 ", heap offset %" PRIu64, number_at(slot), number_at(slot + 8));
+    fprintf(stderr, "\n");
+}
+
 static void print_object(struct heap heap, const char *hex)
 {
     size_t id_len;
     uint8_t *id = id_of(heap, hex, &id_len), slot[16];
+    /* The blocks of a file that is as HDF5 wrote it have the heap's address. */
     uint32_t number =
         fractal_heap_read_managed_object(heap.file, heap.file_len, heap.address, heap.offset_size,
-                                         heap.length_size, id, id_len, slot, sizeof slot);
+                                         heap.length_size, heap.address, id, id_len, slot, sizeof slot);
     uint64_t first = number_at(slot), second = number_at(slot + 8);
     if (number != FRACTAL_HEAP_OK) {
-        fprintf(stderr, "refused by %" PRIu32 ": %" PRIu64 ", %" PRIu64 "\n", number, first, second);
+        tell_refusal(heap, id, id_len, number, slot);
         exit(1);
     }
     /* The position counts from the superblock, as the address does. */

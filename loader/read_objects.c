@@ -1,10 +1,11 @@
 /* Reads managed objects of a file through the C functions, for real_files.py.
- *   read_objects FILE [decode | header]
+ *   read_objects FILE [decode | header | all]
  * A line of input is `at offset_size length_size id`, the ID in hexadecimal; the line of output that
- * answers it is `number first second`: the object's position and length, or a refusal. With `decode` it
- * is the ID alone that is decoded. With `header` the ID is not looked at, and behind a number that is 0
- * come the numbers of the header. The file, each ID, each slot and each list lie in memory of exactly their
- * size. */
+ * answers it is `number first second`: the object's position and length, or a refusal. The blocks are held to `at` as
+ * their header's address. With `all` the line goes on with two answers more: that of reading without tests of the blocks,
+ * and the block at which the read ends, by its address and its heap offset. With `decode` it is the ID alone that is
+ * decoded. With `header` the ID is not looked at, and behind a number that is 0 come the numbers of the header. The file, each ID, each slot and each list
+ * lie in memory of exactly their size. */
 #include "files.h"
 #include "fractal_heap.h"
 
@@ -37,30 +38,79 @@ static void tell_header(const uint8_t *file, size_t file_len, uint64_t at, uint8
     free(slot);
 }
 
+/* Where lines of input are read and answered. */
+struct asked {
+    const uint8_t *file;
+    size_t file_len;
+    uint64_t at;
+    uint8_t offset_size, length_size;
+};
+
+/* The answers for an ID: each has its number, and its two numbers in a slot of 16 bytes. */
+static uint32_t decoded(struct asked a, const uint8_t *id, size_t id_len, uint8_t *slot)
+{
+    return fractal_heap_decode_managed_id(a.file, a.file_len, a.at, a.offset_size, a.length_size, id, id_len, slot, 16);
+}
+
+static uint32_t checked(struct asked a, const uint8_t *id, size_t id_len, uint8_t *slot)
+{
+    return fractal_heap_read_managed_object(a.file, a.file_len, a.at, a.offset_size, a.length_size, a.at, id, id_len,
+                                            slot, 16);
+}
+
+static uint32_t unchecked(struct asked a, const uint8_t *id, size_t id_len, uint8_t *slot)
+{
+    return fractal_heap_read_managed_object_unchecked(a.file, a.file_len, a.at, a.offset_size, a.length_size, id, id_len,
+                                                      slot, 16);
+}
+
+static uint32_t stopping_block(struct asked a, const uint8_t *id, size_t id_len, uint8_t *slot)
+{
+    return fractal_heap_stopping_block(a.file, a.file_len, a.at, a.offset_size, a.length_size, a.at, id, id_len, slot,
+                                       16);
+}
+
+typedef uint32_t answer(struct asked, const uint8_t *, size_t, uint8_t *);
+
+static void tell(struct asked a, answer *function, const uint8_t *id, size_t id_len, const char *end)
+{
+    uint8_t *slot = memory(16);
+    uint32_t number = function(a, id, id_len, slot);
+    printf("%" PRIu32 " %" PRIu64 " %" PRIu64 "%s", number, number_at(slot), number_at(slot + 8), end);
+    free(slot);
+}
+
+static void tell_object(struct asked a, const char *what, const char *hex)
+{
+    size_t id_len;
+    uint8_t *id = bytes_of(hex, &id_len);
+    int all = !strcmp(what, "all");
+    tell(a, !strcmp(what, "decode") ? decoded : checked, id, id_len, all ? " " : "\n");
+    if (all) {
+        tell(a, unchecked, id, id_len, " ");
+        tell(a, stopping_block, id, id_len, "\n");
+    }
+    free(id);
+}
+
 int main(int words, char **word)
 {
-    size_t file_len, id_len;
-    uint64_t at;
+    struct asked asked;
     unsigned offset_size, length_size;
     char hex[256];
-    if (words < 2 || words > 3 || (words == 3 && strcmp(word[2], "decode") && strcmp(word[2], "header")))
-        give_up("read_objects FILE [decode | header]");
-    uint8_t *file = whole_file(word[1], &file_len);
-    while (scanf("%" SCNu64 " %u %u %255s", &at, &offset_size, &length_size, hex) == 4) {
-        if (words == 3 && !strcmp(word[2], "header")) {
-            tell_header(file, file_len, at, (uint8_t)offset_size, (uint8_t)length_size);
-            continue;
-        }
-        uint8_t *id = bytes_of(hex, &id_len), *slot = memory(16);
-        uint32_t number =
-            words == 3
-                ? fractal_heap_decode_managed_id(file, file_len, at, (uint8_t)offset_size,
-                                                 (uint8_t)length_size, id, id_len, slot, 16)
-                : fractal_heap_read_managed_object(file, file_len, at, (uint8_t)offset_size,
-                                                   (uint8_t)length_size, id, id_len, slot, 16);
-        printf("%" PRIu32 " %" PRIu64 " %" PRIu64 "\n", number, number_at(slot), number_at(slot + 8));
-        free(id);
-        free(slot);
+    if (words < 2 || words > 3 ||
+        (words == 3 && strcmp(word[2], "decode") && strcmp(word[2], "header") && strcmp(word[2], "all")))
+        give_up("read_objects FILE [decode | header | all]");
+    const char *what = words == 3 ? word[2] : "read";
+    uint8_t *file = whole_file(word[1], &asked.file_len);
+    asked.file = file;
+    while (scanf("%" SCNu64 " %u %u %255s", &asked.at, &offset_size, &length_size, hex) == 4) {
+        asked.offset_size = (uint8_t)offset_size;
+        asked.length_size = (uint8_t)length_size;
+        if (!strcmp(what, "header"))
+            tell_header(file, asked.file_len, asked.at, asked.offset_size, asked.length_size);
+        else
+            tell_object(asked, what, hex);
     }
     if (!feof(stdin))
         give_up("a line is not four words");

@@ -17,13 +17,14 @@ import h5py
 import numpy
 from h5py import h5f, h5o, h5p
 
+import checked_files
 import filtered_files
 import h5debug
 import hdf5_format as form
 import hdf5_heaps
 import long_ids
-from asked import COMMAND, ask, told_headers, told_of
-from damaged_copies import check_copies, damaged_headers
+from asked import COMMAND, ask, ask_all, told_headers, told_of
+from damaged_copies import check_copies, checked_answers, damaged_headers
 from hdf5_format import expect
 from hdf5_messages import due_messages
 from made_files import WIDTHS, created, is_known, some_size, some_value
@@ -115,17 +116,21 @@ def kind_of(heap):
     return KINDS[min(heap.depth, 2) + 1]
 
 
-def check_object(heap, heap_id, due, read, decoded):
-    """Holds both answers for an ID to the format, and the bytes there to the message that is due."""
+def check_object(heap, heap_id, due, decoded, read, unchecked, block):
+    """Holds all answers for an ID to the format, and the bytes there to the message that is due: each object is accepted
+    by both readers."""
     expect(len(heap_id) == heap.id_length, "length of an ID")
     kind = heap_id[0] >> 4 & 3
     if kind != 0:
-        expect(read == decoded == (6, kind, 0), f"{read}, {decoded} for an ID of type {kind}")
+        answers = [decoded, read, unchecked, block]
+        expect(answers == [(6, kind, 0)] * 4, f"{answers} for an ID of type {kind}")
         return
     offset, length = heap.decode(heap_id)
     expect(decoded == (0, offset, length), f"{decoded}, not {offset}, {length}")
     place = heap.position(offset, length)
-    expect(read == (0, place, length), f"{read}, not {place}, {length}")
+    expect(read == unchecked == (0, place, length), f"{read}, {unchecked}, not {place}, {length}")
+    last = heap.way(offset)[-1]
+    expect(block == (0, last.address, last.offset), f"{block}, not {last}")
     number, place, length = read
     expect(heap.image.data[place : place + length] == due, f"bytes of {heap_id.hex()}")
 
@@ -144,10 +149,10 @@ def check_index(program, name, heap, tree, due, counts):
     """Every ID of an index, whose keys must be those of the messages; returns the IDs."""
     keys, ids = zip(*(form.key_and_id(tree.kind, record) for record in tree.records))
     expect(sorted(keys) == sorted(due), "keys of an index")
-    read = ask(program, name, heap.image, heap.address, ids)
     decoded = ask(program, name, heap.image, heap.address, ids, "decode")
-    for key, heap_id, *answers in zip(keys, ids, read, decoded):
-        check_object(heap, heap_id, due[key], *answers)
+    read = ask_all(program, name, heap.image, heap.address, ids)
+    for key, heap_id, answer, answers in zip(keys, ids, decoded, read):
+        check_object(heap, heap_id, due[key], answer, *answers)
     for key, heap_id in list(zip(keys, ids))[:5] if os.path.exists(COMMAND) else []:
         check_command(name, [str(heap.address)], heap_id, due[key])
         counts["command"] += 1
@@ -275,6 +280,24 @@ def check_example(program, name, heap, objects):
     expect((run.returncode, run.stdout) == (1, b"") and b"the heap's IDs" in run.stderr, f"a short ID: {run}")
 
 
+def check_named_blocks(program, name, heap, heap_id):
+    """A block on the way to an object with a byte changed: an example prints nothing, and names the block by its address
+    and its heap offset. Returns how many blocks there are."""
+    with open(name, "rb") as opened:
+        data = opened.read()
+    base, changed, way = len(data) - len(heap.image.data), name + ".changed", heap.way(heap.decode(heap_id)[0])
+    for block in way:
+        copy = bytearray(data)
+        copy[base + block.address + block.size - 1] ^= 1
+        with open(changed, "wb") as opened:
+            opened.write(copy)
+        run = subprocess.run([program, changed, str(heap.address), heap_id.hex()], capture_output=True)
+        named = f"; the block at address {block.address}, heap offset {block.offset}\n".encode()
+        expect((run.returncode, run.stdout) == (1, b"") and run.stderr.endswith(named), f"not {named}: {run}")
+    os.remove(changed)
+    return len(way)
+
+
 def check_behind(programs, name, block, image, owner, kind, counts):
     """Every link or attribute of an object, by the examples and by the command."""
     address, trees = form.dense_storage(image, h5o.get_info(owner).addr, kind)
@@ -285,6 +308,7 @@ def check_behind(programs, name, block, image, owner, kind, counts):
     for language, program in programs.items():
         check_example(program, name, heap, objects)
         counts[f"behind in {language}"] += len(objects)
+        counts[f"named in {language}"] += check_named_blocks(program, name, heap, objects[-1][0])
     for heap_id, due in objects if os.path.exists(COMMAND) else []:
         check_command_behind(name, block, heap, heap_id, due)
         counts["behind"] += 1
@@ -375,22 +399,51 @@ def check_mistyped(program, programs, folder):
 # Damaged copies
 
 
-def damaged_blocks(heap, heap_id):
-    """Copies with the signature of a block above the object flipped or cut, or the object cut."""
-    data = heap.image.data
+def unchecked_answer(heap, heap_id, data):
+    """What the unchecked reader has to answer: of an indirect block it looks for the signature, and reads its entries up to
+    the one that leads on; none of these is damaged here."""
     offset, length = heap.decode(heap_id)
+    for block in heap.way(offset)[:-1]:
+        if block.address + 4 > len(data):
+            return 1, block.address + 4, len(data)
+        if data[block.address : block.address + 4] != block.signature:
+            return 4, 0, 0
     place = heap.position(offset, length)
+    return (0, place, length) if place + length <= len(data) else (1, place + length, len(data))
+
+
+def changed_blocks(heap, heap_id):
+    """Copies with a bit of the signature or of the last byte of a block on the way to an object changed."""
+    for block in heap.way(heap.decode(heap_id)[0]):
+        for place in (3, block.size - 1):
+            copy = bytearray(heap.image.data)
+            copy[block.address + place] ^= 1
+            yield copy
+
+
+def cut_files(heap, heap_id):
+    """Copies cut in the blocks on the way and in the object, behind all that is read before."""
+    data = heap.image.data
+    place, length = heap.position(*heap.decode(heap_id)), heap.decode(heap_id)[1]
     needed = heap.address + heap.length  # where all ends that is read before
-    for address in heap.block(offset)[3]:
-        copy = bytearray(data)
-        copy[address + 3] ^= 1
-        yield copy, (4, 0, 0)
-        if address >= needed:
-            yield data[: address + 3], (1, address + 4, address + 3)
-        needed = max(needed, address + 1024)  # more than an indirect block has
-    for end in (place, place + 1, place + length - 1):
-        if end >= needed:
-            yield data[:end], (1, place + length, end)
+    for block in heap.way(heap.decode(heap_id)[0]):
+        ends = [block.address, block.address + 3, block.address + block.size - 1]
+        ends += [place, place + 1, place + length - 1] if block.signature == b"FHDB" else []
+        yield from (data[:end] for end in ends if end >= needed and is_cut_plainly(heap, block, end))
+        needed = max(needed, block.address + block.size)
+
+
+def is_cut_plainly(heap, block, end):
+    """Not between an indirect block's signature and the entry that leads on, where the unchecked reader has an end of its
+    own."""
+    return block.signature == b"FHDB" or end <= block.address + 4
+
+
+def damaged_blocks(heap, heap_id):
+    """Copies damaged in the blocks on the way to an object, or cut, each with what the readers have to answer."""
+    for copy in itertools.chain(changed_blocks(heap, heap_id), cut_files(heap, heap_id)):
+        read, block = checked_answers(heap, heap_id, bytes(copy))
+        yield copy, (read, unchecked_answer(heap, heap_id, copy), block)
 
 
 def check_damage(program, folder, heaps):
@@ -424,9 +477,10 @@ def report(counts, numbers, filtered, own):
     print(f"real files: headers written back as they were read: {counts['headers written back']}, byte for byte")
     commanded = f"{counts['command']} objects, {counts['behind']} behind user blocks"
     print(f"real files: read by the command: {commanded if counts['command'] else 'skipped, it is not built'}")
-    rust = f"{counts['behind in Rust']}" if counts["behind in Rust"] else "skipped, there is no cargo"
-    print(f"real files: behind user blocks: from C: {counts['behind in C']} objects")
-    print(f"real files: behind user blocks: from Rust: {rust}")
+    for language in ("C", "Rust"):
+        behind = f"{counts[f'behind in {language}']} objects, {counts[f'named in {language}']} damaged blocks named"
+        told = behind if counts[f"behind in {language}"] else "skipped, there is no cargo"
+        print(f"real files: behind user blocks: from {language}: {told}")
     print(f"real files: mistyped, or printed to a full disk: {counts['mistyped']} calls end with a sentence and 1")
     for line in own:
         print(f"real files: {line}")
@@ -455,7 +509,8 @@ def main():
     check_user_blocks(programs, folder, counts)
     counts["mistyped"] = check_mistyped(program, programs, folder)
     filtered = filtered_files.check(program, folder, counts)
-    report(counts, numbers, filtered, [hdf5_heaps.check(folder), long_ids.check(program, folder)])
+    own = [hdf5_heaps.check(folder), long_ids.check(program, folder), *checked_files.check(program, folder)]
+    report(counts, numbers, filtered, own)
 
 
 main()

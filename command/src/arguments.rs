@@ -18,6 +18,9 @@ const PROGRAM: &str = "PROGRAM";
 const EXAMPLES: &str = "\
 Examples, one after another:
   printf 'gauge 7 was replaced at noon' >note
+  PROGRAM deposit a.h5 note
+  PROGRAM list a.h5
+  PROGRAM get a.h5 note
   PROGRAM write --map --out heap.image note
   PROGRAM read heap.image 0 00:16:00:00:00:00:1C:00
   PROGRAM explain 1 5120 4096
@@ -40,13 +43,27 @@ A heap for a file of your own comes from write.
 Each object's ID is printed when its file has been read, before the next one is; it
 stays the object's ID whatever follows. The object is HDF5's message of the attribute,
 with name, type and space first, and then the file's bytes: read prints it whole. It has
-at most 65,514 bytes, so that a file has at most 65,480 less those of its name.
+at most 65,514 bytes, so that a file has at most 65,480 less those of its name, or as a
+text 65,492 less those.
 
 Names are UTF-8, and no two are alike. Their order is that of the heap offsets; with
 --track-order HDF5 knows it, too, so that h5py lists them in the order of deposit.
 
+With --add the attributes of RUN.h5 are read and tested, and a new file with them and the
+new ones behind them takes its place. Their IDs stay, and those that are printed are of the
+new ones. Where HDF5 has changed RUN.h5 since, IDs may change, or those of attributes that
+it removed be given to new ones: then nothing is written, but with --force, and it is told.
+A file that has more than attributes is refused, as one is that another program has open:
+HDF5 locks it, and so does --add.
+
+A file that is replaced gives its mode to the new one, and its owner where root replaces it;
+its access lists and extended attributes are lost, and other hard links keep the old file.
+With --force one that is write-protected is replaced, too, since its folder alone has to be
+writable for that; --add leaves such a file without --force.
+
 RUN.h5 appears whole or not at all, and all objects are read back before, as with write,
-whose help says what stays behind of a program that is killed.
+whose help says what stays behind of a program that is killed. get gives a file back by
+its name, and list tells what there is.
 
 Examples, one after another:
   printf 'gauge 7 was replaced at noon' >note
@@ -54,10 +71,51 @@ Examples, one after another:
   PROGRAM deposit --force --text --map run.h5 note
   date | PROGRAM deposit --name 'the date' date.h5 -
   printf 'note\\0' | PROGRAM deposit --json --files0-from - list.h5
+  date | PROGRAM deposit --add --name 'the date' run.h5 -
 
 Then, with HDF5's tools and h5py:
   h5dump run.h5
   python3 -c \"import h5py; print(h5py.File('run.h5').attrs['note'].tobytes())\"";
+
+const GET_MORE: &str = "\
+An attribute's bytes are those of its value as the file has them: of what deposit put in
+the file that it came from; of HDF5's numbers, lists and strings of fixed length their raw
+bytes; of one string of variable length, as h5py writes a str, its text. Of any other type
+there are none, which is said in words. The file may have been changed by HDF5, or be its
+own, with a superblock of version 0 to 3. Every checksum on the way to what is given is
+tested; a huge object and a text of variable length have none.
+
+All that are named are found before the first is printed. With --out-dir a file has the
+attribute's name, and one that no file can have, with a slash, say, is not written: get
+prints it. With --all the others are written, and what is not is told. Each file appears
+whole or not at all; no file is replaced without --force.
+
+The ID is the one that deposit printed. Where the attribute was removed since, it is not
+found, even where its bytes are still there: read has those.
+
+Examples, one after another:
+  printf 'gauge 7 was replaced at noon' >note
+  PROGRAM deposit shift.h5 note
+  PROGRAM get shift.h5 note
+  PROGRAM get --hex --id 00:16:00:00:00:00:42:00 shift.h5
+  PROGRAM get --all --out-dir shift shift.h5";
+
+const LIST_MORE: &str = "\
+The attributes are in the order of deposit, which is that of their heap offsets; where the
+file tracks order, in that of their numbers. Those without an ID lie in the object header,
+where HDF5 puts them when few are left; those without a heap offset are there, or huge
+objects, with a place of their own in the file. A length is that of the bytes that get
+gives; where it gives none, it is said why, and where that is damage, the exit status is 1.
+
+--json has of each its name, length, id, offset and order (its number where order is
+tracked), null where there is none, and why where the bytes are not read; of a name that
+is no UTF-8 the bytes as name_hex, too.
+
+Examples, one after another:
+  printf 'gauge 7 was replaced at noon' >note
+  PROGRAM deposit day.h5 note
+  PROGRAM list day.h5
+  PROGRAM list --json day.h5";
 
 const WRITE_MORE: &str = "\
 Each object's ID is printed when its file has been read, before the next one is; it
@@ -168,8 +226,15 @@ Examples:
   PROGRAM explain 7";
 
 const READ_MORE: &str = "\
-The blocks of the heap are not checked: a damaged block gives its damaged bytes. Managed
-objects of a filtered heap are not read: its blocks are as its filters left them.
+Every block on the way to an object is tested before anything is printed: its signature,
+its version, the address of its heap's header, its heap offset, its checksum. One that is
+damaged, or another heap's, is named with what was found and what was wanted. Of a heap
+whose direct blocks have no checksums (header says so) a change behind a block's header
+is not seen. Where blocks and header were carried elsewhere since they were written,
+--header-address says what address the blocks still have of it. --unchecked reads without
+these tests: a damaged block gives its damaged bytes.
+
+Managed objects of a filtered heap are not read: its blocks are as its filters left them.
 
 In a file with a superblock PLACE is still a position in the file. Addresses that
 HDF5's tools print count from the superblock, which is behind the user block where
@@ -210,7 +275,7 @@ With such a file, which h5py makes:
     numpy.bytes_(f'gauge {i} was replaced at noon')) for i in range(9)]\"
   PROGRAM read --hex gauges.h5 606 00:16:00:00:00:00:38:00";
 
-/// A proved fractal heap: files as objects of an HDF5 heap, and objects by their IDs.
+/// A proved fractal heap: files into an HDF5 file and back by their names, files as objects of a heap and back by IDs.
 #[derive(Parser)]
 #[command(name = "poilures", version = VERSION, after_help = EXAMPLES)]
 #[command(subcommand_required = true, arg_required_else_help = true)]
@@ -222,6 +287,8 @@ pub struct Arguments {
 #[derive(Subcommand)]
 pub enum Subcommands {
     Deposit(Deposit),
+    Get(Get),
+    List(List),
     Write(Write),
     Read(Read),
     Header(Header),
@@ -257,7 +324,10 @@ pub struct Deposit {
     /// Have HDF5 know the order of the attributes, of which there are 65,534 at most then.
     #[arg(long)]
     pub track_order: bool,
-    /// Replace RUN.h5 where it is there already.
+    /// Put them behind the attributes that RUN.h5 has already.
+    #[arg(long, conflicts_with = "track_order")]
+    pub add: bool,
+    /// Replace RUN.h5 where it is there already; with --add, also where HDF5 has changed it, or it is write-protected.
     #[arg(long)]
     pub force: bool,
     /// Draw the heap: its rows, slots and blocks.
@@ -272,6 +342,49 @@ pub struct Deposit {
     /// Print the IDs alone.
     #[arg(short, long)]
     pub quiet: bool,
+}
+
+/// Gives attributes of an HDF5 file's root group back, by their names.
+#[derive(Args)]
+#[command(after_help = GET_MORE)]
+#[command(group(ArgGroup::new("put").args(["out", "out_dir"])))]
+pub struct Get {
+    /// The HDF5 file; - is standard input.
+    #[arg(value_name = "RUN.h5")]
+    pub file: OsString,
+    /// The attributes' names.
+    #[arg(value_name = "NAME", required_unless_present_any = ["id", "all"])]
+    pub names: Vec<OsString>,
+    /// The attribute whose message has this heap ID.
+    #[arg(long, value_name = "ID", conflicts_with = "names")]
+    pub id: Option<HeapId>,
+    /// All attributes, each into a file.
+    #[arg(long, requires = "out_dir", conflicts_with_all = ["names", "id", "out"])]
+    pub all: bool,
+    /// Print a dump.
+    #[arg(long)]
+    pub hex: bool,
+    /// Put the bytes of all that are named into FILE; - is standard output.
+    #[arg(short, long, value_name = "FILE")]
+    pub out: Option<PathBuf>,
+    /// Put each into a file of its own in FOLDER, of the attribute's name.
+    #[arg(long, value_name = "FOLDER")]
+    pub out_dir: Option<PathBuf>,
+    /// Replace files that are there already.
+    #[arg(long, requires = "put")]
+    pub force: bool,
+}
+
+/// Lists the attributes of an HDF5 file's root group, and what its heap has.
+#[derive(Args)]
+#[command(after_help = LIST_MORE)]
+pub struct List {
+    /// The HDF5 file; - is standard input.
+    #[arg(value_name = "RUN.h5")]
+    pub file: OsString,
+    /// Print a line of JSON for each attribute, and nothing else.
+    #[arg(long)]
+    pub json: bool,
 }
 
 /// Writes files as objects of a heap, in their order, and prints the ID of each.
@@ -290,7 +403,7 @@ pub struct Write {
     /// Keep a line of JSON for each object in INDEX: its ID, its length, its file's name.
     #[arg(long, value_name = "INDEX", requires = "out")]
     pub index: Option<PathBuf>,
-    /// Replace IMAGE and INDEX where they are there already.
+    /// Replace IMAGE and INDEX where they are there already, write-protected ones, too.
     #[arg(long, requires = "out")]
     pub force: bool,
     /// Draw the heap: its rows, slots and blocks.
@@ -337,6 +450,12 @@ pub struct Read {
     pub ids_from: Option<OsString>,
     #[command(flatten)]
     pub addressing: Addressing,
+    /// Read without testing the blocks: what is damaged comes as it is.
+    #[arg(long)]
+    pub unchecked: bool,
+    /// What each block says of its header's address [default: where the header is, from the base].
+    #[arg(long, value_name = "ADDRESS", value_parser = number, conflicts_with = "unchecked")]
+    pub header_address: Option<u64>,
     /// Take IDs of another length than the heap's.
     #[arg(long)]
     pub any_length: bool,
@@ -573,10 +692,32 @@ mod tests {
         assert!(parsed(&["write", "--files0-from", "x", "y"]).is_err());
         assert!(parsed(&["write", "--index", "x"]).is_err());
         assert!(parsed(&["write", "--index", "x", "--out", "y"]).is_ok());
+        assert!(parsed(&["deposit", "f", "--add", "--track-order"]).is_err());
+        assert!(parsed(&["get", "f"]).is_err());
+        assert!(parsed(&["get", "f", "n"]).is_ok());
+        assert!(parsed(&["get", "f", "n", "--id", "00"]).is_err());
+        assert!(parsed(&["get", "f", "--id", "00"]).is_ok());
+        assert!(parsed(&["get", "f", "--all"]).is_err());
+        assert!(parsed(&["get", "f", "--all", "--out", "x"]).is_err());
+        assert!(parsed(&["get", "f", "--all", "--out-dir", "x"]).is_ok());
+        assert!(parsed(&["get", "f", "n", "--all", "--out-dir", "x"]).is_err());
+        assert!(parsed(&["get", "f", "n", "--force"]).is_err());
+        assert!(parsed(&["get", "f", "n", "-o", "x", "--out-dir", "y"]).is_err());
         assert!(parsed(&["read", "f", "0"]).is_err());
         assert!(parsed(&["read", "f", "0", "--ids-from", "x"]).is_ok());
         assert!(parsed(&["read", "f", "0", "00", "--ids-from", "x"]).is_err());
         assert!(parsed(&["read", "f", "0", "00", "--json", "--hex"]).is_err());
+        assert!(parsed(&["read", "f", "0", "00", "--unchecked"]).is_ok());
+        let both = [
+            "read",
+            "f",
+            "0",
+            "00",
+            "--unchecked",
+            "--header-address",
+            "5",
+        ];
+        assert!(parsed(&both).is_err());
         assert!(parsed(&["read", "f", "0", "00", "-o", "x", "--out-dir", "y"]).is_err());
         assert!(parsed(&["read", "f", "0", "00", "--force"]).is_err());
         assert!(parsed(&["header", "f"]).is_ok());
@@ -606,6 +747,8 @@ mod tests {
         let helps = [
             EXAMPLES,
             DEPOSIT_MORE,
+            GET_MORE,
+            LIST_MORE,
             WRITE_MORE,
             READ_MORE,
             HEADER_MORE,

@@ -1,4 +1,4 @@
-//! What `poilures write` checks when the heap is written: the IDs, the header, and every object by its ID.
+//! What `poilures write` and `deposit` check when the heap is written: the IDs, the header, and every object by its ID.
 use crate::failure::Failure;
 use crate::heap::{Objects, Written};
 use crate::progress::Progress;
@@ -72,12 +72,24 @@ fn check_header(readable: &Heap, heap: &Written, objects: &Objects) -> Result<()
     }
 }
 
-/// Every object by its ID, byte for byte: how many empty ones were found, and how many answered by 1.
+/// Every object by its ID, byte for byte: how many empty ones were found, and how many answered by 1. The first with
+/// bytes of each block is read by the reader that tests all blocks on the way, the others by the one that does not.
 fn read_back(readable: &Heap, heap: &Written, objects: &Objects) -> Result<(u64, u64), Failure> {
     let mut progress = Progress::new("reading back", objects.number());
     let (mut found, mut lost) = (0, 0);
+    let starts = heap.lists.blocks[..heap.totals.block_count as usize].iter();
+    let mut untested = starts.peekable();
     for (i, (id, bytes)) in objects.each().enumerate() {
-        match readable.read_managed_object(id) {
+        let offset = heap.lists.offsets[i];
+        let mut is_first = false;
+        while !bytes.is_empty() && untested.next_if(|&&start| start <= offset).is_some() {
+            is_first = true;
+        }
+        let read = match is_first {
+            true => readable.read_managed_object(id, heap.place.header_at),
+            false => readable.read_managed_object_unchecked(id),
+        };
+        match read {
             Ok(read) if read == bytes => found += u64::from(bytes.is_empty()),
             Ok(_) => return Err(wrong(&format!("object {i} comes back with other bytes"))),
             Err(Error::Refused(r))

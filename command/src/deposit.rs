@@ -1,33 +1,43 @@
 //! `poilures deposit`: files as attributes of an HDF5 file's root group, each with its ID as it is given,
 //! then read back by it.
+use crate::adding::{self, Earlier, Old};
 use crate::arguments::Deposit;
 use crate::check::check;
 use crate::destination::Destination;
 use crate::failure::Failure;
-use crate::heap::{self, Intake, Lines, Objects, Placed};
+use crate::heap::{self, Gathering, Intake, Lines, Objects, Placed};
+use crate::id::HeapId;
 use crate::image::{self, Layout, Part, Place};
 use crate::inputs::{self, Taken};
+use crate::library::Id;
+use crate::memory;
 use crate::print;
-use crate::quoting::shown;
+use crate::quoting::{self, shown};
 use crate::talk::{Talk, tell};
-use crate::{index, memory, write};
 use fractal_heap::{Header, Refusal, count, grouped};
 use hdf5_file::{Dense, Kind, MOST_IN_ORDER, NameIndex, Named, Places, RootGroup, message_head};
 use hdf5_file::{LENGTH_SIZE, OFFSET_SIZE};
 use memmap2::Mmap;
-use serde_json::json;
+use serde_json::Value;
 use std::ffi::OsStr;
+use std::os::unix::ffi::OsStrExt;
 use std::path::Path;
 
 /// Bytes of the largest object, an attribute's message.
 fn largest_object() -> u64 {
-    image::LARGEST_DIRECT - image::block_header(OFFSET_SIZE)
+    image::largest_object(OFFSET_SIZE)
 }
 
 /// Bytes of the longest value of this kind under a name of so many bytes; none where not even an empty one fits.
 fn longest_value(kind: Kind, name: u64) -> Option<u64> {
     let head = message_head("", kind, 0)?.len() as u64;
     largest_object().checked_sub(head)?.checked_sub(name)
+}
+
+/// Bytes that stand before the values under these names, all together; before those that are text there are fewer.
+fn heads(names: &[&str]) -> u64 {
+    let head = message_head("", Kind::Bytes, 0).map_or(0, |head| head.len() as u64);
+    names.iter().map(|name| head + name.len() as u64).sum()
 }
 
 /// The name of the attribute that a file becomes: the one that is given, where it is for this file, or its base name.
@@ -90,75 +100,95 @@ fn attribute_names<'n>(
     }
 }
 
-/// An attribute's message is the object: its head, and behind it the file's bytes.
-struct Attributes<'n> {
-    names: Vec<&'n str>,
+/// Files as attributes: the message of one is the object, its head, and behind it the file's bytes.
+struct Deposited<'n> {
+    /// Of all objects, those that were there before the files, too.
+    names: Vec<&'n OsStr>,
+    /// Their numbers, where order is tracked.
+    orders: Vec<Option<u16>>,
+    /// As many numbers are given, where order is tracked.
+    newest: Option<u16>,
     text: bool,
-    lines: Lines,
 }
 
-impl Intake for Attributes<'_> {
-    const HEADING: &'static str = " object   length     heap offset  ID                       name";
+impl<'n> Deposited<'n> {
+    /// Those that there are already, and those that the files become.
+    fn new(earlier: &Earlier<'n>, names: &[&'n str], text: bool) -> Result<Self, Failure> {
+        let newest = newest(earlier.newest, names.len())?;
+        let number = earlier.attributes.len() + names.len();
+        let (mut all, mut orders) = (memory::with_room(number)?, memory::with_room(number)?);
+        for kept in &earlier.attributes {
+            all.push(kept.name);
+            orders.push(kept.order);
+        }
+        for (number, &name) in names.iter().enumerate() {
+            all.push(OsStr::new(name));
+            // There are no more of them than the newest has a number for.
+            let order = earlier.newest.map(|first| first + number as u16);
+            orders.push(order);
+        }
+        Ok(Deposited {
+            names: all,
+            orders,
+            newest,
+            text,
+        })
+    }
+}
+
+impl Intake for Deposited<'_> {
+    const COLUMNS: [&'static str; 2] = ["length", "name"];
 
     fn head(&self, number: usize, taken: &Taken) -> Result<Vec<u8>, Failure> {
         let kind = match self.text {
             true => Kind::of_text(taken.bytes),
             false => Kind::Bytes,
         };
-        let head = message_head(self.names[number], kind, taken.size);
+        let name = self.names[number].to_str();
+        let head = name.and_then(|name| message_head(name, kind, taken.size));
         head.ok_or_else(|| Failure::Not("a name is longer than a message can have it".into()))
     }
 
-    fn not_taken(&self, refusal: &Refusal, file: &OsStr, head: u64) -> Failure {
+    fn not_taken(&self, refusal: &Refusal, number: usize, file: &OsStr, head: u64) -> Failure {
         let longest = largest_object().saturating_sub(head);
+        // A file that is larger than any object is not looked at, so that a text counts as bytes, too.
+        let name = self.names[number].len() as u64;
+        let is_bytes = longest_value(Kind::Bytes, name) == Some(longest);
         Failure::Not(format!(
-            "{refusal}\nthe file is {}; under its name a value has at most {}, since HDF5's message has {} before it",
+            "{refusal}\nthe file is {}; under its name a value{} has at most {}, since HDF5's message has {} before it",
             shown(file),
+            if self.text && is_bytes {
+                " as bytes"
+            } else {
+                ""
+            },
             count(longest, "byte"),
             grouped(head)
         ))
     }
 
-    fn line(&self, placed: &Placed) -> String {
-        let name = self.names[placed.number];
-        match self.lines {
-            Lines::Ids => placed.id.to_string(),
-            Lines::Json => json_line(placed, name),
-            Lines::Table => format!(
-                "{:>7} {:>8} {:>15}  {}  {}",
-                grouped(placed.number as u64),
-                grouped(placed.length),
-                grouped(placed.offset),
-                placed.id,
-                shown(name)
-            ),
-        }
+    fn columns<'p>(&'p self, placed: &'p Placed) -> (u64, &'p OsStr) {
+        (placed.length, self.names[placed.number])
+    }
+
+    fn put_more(&self, placed: &Placed, line: &mut Value) {
+        line["name"] = self.names[placed.number].to_string_lossy().into();
+        line["length"] = placed.length.into();
     }
 }
 
-fn json_line(placed: &Placed, name: &str) -> String {
-    let mut line = json!({
-        "object": placed.number,
-        "name": name,
-        "length": placed.length,
-        "size": placed.size,
-        "offset": placed.offset,
-        "id": placed.id.to_string(),
-    });
-    index::put_name(&mut line, "file", placed.name);
-    line.to_string()
-}
-
-/// The number of attributes, where their order is tracked.
-fn newest(arguments: &Deposit, attributes: usize) -> Result<Option<u16>, Failure> {
-    let attributes = attributes as u64;
-    match u16::try_from(attributes) {
-        _ if !arguments.track_order => Ok(None),
-        Ok(newest) if attributes <= MOST_IN_ORDER => Ok(Some(newest)),
+/// As many numbers as are given with those of these files, where order is tracked.
+fn newest(before: Option<u16>, files: usize) -> Result<Option<u16>, Failure> {
+    let Some(before) = before else {
+        return Ok(None);
+    };
+    let number = u64::from(before) + files as u64;
+    match u16::try_from(number) {
+        Ok(newest) if number <= MOST_IN_ORDER => Ok(Some(newest)),
         _ => Err(Failure::Not(format!(
             "--track-order has numbers for {}, and here are {}; without it there is no such bound",
             count(MOST_IN_ORDER, "attribute"),
-            grouped(attributes)
+            grouped(number)
         ))),
     }
 }
@@ -179,13 +209,13 @@ fn empty(newest: Option<u16>, places: Places, to: &Destination) -> Result<Mmap, 
 
 /// The whole file, with all of it checked that is the heap's.
 fn whole(
-    attributes: &Attributes,
+    attributes: &Deposited,
     objects: &Objects,
-    newest: Option<u16>,
     to: &Destination,
     arguments: &Deposit,
     talk: &mut Talk,
-) -> Result<(Place, Mmap), Failure> {
+) -> Result<Mmap, Failure> {
+    let newest = attributes.newest;
     let places = Places::new(newest.is_some());
     let place = Place {
         header_at: places.heap,
@@ -195,12 +225,16 @@ fn whole(
     };
     if objects.number() == 0 {
         talk.say("a file without attributes has no heap");
-        return Ok((place, empty(newest, places, to)?));
+        return empty(newest, places, to);
     }
     let mut named = memory::with_room(attributes.names.len())?;
-    for (number, (&name, &id)) in attributes.names.iter().zip(&objects.ids).enumerate() {
-        // Where order is tracked every number fits: there are no more attributes than that.
-        let order = newest.and_then(|_| u16::try_from(number).ok());
+    for ((name, &order), &id) in attributes
+        .names
+        .iter()
+        .zip(&attributes.orders)
+        .zip(&objects.ids)
+    {
+        let name = name.as_bytes();
         named.push(Named { name, id, order });
     }
     let names = NameIndex::new(&named);
@@ -230,62 +264,96 @@ fn whole(
     })?;
     heap::print_totals(&heap, objects, "file", talk);
     if arguments.map {
-        heap::print_map(&heap, objects, arguments.ascii, talk);
+        heap::print_map(&heap, objects, arguments.ascii, talk)?;
     }
     talk.say("");
     check(&image, &heap, objects, talk)?;
-    Ok((place, image))
+    Ok(image)
 }
 
-/// Keeps the file, and says where it is and how a message is read from it.
+/// How an attribute is read from the file, to be pasted: by its ID where its name looks like an option.
+fn hint(out: &OsStr, name: &OsStr, id: &Id) -> String {
+    let id = HeapId::new(id).to_string();
+    let out = quoting::word(out);
+    match name.as_bytes().starts_with(b"-") {
+        true => quoting::command(&[b"get --id", id.as_bytes(), &out]),
+        false => quoting::command(&[b"get", &out, &quoting::word(name)]),
+    }
+}
+
+/// Keeps the file, in the place of an old one if that is as it was, and says where it is and how an attribute is read
+/// from it.
 fn keep(
     destination: Destination,
+    old: Option<&Old>,
     arguments: &Deposit,
     bytes: &[u8],
-    place: &Place,
+    attributes: &Deposited,
     objects: &Objects,
     talk: &mut Talk,
 ) -> Result<(), Failure> {
     let size = count(bytes.len() as u64, "byte");
-    let attributes = count(objects.number(), "attribute");
-    let file = format!("HDF5 file: {size}, {attributes} of the root group, put into");
+    let all = count(objects.number(), "attribute");
+    let file = format!("HDF5 file: {size}, {all} of the root group, put into");
     let Destination::File(output) = destination else {
         print(bytes)?;
         talk.say(&format!("{file} standard output"));
         return Ok(());
     };
-    output.finish(|file| objects.files.contains(&file))?;
+    let is_input = |file| objects.files.contains(&file);
+    output.finish_if(is_input, || old.map_or(Ok(()), Old::check))?;
     let out = arguments.out.as_os_str();
     talk.say(&format!("{file} {}", shown(out)));
-    if let Some(id) = objects.ids.last() {
-        let hint = write::hint(out, "", place, id);
-        talk.say(&format!("  the last attribute's message from it: {hint}"));
+    if let (Some(name), Some(id)) = (attributes.names.last(), objects.ids.last()) {
+        let hint = hint(out, name, id);
+        talk.say(&format!("  the last attribute from it: {hint}"));
     }
     Ok(())
 }
 
 pub fn deposit(arguments: &Deposit) -> Result<(), Failure> {
     let list = arguments.files0_from.as_deref();
-    let bytes = inputs::list_or_files(list, &arguments.files)?;
+    let (bytes, seen) = inputs::list_or_files(list, &arguments.files)?;
     let files = inputs::all_names(&arguments.files, list.zip(bytes.as_ref()))?;
     let names = attribute_names(&files, arguments.name.as_deref())?;
-    let newest = newest(arguments, files.len())?;
     let is_input = |file| inputs::is_among(file, files.iter().copied().chain(list));
-    let destination = Destination::named(&arguments.out, arguments.force, is_input)?;
+    let (destination, old) = match arguments.add {
+        true => adding::begin(&arguments.out, arguments.force, is_input)?,
+        false => (
+            Destination::named(&arguments.out, arguments.force, is_input)?,
+            None,
+        ),
+    };
+    let earlier = match &old {
+        Some(old) => Earlier::read(old, arguments.force)?,
+        None => Earlier::none(arguments.track_order),
+    };
+    earlier.refuse(&names, &files)?;
+    let attributes = Deposited::new(&earlier, &names, arguments.text)?;
     let (lines, volume) = Lines::asked(arguments.json, arguments.quiet);
     let mut talk = Talk::new(matches!(destination, Destination::Standard), volume);
-    let text = arguments.text;
-    let attributes = Attributes { names, text, lines };
-    let objects = heap::take_in(&attributes, &files, OFFSET_SIZE, &destination, &mut talk)?;
-    let (place, image) = whole(
+    let number = attributes.names.len();
+    let bytes = earlier.bytes() + heads(&names) + inputs::seen_bytes(&seen);
+    let mut gathering = Gathering::begin(number, bytes, OFFSET_SIZE, &destination)?;
+    earlier.gather(&mut gathering, arguments.force, &mut talk)?;
+    let objects = heap::take_in(
         &attributes,
-        &objects,
-        newest,
+        files.iter().copied().zip(seen),
+        gathering,
         &destination,
-        arguments,
+        lines,
         &mut talk,
     )?;
-    keep(destination, arguments, &image, &place, &objects, &mut talk)?;
+    let image = whole(&attributes, &objects, &destination, arguments, &mut talk)?;
+    keep(
+        destination,
+        old.as_ref(),
+        arguments,
+        &image,
+        &attributes,
+        &objects,
+        &mut talk,
+    )?;
     talk.end().inspect_err(|_| {
         tell("the file is whole, but standard output did not take all that was to be printed");
     })
@@ -294,7 +362,6 @@ pub fn deposit(arguments: &Deposit) -> Result<(), Failure> {
 #[cfg(test)]
 mod tests {
     use super::*;
-    use std::os::unix::ffi::OsStrExt;
 
     fn named<'n>(files: &[&'n str], given: Option<&'n str>) -> Result<Vec<&'n str>, Failure> {
         let files: Vec<&OsStr> = files.iter().map(|file| OsStr::new(*file)).collect();

@@ -49,8 +49,8 @@ impl Destination {
         }
     }
 
-    /// The image in the file, from which it is read back, or where there is none in memory. One that is only handed on
-    /// is in a file without a name where it is large, together with the bytes of the objects.
+    /// The image, beside objects of so many bytes: in the file, from which it is read back, or where there is none in
+    /// memory. One that is only handed on is in a file without a name where it is large, together with the objects.
     pub fn image(&self, layout: &Layout, objects: u64) -> Result<Image, Failure> {
         match self {
             Destination::Nowhere => return layout.in_memory(),
@@ -64,8 +64,8 @@ impl Destination {
         let no_image = |error| self.no_image(error);
         signals::set_mapped(&no_image(io::Error::other(DISK_FAILED)));
         let image = match self {
-            Destination::File(output) => layout.in_file(output.file()),
-            _ => joined::unnamed(&env::temp_dir()).and_then(|file| layout.in_file(&file)),
+            Destination::File(output) => layout.in_file(output.file(), objects),
+            _ => joined::unnamed(&env::temp_dir()).and_then(|file| layout.in_file(&file, objects)),
         };
         image.map_err(no_image)
     }

@@ -3,15 +3,17 @@ use crate::destination::Destination;
 use crate::failure::Failure;
 use crate::id::HeapId;
 use crate::image::{self, Layout, Part, Place};
-use crate::inputs::{self, Bytes, Identity, Taken};
+use crate::inputs::{self, Bytes, Identity, Seen, Taken};
+use crate::joined::Joined;
 use crate::library::{self, Id, Lists, Writing};
 use crate::progress::Progress;
 use crate::quoting::shown;
 use crate::table::Fullness;
 use crate::talk::{Talk, Volume};
-use crate::{map, memory};
+use crate::{index, map, memory};
 use fractal_heap::{Added, Header, OpenPlan, Refusal, Totals, count, grouped};
 use memmap2::Mmap;
+use serde_json::{Value, json};
 use std::ffi::OsStr;
 
 /// The objects, the IDs that they were given, and the files that they came from.
@@ -71,69 +73,165 @@ pub struct Placed<'n> {
 
 /// What a subcommand makes of its files.
 pub trait Intake {
-    /// What stands above the lines of a table.
-    const HEADING: &'static str;
+    /// What the table has of each object beside its number, its heap offset and its ID.
+    const COLUMNS: [&'static str; 2];
 
     /// What an object has before the bytes of its file.
     fn head(&self, number: usize, taken: &Taken) -> Result<Vec<u8>, Failure>;
 
-    /// Says which file planning refuses, with that many bytes before it, and how large it can be.
-    fn not_taken(&self, refusal: &Refusal, name: &OsStr, head: u64) -> Failure;
+    /// Says which file planning refuses, the object of this number, with that many bytes before it, and how large it can be.
+    fn not_taken(&self, refusal: &Refusal, number: usize, name: &OsStr, head: u64) -> Failure;
 
-    fn line(&self, placed: &Placed) -> String;
+    /// What stands in these columns.
+    fn columns<'p>(&'p self, placed: &'p Placed) -> (u64, &'p OsStr);
+
+    /// What a line of JSON has beside what all have.
+    fn put_more(&self, _: &Placed, _: &mut Value) {}
+
+    fn line(&self, placed: &Placed, lines: Lines) -> String {
+        match lines {
+            Lines::Ids => placed.id.to_string(),
+            Lines::Json => {
+                let mut line = json!({
+                    "object": placed.number,
+                    "size": placed.size,
+                    "offset": placed.offset,
+                    "id": placed.id.to_string(),
+                });
+                index::put_name(&mut line, "file", placed.name);
+                self.put_more(placed, &mut line);
+                line.to_string()
+            }
+            Lines::Table => {
+                let (size, name) = self.columns(placed);
+                row([
+                    &grouped(placed.number as u64),
+                    &grouped(size),
+                    &grouped(placed.offset),
+                    &placed.id.to_string(),
+                    &shown(name),
+                ])
+            }
+        }
+    }
 }
 
-/// Takes the files in, one by one. A plan that stays open places each at once; as front parts are planned alike, the ID
-/// that an object gets here is its ID for good. Its bytes are put by first, so that none is planned, and no ID printed,
-/// of an object that could not be kept. Where nothing is kept, the work ends when nobody hears the IDs.
-pub fn take_in<I: Intake>(
+/// A line of a table of objects.
+pub fn row([number, size, offset, id, name]: [&str; 5]) -> String {
+    format!("{number:>7} {size:>8} {offset:>15}  {id:<23}  {name}")
+}
+
+/// The line above them.
+pub fn heading([size, name]: [&str; 2]) -> String {
+    row(["object", size, "heap offset", "ID", name])
+}
+
+/// Objects as they come. A plan that stays open places each at once; as front parts are planned alike, the ID that an
+/// object gets here is its ID for good.
+pub struct Gathering {
+    plan: OpenPlan,
+    sizes: Vec<u64>,
+    ids: Vec<Id>,
+    joined: Joined,
+}
+
+impl Gathering {
+    /// Without any so far, and with room for so many, which will have so many bytes, as far as it is seen.
+    pub fn begin(
+        objects: usize,
+        bytes: u64,
+        w: u8,
+        destination: &Destination,
+    ) -> Result<Self, Failure> {
+        let mut joined = destination.joined();
+        joined.expect(bytes);
+        Ok(Gathering {
+            plan: OpenPlan::open(w)?,
+            sizes: memory::with_room(objects)?,
+            ids: memory::with_room(objects)?,
+            joined,
+        })
+    }
+
+    /// How many there are.
+    pub fn number(&self) -> usize {
+        self.sizes.len()
+    }
+
+    /// The plan of the objects so far.
+    pub fn plan(&self) -> &OpenPlan {
+        &self.plan
+    }
+
+    /// Takes an object, in parts; `size` is that of all of it. Its bytes are put by first, so that none is planned of an
+    /// object that could not be kept.
+    pub fn add(
+        &mut self,
+        parts: [&[u8]; 2],
+        size: u64,
+        not_taken: impl FnOnce(&Refusal) -> Failure,
+        name: &OsStr,
+    ) -> Result<(Added, Id), Failure> {
+        for part in parts {
+            self.joined.add(part)?;
+        }
+        let added = self.plan.add(size).map_err(|refusal| not_taken(&refusal))?;
+        let id = given_id(added, name)?;
+        self.sizes.push(size);
+        self.ids.push(id);
+        Ok((added, id))
+    }
+
+    fn finish(self, files: Vec<Identity>) -> Result<Objects, Failure> {
+        Ok(Objects {
+            sizes: self.sizes,
+            bytes: self.joined.finish()?,
+            ids: self.ids,
+            files,
+        })
+    }
+}
+
+/// Takes files in, one by one, behind the objects that there are already; of each it is told what was seen of it. No ID is
+/// printed of an object that could not be kept. Where nothing is kept, the work ends when nobody hears the IDs.
+pub fn take_in<'n, I: Intake>(
     intake: &I,
-    names: &[&OsStr],
-    w: u8,
+    names: impl ExactSizeIterator<Item = (&'n OsStr, Option<Seen>)>,
+    mut gathering: Gathering,
     destination: &Destination,
+    lines: Lines,
     talk: &mut Talk,
 ) -> Result<Objects, Failure> {
-    let number = names.len();
-    let (mut sizes, mut ids) = (memory::with_room(number)?, memory::with_room(number)?);
-    let (mut files, mut plan) = (memory::with_room(number)?, OpenPlan::open(w)?);
-    let (mut joined, mut room) = (destination.joined(), inputs::room_for_one()?);
-    let mut progress = Progress::unless(talk.is_seen(), "taking in the files", number as u64);
-    if !names.is_empty() {
-        talk.say(I::HEADING);
+    let (mut files, mut room) = (memory::with_room(names.len())?, inputs::room_for_one()?);
+    let work = "taking in the files";
+    let mut progress = Progress::unless(talk.is_seen(), work, names.len() as u64);
+    if names.len() > 0 {
+        talk.say(&heading(I::COLUMNS));
     }
-    for (number, &name) in names.iter().enumerate() {
-        let taken = inputs::take_in(name, &mut room)?;
+    for (name, seen) in names {
+        let taken = inputs::take_in(name, seen, &mut room)?;
+        let number = gathering.number();
         let head = intake.head(number, &taken)?;
-        joined.add(&head)?;
-        joined.add(taken.bytes)?;
-        let head = head.len() as u64;
-        let added = plan.add(head.saturating_add(taken.size));
-        let added = added.map_err(|refusal| intake.not_taken(&refusal, name, head))?;
-        let id = given_id(added, name)?;
-        let Added { offset, size } = added;
+        let head_size = head.len() as u64;
+        let size = head_size.saturating_add(taken.size);
+        let not_taken = |refusal: &Refusal| intake.not_taken(refusal, number, name, head_size);
+        let (added, id) = gathering.add([&head, taken.bytes], size, not_taken, name)?;
         files.push(taken.identity);
-        sizes.push(size);
-        ids.push(id);
         let placed = Placed {
             number,
             name,
             length: taken.size,
             size,
-            offset,
+            offset: added.offset,
             id: HeapId::new(&id),
         };
-        talk.give(&intake.line(&placed));
+        talk.give(&intake.line(&placed, lines));
         if matches!(destination, Destination::Nowhere) {
             talk.heard()?;
         }
         progress.step();
     }
-    Ok(Objects {
-        sizes,
-        bytes: joined.finish()?,
-        ids,
-        files,
-    })
+    gathering.finish(files)
 }
 
 /// The ID of an object that was placed; the file of one that has none is named.
@@ -236,20 +334,31 @@ pub fn print_totals(heap: &Written, objects: &Objects, whole: &str, talk: &mut T
         ("iterator", t.allocation_iterator, String::new()),
     ];
     for (name, number, more) in lines {
-        let line = format!("  {name:<16} {:>17}  {more}", grouped(number));
-        talk.say(line.trim_end());
+        talk.say(&number_line(name, number, &more));
     }
 }
 
-pub fn print_map(heap: &Written, objects: &Objects, ascii: bool, talk: &mut Talk) {
+/// A line of a heap's totals.
+pub fn number_line(name: &str, number: u64, more: &str) -> String {
+    let line = format!("  {name:<16} {:>17}  {more}", grouped(number));
+    line.trim_end().into()
+}
+
+pub fn print_map(
+    heap: &Written,
+    objects: &Objects,
+    ascii: bool,
+    talk: &mut Talk,
+) -> Result<(), Failure> {
     let (lists, totals) = (&heap.lists, &heap.totals);
     let starts = &lists.blocks[..totals.block_count as usize];
     let w = heap.place.offset_size;
     let fullness = Fullness::new(starts, &lists.offsets, &objects.sizes, w);
     talk.say("");
-    for line in map::lines(&fullness, totals.root_rows, ascii) {
+    for line in map::lines(&fullness, totals.root_rows, ascii)? {
         talk.say(&line);
     }
+    Ok(())
 }
 
 #[cfg(test)]

@@ -35,7 +35,9 @@ pub fn hex(bytes: &[u8], between: &str) -> String {
         if i > 0 {
             text += between;
         }
-        text.extend([byte >> 4, byte & 0xF].map(|digit| char::from(DIGITS[usize::from(digit)])));
+        for digit in [byte >> 4, byte & 0xF] {
+            text.push(char::from(DIGITS[usize::from(digit)]));
+        }
     }
     text
 }

@@ -1,6 +1,6 @@
 //! A file image: a heap's header and its region, each at its place, and nothing around them.
 use crate::failure::Failure;
-use crate::memory::no_room;
+use crate::memory::{self, no_room};
 use fractal_heap::{Header, Heap, Refusal, grouped};
 use memmap2::{Mmap, MmapMut};
 use std::fs::File;
@@ -45,7 +45,12 @@ impl Place {
 
 /// Bytes of a direct block before its body.
 pub fn block_header(offset_size: u8) -> u64 {
-    14 + u64::from(offset_size)
+    Header::direct_block_front(offset_size).into()
+}
+
+/// Bytes of the largest object: the body of a largest block.
+pub fn largest_object(offset_size: u8) -> u64 {
+    LARGEST_DIRECT - block_header(offset_size)
 }
 
 /// The bytes of a header, by the writer that is proved.
@@ -54,6 +59,10 @@ pub fn header_bytes(header: &Header, place: &Place) -> Result<Vec<u8>, Refusal> 
     header.write(place.offset_size, place.length_size, &mut bytes)?;
     Ok(bytes)
 }
+
+/// As many bytes as an image may have together with those of the objects, to be put into its file at once: to write
+/// into a file that is mapped takes longer, since the system has to take note of each page, but no memory.
+const MOST_AT_ONCE: u64 = 64_000_000;
 
 /// Bytes of an image beside the region: the header, and what may be around the heap.
 pub struct Part {
@@ -94,21 +103,33 @@ impl Layout {
     }
 
     /// An image in a new file, which takes no room on the disk where nothing is written. The rest of the room is taken
-    /// now: a disk that is full could say so by a signal alone when the bytes are put.
-    pub fn in_file(&self, file: &File) -> io::Result<Image> {
+    /// now: a disk that is full could say so by a signal alone when the bytes are put. The objects have so many bytes.
+    pub fn in_file(&self, file: &File, objects: u64) -> io::Result<Image> {
         file.set_len(self.size)?;
         for part in self.parts.iter().chain([&self.region]) {
             take_room(file, part)?;
         }
+        if self.size.saturating_add(objects) <= MOST_AT_ONCE
+            && let Ok(image) = self.to_be_put(file)
+        {
+            return Ok(image);
+        }
         // SAFETY: the file is new, nobody else writes into it, and what its disk does is met by the signal's handler.
         match unsafe { MmapMut::map_mut(file) } {
             Ok(map) => Ok(self.image(map)),
-            Err(error) if maps_no_writing(&error) => Ok(Image {
-                file: Some(file.try_clone()?),
-                ..self.image(MmapMut::map_anon(self.size as usize)?)
-            }),
+            Err(error) if maps_not(&error) => self.to_be_put(file),
             Err(error) => Err(error),
         }
+    }
+
+    /// An image in memory, which is put into the file when it is whole.
+    fn to_be_put(&self, file: &File) -> io::Result<Image> {
+        let mut map = MmapMut::map_anon(memory::in_whole_pages(self.size as usize))?;
+        memory::in_large_pages(&mut map);
+        Ok(Image {
+            file: Some(file.try_clone()?),
+            ..self.image(map)
+        })
     }
 
     fn image(&self, map: MmapMut) -> Image {
@@ -117,12 +138,13 @@ impl Layout {
             file: None,
             map,
             region: part(&self.region),
+            size: self.size as usize,
         }
     }
 }
 
-/// How a file system refuses to map a file for writing, as some that are shared over a network do.
-fn maps_no_writing(error: &io::Error) -> bool {
+/// How a file system refuses to map a file, as some that are shared over a network do, most of them for writing.
+fn maps_not(error: &io::Error) -> bool {
     matches!(error.raw_os_error(), Some(libc::ENODEV | libc::EINVAL))
 }
 
@@ -145,10 +167,12 @@ fn take_room(file: &File, part: &Range<u64>) -> io::Result<()> {
 
 /// An image that is being written: zeros but for its parts and its region.
 pub struct Image {
-    /// Where it is to be put, unless it is mapped from there.
+    /// Where it is to be put, where it is not mapped from there.
     file: Option<File>,
+    /// Where it is to be put into a file, there may be more than the image.
     map: MmapMut,
     region: Range<usize>,
+    size: usize,
 }
 
 impl Image {
@@ -157,19 +181,29 @@ impl Image {
         &mut self.map[self.region.clone()]
     }
 
-    /// The image with these parts, those of its layout, whole.
+    /// The image with these parts, those of its layout, whole; of one in a file, what that gives back where it can be
+    /// mapped.
     pub fn finish(mut self, parts: &[Part]) -> io::Result<Mmap> {
         for part in parts {
             let at = part.at as usize;
             self.map[at..at + part.bytes.len()].copy_from_slice(&part.bytes);
         }
-        if let Some(file) = &self.file {
-            file.write_all_at(&self.map[self.region.clone()], self.region.start as u64)?;
-            for part in parts {
-                file.write_all_at(&part.bytes, part.at)?;
-            }
+        let Some(file) = &self.file else {
+            return self.map.make_read_only();
+        };
+        file.write_all_at(&self.map[self.region.clone()], self.region.start as u64)?;
+        for part in parts {
+            file.write_all_at(&part.bytes, part.at)?;
         }
-        self.map.make_read_only()
+        // SAFETY: nobody else writes into the file, and what its disk does is met by the signal's handler.
+        match unsafe { Mmap::map(file) } {
+            Err(error) if maps_not(&error) => {
+                let mut whole = MmapMut::map_anon(self.size)?;
+                whole.copy_from_slice(&self.map[..self.size]);
+                whole.make_read_only()
+            }
+            mapped => mapped,
+        }
     }
 }
 
@@ -194,4 +228,33 @@ fn size(region: &Range<u64>, parts: &[Range<u64>]) -> Result<u64, Failure> {
         )));
     }
     Ok(size)
+}
+
+#[cfg(test)]
+mod tests {
+    use super::*;
+    use std::fs;
+
+    #[test]
+    fn an_image_is_the_same_mapped_and_put_at_once() {
+        let part = |at, bytes: &[u8]| Part {
+            at,
+            bytes: bytes.into(),
+        };
+        let parts = [part(3, b"front"), part(5_000_000, b"end")];
+        let layout = Layout::new(100..3_000_100, &parts).unwrap();
+        let mut due = vec![0; 5_000_003];
+        due[3..8].copy_from_slice(b"front");
+        due[100..3_000_100].fill(7);
+        due[5_000_000..].copy_from_slice(b"end");
+        for objects in [0, MOST_AT_ONCE] {
+            let file = tempfile::NamedTempFile::new().unwrap();
+            let mut image = layout.in_file(file.as_file(), objects).unwrap();
+            assert_eq!(image.file.is_some(), objects == 0);
+            image.region().fill(7);
+            let whole = image.finish(&parts).unwrap();
+            assert!(whole[..] == due, "beside {objects}");
+            assert!(fs::read(file.path()).unwrap() == due, "beside {objects}");
+        }
+    }
 }

@@ -60,23 +60,43 @@ fn open(name: &OsStr) -> Result<Open, Failure> {
         File::from(io::stdin().as_fd().try_clone_to_owned().map_err(unread)?)
     } else {
         let kind = fs::metadata(name).map_err(unread)?.file_type();
-        if let Some(kind) = other_kind(kind) {
-            return Err(Failure::file(name, "read", kind));
-        }
+        refuse_other(name, kind)?;
         File::open(name).map_err(unread)?
     };
-    let known = file.metadata().map_err(unread)?;
+    opened(name, file)
+}
+
+/// Looks at a file that is open.
+fn opened(name: &OsStr, file: File) -> Result<Open, Failure> {
+    let known = file.metadata();
+    let known = known.map_err(|error| Failure::file(name, "read", error))?;
+    if !is_standard(name) {
+        refuse_other(name, known.file_type())?;
+    }
     streams::refuse_input(identity(&known))?;
     Ok(Open { file, known })
 }
 
-/// Which file a name stands for, if there is one.
-pub fn identity_of(name: &OsStr) -> Option<Identity> {
+/// Refuses what is neither a file with bytes nor a pipe.
+fn refuse_other(name: &OsStr, kind: FileType) -> Result<(), Failure> {
+    match other_kind(kind) {
+        None => Ok(()),
+        Some(kind) => Err(Failure::file(name, "read", kind)),
+    }
+}
+
+/// What is known of the file that a name stands for, if there is one.
+fn known(name: &OsStr) -> Option<Metadata> {
     let known = match is_standard(name) {
         true => File::from(io::stdin().as_fd().try_clone_to_owned().ok()?).metadata(),
         false => fs::metadata(name),
     };
-    Some(identity(&known.ok()?))
+    known.ok()
+}
+
+/// Which file a name stands for, if there is one.
+pub fn identity_of(name: &OsStr) -> Option<Identity> {
+    known(name).map(|known| identity(&known))
 }
 
 /// Whether a file goes by one of these names.
@@ -84,9 +104,35 @@ pub fn is_among<'n>(file: Identity, mut names: impl Iterator<Item = &'n OsStr>) 
     names.any(|name| identity_of(name) == Some(file))
 }
 
-/// Refuses inputs that are written to as well, before a byte is written; no file is opened for that.
+/// A file that was looked at before it is opened: which, and how large it was.
+#[derive(Clone, Copy)]
+pub struct Seen {
+    identity: Identity,
+    size: u64,
+}
+
+/// Refuses an input that is written to as well; no file is opened for that. What is seen of a file comes back.
+fn look_at(name: &OsStr) -> Result<Option<Seen>, Failure> {
+    let Some(known) = known(name) else {
+        return Ok(None);
+    };
+    let seen = Seen {
+        identity: identity(&known),
+        size: known.len(),
+    };
+    streams::refuse_input(seen.identity)?;
+    Ok((known.is_file() && !is_standard(name)).then_some(seen))
+}
+
+/// As many bytes as the objects have that these inputs become, as far as it is seen.
+pub fn seen_bytes(seen: &[Option<Seen>]) -> u64 {
+    let files = seen.iter().flatten();
+    files.map(|file| file.size.min(LARGEST_DIRECT)).sum()
+}
+
+/// Refuses inputs that are written to as well, before a byte is written.
 pub fn refuse_written<'n>(mut names: impl Iterator<Item = &'n OsStr>) -> Result<(), Failure> {
-    names.try_for_each(|name| identity_of(name).map_or(Ok(()), streams::refuse_input))
+    names.try_for_each(|name| look_at(name).map(|_| ()))
 }
 
 /// A file that was taken in: which, how large it is, and its bytes.
@@ -105,18 +151,52 @@ pub fn room_for_one() -> Result<Vec<u8>, Failure> {
 }
 
 /// Reads a file as an object. Of a file that is too large for an object only the size is of use, so no more of it is
-/// read than shows that.
-pub fn take_in<'o>(name: &OsStr, room: &'o mut [u8]) -> Result<Taken<'o>, Failure> {
-    let Open { mut file, known } = open(name)?;
-    let identity = identity(&known);
+/// read than shows that. One that gives as many bytes as were seen in it is not looked at once more.
+pub fn take_in<'o>(
+    name: &OsStr,
+    seen: Option<Seen>,
+    room: &'o mut [u8],
+) -> Result<Taken<'o>, Failure> {
+    let unread = |error| Failure::file(name, "read", error);
+    let Some(seen) = seen else {
+        return take_on(name, open(name)?, 0, room);
+    };
+    let mut file = File::open(name).map_err(unread)?;
+    let length = read_some(&mut file, room).map_err(unread)?;
+    match length as u64 {
+        size if size == seen.size && (1..=LARGEST_DIRECT).contains(&size) => Ok(Taken {
+            identity: seen.identity,
+            size,
+            bytes: &room[..length],
+        }),
+        _ => take_on(name, opened(name, file)?, length, room),
+    }
+}
+
+/// As many bytes as come at once.
+fn read_some(file: &mut File, room: &mut [u8]) -> io::Result<usize> {
+    loop {
+        match file.read(room) {
+            Err(error) if error.kind() == io::ErrorKind::Interrupted => {}
+            read => return read,
+        }
+    }
+}
+
+/// Reads the rest of an object, of which so many bytes are there.
+fn take_on<'o>(
+    name: &OsStr,
+    open: Open,
+    mut length: usize,
+    room: &'o mut [u8],
+) -> Result<Taken<'o>, Failure> {
+    let Open { mut file, known } = open;
     // A file that gave all that it has is not asked once more; one of /proc says that it has nothing.
     let is_whole = |length| known.is_file() && length > 0 && length as u64 == known.len();
-    let mut length = 0;
     while length < room.len() && !is_whole(length) {
-        match file.read(&mut room[length..]) {
+        match read_some(&mut file, &mut room[length..]) {
             Ok(0) => break,
             Ok(more) => length += more,
-            Err(error) if error.kind() == io::ErrorKind::Interrupted => {}
             Err(error) => return Err(Failure::file(name, "read", error)),
         }
     }
@@ -125,7 +205,7 @@ pub fn take_in<'o>(name: &OsStr, room: &'o mut [u8]) -> Result<Taken<'o>, Failur
         size => (&room[..length], size),
     };
     Ok(Taken {
-        identity,
+        identity: identity(&known),
         size,
         bytes,
     })
@@ -147,11 +227,9 @@ fn read_on(name: &OsStr, mut file: File, too_much: &str) -> Result<Bytes, Failur
     let mut part = memory::with_room(STRIDE)?;
     part.resize(STRIDE, 0);
     loop {
-        match file.read(&mut part) {
-            Ok(0) => return joined.finish(),
-            Ok(length) => joined.add(&part[..length])?,
-            Err(error) if error.kind() == io::ErrorKind::Interrupted => {}
-            Err(error) => return Err(unread(&error)),
+        match read_some(&mut file, &mut part).map_err(|error| unread(&error))? {
+            0 => return joined.finish(),
+            length => joined.add(&part[..length])?,
         }
         if joined.size() > LARGEST_PIPE {
             return Err(unread(&too_much));
@@ -190,12 +268,25 @@ pub fn names<'l>(list: &OsStr, bytes: &'l [u8]) -> Result<Vec<&'l OsStr>, Failur
     Ok(names)
 }
 
-/// The list that names the files, if there is one. What a list names is looked at before any sentence could go into it.
-pub fn list_or_files(list: Option<&OsStr>, files: &[OsString]) -> Result<Option<Bytes>, Failure> {
-    refuse_written(files.iter().map(OsString::as_os_str).chain(list))?;
+/// The list that names the files, if there is one, and what is seen of them. What a list names is looked at before any
+/// sentence could go into it.
+pub fn list_or_files(
+    list: Option<&OsStr>,
+    files: &[OsString],
+) -> Result<(Option<Bytes>, Vec<Option<Seen>>), Failure> {
+    refuse_written(list.into_iter())?;
+    let mut seen = memory::with_room(files.len())?;
+    for name in files {
+        seen.push(look_at(name)?);
+    }
     let bytes = list.map(self::list).transpose()?;
-    refuse_written(bytes.iter().flat_map(|list| pieces(list)))?;
-    Ok(bytes)
+    if let Some(bytes) = &bytes {
+        memory::reserve(&mut seen, pieces(bytes).count())?;
+        for name in pieces(bytes) {
+            seen.push(look_at(name)?);
+        }
+    }
+    Ok((bytes, seen))
 }
 
 /// The names of files, or those in a list that was read in their place; standard input can be read once.
@@ -247,6 +338,14 @@ impl Bytes {
                 _ => Err(Failure::file(name, "read", CUT)),
             },
             _ => Ok(()),
+        }
+    }
+
+    /// The file, where it is one that is mapped.
+    pub fn file(&self) -> Option<&File> {
+        match self {
+            Bytes::File { file, .. } => Some(file),
+            _ => None,
         }
     }
 }
@@ -320,11 +419,21 @@ mod tests {
             let mut file = tempfile::NamedTempFile::new().unwrap();
             let due: Vec<u8> = (0..length).map(|i| (i % 251) as u8).collect();
             file.write_all(&due).unwrap();
-            let taken = take_in(file.path().as_os_str(), &mut room).unwrap();
-            assert_eq!(taken.size, length);
-            // A block has 65,536 bytes at most, an object fewer.
-            let kept = if length > 65_536 { &[][..] } else { &due };
-            assert_eq!(taken.bytes, kept, "{length}");
+            let name = file.path().as_os_str();
+            let seen = look_at(name).unwrap().unwrap();
+            // One that has other bytes meanwhile than were seen in it.
+            let before = Seen { size: 7, ..seen };
+            for seen in [None, Some(seen), Some(before)] {
+                let taken = take_in(name, seen, &mut room).unwrap();
+                assert_eq!(taken.size, length);
+                assert_eq!(
+                    taken.identity,
+                    identity(&file.as_file().metadata().unwrap())
+                );
+                // A block has 65,536 bytes at most, an object fewer.
+                let kept = if length > 65_536 { &[][..] } else { &due };
+                assert_eq!(taken.bytes, kept, "{length}");
+            }
         }
     }
 
@@ -338,7 +447,14 @@ mod tests {
     fn folders_and_devices_are_refused() {
         for name in ["/", "/dev/null"] {
             assert!(whole(OsStr::new(name)).is_err(), "{name}");
-            assert!(take_in(OsStr::new(name), &mut []).is_err(), "{name}");
+            let before = Seen {
+                identity: (0, 0),
+                size: 1,
+            };
+            for seen in [None, Some(before)] {
+                let taken = take_in(OsStr::new(name), seen, &mut []);
+                assert!(taken.is_err(), "{name}");
+            }
         }
     }
 }

@@ -50,6 +50,17 @@ impl Joined {
         self.size
     }
 
+    /// Asks for room for so many bytes at once, where they are to be in memory. What is not given now is asked for as the
+    /// bytes come.
+    pub fn expect(&mut self, bytes: u64) {
+        let fits = self.folder.is_none() || bytes <= self.most;
+        if let (true, Ok(bytes)) = (fits, usize::try_from(bytes))
+            && memory::reserve(&mut self.memory, memory::in_whole_pages_of_list(bytes)).is_ok()
+        {
+            memory::in_large_pages(self.memory.spare_capacity_mut());
+        }
+    }
+
     pub fn add(&mut self, bytes: &[u8]) -> Result<(), Failure> {
         self.size += bytes.len() as u64;
         if let (true, None, Some(folder)) = (self.size > self.most, &self.file, &self.folder) {

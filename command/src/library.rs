@@ -1,7 +1,7 @@
 //! The proved functions that this program calls beside the loader's, each behind a safe one.
 use fractal_heap::{Refusal, Totals};
 use fractal_heap_sys::{
-    tools_count_slots, tools_count_to, tools_entered, tools_heap_id_type, tools_locate, tools_plan,
+    tools_ask_both, tools_count_slots, tools_entered, tools_heap_id_type, tools_plan,
     tools_read_tiny_object, tools_serialize,
 };
 
@@ -123,26 +123,37 @@ pub fn kind(id: &[u8]) -> Result<Kind, Refusal> {
 }
 
 /// A direct slot: its heap offset and its bytes.
-#[derive(Clone, Copy, PartialEq, Eq)]
+#[derive(Clone, Copy)]
 pub struct Slot {
     pub start: u64,
     pub size: u64,
 }
 
-fn slot(call: impl FnOnce(*mut u8, usize) -> u32) -> Result<Slot, Refusal> {
-    pair(call).map(|(start, size)| Slot { start, size })
+/// The slot of a heap offset, by each engine, and whether both name it.
+pub struct Asked {
+    pub counted: Result<Slot, Refusal>,
+    pub located: Result<Slot, Refusal>,
+    pub agree: bool,
 }
 
-/// The slot of a heap offset, by descent.
-pub fn locate(offset: u64) -> Result<Slot, Refusal> {
-    // SAFETY: the slot is an array.
-    slot(|slot, n| unsafe { tools_locate(offset, slot, n) })
-}
-
-/// The same, counted out from 0.
-pub fn count_to(offset: u64) -> Result<Slot, Refusal> {
-    // SAFETY: the slot is an array.
-    slot(|slot, n| unsafe { tools_count_to(offset, slot, n) })
+/// Asks both engines.
+pub fn ask_both(offset: u64) -> Result<Asked, Refusal> {
+    let mut answers = [0; 7];
+    // SAFETY: the list is an array.
+    let number = unsafe { tools_ask_both(offset, answers.as_mut_ptr(), answers.len()) };
+    accepted(number, 7, answers.len() as u64)?;
+    let slot = |number: u64, start, size| {
+        let answer = accepted(number as u32, start, size);
+        answer.map(|()| Slot { start, size })
+    };
+    let [number, start, size, ..] = answers;
+    let counted = slot(number, start, size);
+    let [_, _, _, number, start, size, agree] = answers;
+    Ok(Asked {
+        counted,
+        located: slot(number, start, size),
+        agree: agree == 1,
+    })
 }
 
 /// An indirect block: row and column of its slot in the block that it stands in, and its heap offset.

@@ -1,12 +1,17 @@
-//! `poilures`: writes files as objects of a fractal heap and reads objects by their IDs, through the proved
-//! functions. Each subcommand has a file of its own.
+//! `poilures`: puts files into an HDF5 file and gives them back by name, writes files as objects of a fractal heap and
+//! reads objects by their IDs, through the proved functions. Each subcommand has a file of its own.
+mod adding;
 mod arguments;
+mod attributes;
+mod block;
 mod check;
 mod deposit;
 mod destination;
 mod dump;
 mod failure;
 mod filters;
+mod get;
+mod giving;
 mod header;
 mod heap;
 mod id;
@@ -16,6 +21,7 @@ mod index;
 mod inputs;
 mod joined;
 mod library;
+mod list;
 mod map;
 mod memory;
 mod message;
@@ -116,6 +122,8 @@ fn run() -> Result<(), Failure> {
     };
     match &arguments.subcommand {
         Subcommands::Deposit(arguments) => deposit::deposit(arguments),
+        Subcommands::Get(arguments) => get::get(arguments),
+        Subcommands::List(arguments) => list::list(arguments),
         Subcommands::Write(arguments) => write::write(arguments),
         Subcommands::Read(arguments) => read::read(arguments),
         Subcommands::Header(arguments) => header::header(arguments),

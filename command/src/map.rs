@@ -1,8 +1,9 @@
 //! The picture of a heap for a terminal: a line for each row, a cell for each slot, and below a row the indirect
 //! blocks that are open in it. What is alike is drawn once.
 use crate::image::STARTING;
-use crate::table::{Fill, Fullness, Row, Slot, Table, direct_slots};
-use fractal_heap::{count, grouped};
+use crate::library;
+use crate::table::{Fill, Fullness, Row, Slot, Table};
+use fractal_heap::{Refusal, count, grouped};
 
 /// A longer picture is drawn with fewer levels of indirect blocks.
 const MOST_LINES: usize = 100;
@@ -20,9 +21,9 @@ struct Look {
 }
 
 /// The whole picture.
-pub fn lines(fullness: &Fullness, root_rows: u64, ascii: bool) -> Vec<String> {
+pub fn lines(fullness: &Fullness, root_rows: u64, ascii: bool) -> Result<Vec<String>, Refusal> {
     if root_rows == 0 {
-        return direct_root(fullness, ascii);
+        return Ok(direct_root(fullness, ascii));
     }
     let root = Table::new(fullness, 0, root_rows);
     let columns = root
@@ -34,12 +35,12 @@ pub fn lines(fullness: &Fullness, root_rows: u64, ascii: bool) -> Vec<String> {
         columns: columns.max(6),
         levels: LEVELS,
     };
-    let mut lines = look.picture(&root);
+    let mut lines = look.picture(&root)?;
     while lines.len() > MOST_LINES && look.levels > 0 {
         look.levels -= 1;
-        lines = look.picture(&root);
+        lines = look.picture(&root)?;
     }
-    lines
+    Ok(lines)
 }
 
 /// The picture of a root that is one block.
@@ -116,7 +117,7 @@ struct Group<'t> {
 }
 
 impl Group<'_> {
-    fn heading(&self, drawn: bool) -> String {
+    fn heading(&self, drawn: bool) -> Result<String, Refusal> {
         let n = self.tables.len() as u64;
         let rows = self.tables[0].rows.len() as u64;
         let (mut placed, mut fill) = (0, Fill::default());
@@ -125,10 +126,10 @@ impl Group<'_> {
             fill = fill.and(table.fill());
         }
         let full = format!("placed, {} full", full(fill));
-        let slots = direct_slots(rows);
+        let slots = library::count_slots(rows)?.iter().sum();
         let last = self.first as u64 + n - 1;
         let of = |placed, slots| format!("{} of {} slots {full}", grouped(placed), grouped(slots));
-        match (n, drawn) {
+        Ok(match (n, drawn) {
             (1, _) => {
                 let start = grouped(self.tables[0].start);
                 format!("slot {last}: {rows} rows at {start}, {}", of(placed, slots))
@@ -144,7 +145,7 @@ impl Group<'_> {
                 let all = of(placed, n * slots);
                 format!("slots {}-{last}: {rows} rows each, {all}", self.first)
             }
-        }
+        })
     }
 
     /// All of them as one, for they are alike.
@@ -178,7 +179,7 @@ fn groups(row: &Row, drawn: bool) -> Vec<Group<'_>> {
 }
 
 impl Look {
-    fn picture(&self, root: &Table) -> Vec<String> {
+    fn picture(&self, root: &Table) -> Result<Vec<String>, Refusal> {
         let rows = count(root.rows.len() as u64, "row");
         let blocks = count(root.placed(), "block");
         let mut lines = vec![
@@ -191,7 +192,7 @@ impl Look {
                 "row", "offset", self.columns
             ),
         ];
-        let cut = self.draw(root, 0, &mut lines);
+        let cut = self.draw(root, 0, &mut lines)?;
         let (whole, unplaced) = match self.ascii {
             true => ("#", "."),
             false => ("█", "·"),
@@ -206,7 +207,7 @@ impl Look {
         if cut {
             lines.push("  indirect blocks farther down are summed up, not drawn".into());
         }
-        lines
+        Ok(lines)
     }
 
     fn cell(&self, slot: &Slot) -> String {
@@ -238,7 +239,7 @@ impl Look {
     }
 
     /// Draws the rows, and below each the indirect blocks that are open in it. Whether some are not drawn.
-    fn draw(&self, table: &Table, level: usize, lines: &mut Vec<String>) -> bool {
+    fn draw(&self, table: &Table, level: usize, lines: &mut Vec<String>) -> Result<bool, Refusal> {
         let (rows, mut at, mut cut) = (&table.rows, 0, false);
         let branch = if self.ascii { "+" } else { "└" };
         while at < rows.len() {
@@ -248,13 +249,13 @@ impl Look {
             lines.push(self.line(&rows[at..end], &cells, level));
             let drawn = level < self.levels;
             for group in groups(&rows[at], drawn) {
-                let heading = group.heading(drawn);
+                let heading = group.heading(drawn)?;
                 lines.push(format!("{}{branch} {heading}", "  ".repeat(level + 2)));
-                cut |= !drawn || self.draw(&group.merged(), level + 1, lines);
+                cut |= !drawn || self.draw(&group.merged(), level + 1, lines)?;
             }
             at = end;
         }
-        cut
+        Ok(cut)
     }
 }
 

@@ -88,6 +88,44 @@ pub fn reserve<T>(list: &mut Vec<T>, more: usize) -> Result<(), Failure> {
     reserved.map_err(|_| no_room((list.len() + more) as u64 * size_of::<T>() as u64))
 }
 
+/// Bytes of a large page and of a small one; where the system has others, nothing is lost.
+const LARGE_PAGE: usize = 1 << 21;
+const SMALL_PAGE: usize = 1 << 12;
+/// As Linux has it from 6.1 on; an older one refuses it.
+const MADV_COLLAPSE: libc::c_int = 25;
+
+/// So many bytes, and as many more as have the system begin with a large page what is mapped for them.
+pub fn in_whole_pages(bytes: usize) -> usize {
+    match bytes {
+        0..LARGE_PAGE => bytes,
+        _ => bytes.next_multiple_of(LARGE_PAGE),
+    }
+}
+
+/// Likewise, with room for what the allocator puts before them.
+pub fn in_whole_pages_of_list(bytes: usize) -> usize {
+    match bytes {
+        0..LARGE_PAGE => bytes,
+        _ => (bytes + SMALL_PAGE).next_multiple_of(LARGE_PAGE) - SMALL_PAGE,
+    }
+}
+
+/// Asks the system to give this memory in large pages, where it is not in use yet: to get it page by page takes longer
+/// than to fill it.
+pub fn in_large_pages<T>(memory: &mut [T]) {
+    // The system takes the start of a page, and looks itself where large ones fit.
+    let start = memory.as_ptr().addr() / SMALL_PAGE * SMALL_PAGE;
+    let length = memory.as_ptr().addr() - start + size_of_val(memory);
+    if length >= LARGE_PAGE {
+        // SAFETY: this changes how memory is given, and no byte of it.
+        unsafe {
+            libc::madvise(start as *mut _, length, libc::MADV_HUGEPAGE);
+            // The allocator has used the first page, so that the large one around it would be given in small ones.
+            libc::madvise(start as *mut _, LARGE_PAGE, MADV_COLLAPSE);
+        }
+    }
+}
+
 /// A list that takes so many items without asking again.
 pub fn with_room<T>(items: usize) -> Result<Vec<T>, Failure> {
     let mut list = Vec::new();

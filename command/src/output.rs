@@ -96,6 +96,13 @@ pub fn may_go(
     }
 }
 
+/// Whether a file's own rights let it be written. To replace it by its name only its folder's have to.
+pub fn may_be_written(name: &Path) -> io::Result<()> {
+    let name = c_string(name)?;
+    // SAFETY: it is a C string, which outlives the call.
+    done(unsafe { libc::access(name.as_ptr(), libc::W_OK) })
+}
+
 /// The mode that the umask gives to a new file.
 fn new_mode() -> u32 {
     // SAFETY: both calls only exchange a number; this program has one thread.
@@ -144,15 +151,32 @@ impl Output {
 
     /// Gives the file its name, when all of it is on the disk, and has the name there, too. Which file it is comes back.
     pub fn finish(self, is_input: impl Fn(Identity) -> bool) -> Result<Identity, Failure> {
+        self.finish_if(is_input, || Ok(()))
+    }
+
+    /// As `finish`, if what is asked last, when all of the file is on the disk, agrees.
+    pub fn finish_if(
+        self,
+        is_input: impl Fn(Identity) -> bool,
+        agrees: impl FnOnce() -> Result<(), Failure>,
+    ) -> Result<Identity, Failure> {
         let folder = self.folder().to_path_buf();
         let known = self.file().metadata().map_err(|e| self.unwritten(e))?;
-        self.give_name(is_input)?;
+        self.give_name_if(is_input, agrees)?;
         sync_folder(&folder);
         Ok(identity(&known))
     }
 
     /// Gives the file its name, when all of it is on the disk. The name is there when its folder is synced.
     pub fn give_name(self, is_input: impl Fn(Identity) -> bool) -> Result<(), Failure> {
+        self.give_name_if(is_input, || Ok(()))
+    }
+
+    fn give_name_if(
+        self,
+        is_input: impl Fn(Identity) -> bool,
+        agrees: impl FnOnce() -> Result<(), Failure>,
+    ) -> Result<(), Failure> {
         let name = &self.name;
         let unwritten = |error| unwritten(name, error);
         may_go(name, self.force, is_input).or_else(|failure| match self.force {
@@ -166,6 +190,7 @@ impl Output {
         }
         .map_err(unwritten)?;
         file.sync_all().map_err(unwritten)?;
+        agrees()?;
         match self.file {
             Unfinished::Unnamed(file) => {
                 give_name(&file, name, self.force).map_err(|error| taken(name, error))?
@@ -186,6 +211,8 @@ pub fn sync_folder(folder: &Path) {
 
 /// What a file that is replaced has of owner, group and rights goes to the new one, but for what makes a program run as
 /// its owner. Only root gives files away; where the group is another one, it may do what it might and all may.
+/// Other hard links, access control lists and extended attributes stay behind, since it is another file. A file that is
+/// write-protected is replaced like any other.
 fn take_over(file: &File, old: &Metadata) -> io::Result<()> {
     let own = file.metadata()?;
     let mut mode = old.permissions().mode() & 0o777;

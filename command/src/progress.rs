@@ -1,14 +1,18 @@
 //! Long work shows how far it is, on standard error where that is a terminal.
 use indicatif::{ProgressBar, ProgressDrawTarget, ProgressStyle};
+use std::io::{self, IsTerminal};
 use std::time::{Duration, Instant};
 
 /// Work that is done sooner shows nothing.
 const PATIENCE: Duration = Duration::from_millis(500);
 
 pub struct Progress {
+    /// Hidden until it is due.
     bar: ProgressBar,
+    is_shown: bool,
     /// None where it is shown, or never will be.
     due: Option<Instant>,
+    done: u64,
 }
 
 impl Progress {
@@ -20,9 +24,12 @@ impl Progress {
             bar.set_style(style);
         }
         bar.set_message(what);
+        let is_seen = io::stderr().is_terminal();
         Progress {
             bar,
-            due: Some(Instant::now() + PATIENCE),
+            is_shown: false,
+            due: is_seen.then(|| Instant::now() + PATIENCE),
+            done: 0,
         }
     }
 
@@ -33,12 +40,16 @@ impl Progress {
         progress
     }
 
-    /// One more is done.
+    /// One more is done. A bar that is not shown is left alone.
     pub fn step(&mut self) {
+        self.done += 1;
         if self.due.take_if(|due| Instant::now() > *due).is_some() {
             self.bar.set_draw_target(ProgressDrawTarget::stderr());
+            self.is_shown = true;
         }
-        self.bar.inc(1);
+        if self.is_shown {
+            self.bar.set_position(self.done);
+        }
     }
 }
 

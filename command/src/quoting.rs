@@ -64,6 +64,12 @@ pub fn line(command: &[u8]) -> String {
     format!("eval \"$(printf '{escaped}')\"")
 }
 
+/// A command of this program, as it was called, to be pasted: these words, as `word` makes them, behind its name.
+pub fn command(words: &[&[u8]]) -> String {
+    let program = word(std::env::args_os().next().unwrap_or("poilures".into()));
+    line(&[&[&program[..]], words].concat().join(&b' '))
+}
+
 /// The program's name as it was called, as a word of a shell; its usual one where that cannot be shown.
 pub fn program(name: Option<&OsStr>) -> String {
     let word = name.map(word);

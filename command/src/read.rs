@@ -1,35 +1,30 @@
 //! `poilures read`: objects by their IDs, from a heap in a file.
 use crate::arguments::Read;
-use crate::dump::dump;
+use crate::block::Checked;
 use crate::failure::Failure;
 use crate::filters;
+use crate::giving::Giving;
 use crate::id::{self, HeapId};
-use crate::inputs::{self, Bytes, Identity};
+use crate::inputs::{self, Bytes};
 use crate::library::{Kind, kind, tiny_object};
 use crate::message;
-use crate::output::{self, Output};
 use crate::progress::Progress;
 use crate::quoting::shown;
 use crate::site::{self, Remarks, Site};
-use crate::streams;
 use crate::talk::{Talk, Volume, tell};
 use fractal_heap::{Error, Header, Heap, Refusal, count, grouped};
 use serde_json::json;
 use std::borrow::Cow;
 use std::collections::HashSet;
 use std::ffi::OsString;
-use std::io::{self, Write};
-use std::path::Path;
-
-/// Bytes that are printed at once. They are copied first, so that they are known to be the file's before they go out,
-/// and so that a file that was cut raises the signal that we handle, where the system would return an error of its own.
-const STRIDE: usize = 1 << 16;
 
 /// The heap that is read, in its file, and what its header says.
 struct Reading<'f> {
     site: Site<'f>,
     heap: Heap<'f>,
     header: Header,
+    /// What each block has to say of its header's address; None where blocks are not tested.
+    header_address: Option<u64>,
 }
 
 /// Where an object was found.
@@ -115,7 +110,24 @@ impl<'f> Reading<'f> {
         let heap = site.heap(arguments.place, addressing)?;
         let header = heap.header();
         let header = header.map_err(|refusal| site::in_file(refusal, site.base, None))?;
-        Ok(Reading { site, heap, header })
+        let header_address = match arguments.unchecked {
+            true => None,
+            false => Some(arguments.header_address.unwrap_or(heap.header_at)),
+        };
+        Ok(Reading {
+            site,
+            heap,
+            header,
+            header_address,
+        })
+    }
+
+    /// The bytes of a managed object, by the reader that is asked for.
+    fn bytes(&self, id: &[u8]) -> Result<&'f [u8], Error> {
+        match self.header_address {
+            Some(address) => self.heap.read_managed_object_of_any_length(id, address),
+            None => self.heap.read_managed_object_of_any_length_unchecked(id),
+        }
     }
 
     /// A managed object, as it lies in the file. One without bytes may lie in no block, and is refused by 1; in a list,
@@ -127,28 +139,59 @@ impl<'f> Reading<'f> {
         remarks: &Remarks,
     ) -> Result<(&'f [u8], Place), Failure> {
         let (offset, length) = self.heap.decode_managed_id_of_any_length(id)?;
-        let end = offset.saturating_add(length);
-        let (bytes, position) = match self.heap.read_managed_object_of_any_length(id) {
+        let (bytes, position) = match self.bytes(id) {
             Ok(bytes) => (
                 bytes,
                 Some(self.site.base + position(self.heap.file, bytes)),
             ),
-            Err(Error::Refused(Refusal::UnexpectedEof { .. })) if in_list && length == 0 => {
+            Err(Error::Refused(refusal))
+                if in_list && length == 0 && self.is_in_no_block(refusal, id, offset) =>
+            {
                 (&[][..], None)
             }
-            Err(error) => return Err(self.not_found(error, end, remarks)),
+            Err(error) => return Err(self.not_found(error, id, (offset, length), remarks)),
         };
         Ok((bytes, Place::Heap { offset, position }))
     }
 
-    /// Why there is no object; `end` is its end in the heap, by its ID.
-    fn not_found(&self, error: Error, end: u64, remarks: &Remarks) -> Failure {
+    /// What names the blocks of the heap, where they are tested.
+    fn checked(&self) -> Option<Checked<'_>> {
+        Some(Checked {
+            heap: &self.heap,
+            header: &self.header,
+            header_address: self.header_address?,
+            base: self.site.base,
+        })
+    }
+
+    /// Whether an object that is refused has no block; where blocks are not tested, it may also end too early.
+    fn is_in_no_block(&self, refusal: Refusal, id: &[u8], offset: u64) -> bool {
+        let Some(checked) = self.checked() else {
+            return matches!(refusal, Refusal::UnexpectedEof { .. });
+        };
+        let last = self.heap.stopping_block(id, checked.header_address);
+        last.is_ok_and(|block| checked.is_in_no_block(refusal, block, offset))
+    }
+
+    /// Why there is no object, which is at a heap offset and has a length by its ID.
+    fn not_found(&self, error: Error, id: &[u8], object: (u64, u64), remarks: &Remarks) -> Failure {
         let Error::Refused(refusal) = error else {
             return Failure::Not(error.to_string());
         };
         if refusal == Refusal::UnsupportedFilteredHeapObject {
             return self.filtered(refusal);
         }
+        let Some(checked) = self.checked() else {
+            return self.not_found_unchecked(refusal, object.0.saturating_add(object.1), remarks);
+        };
+        match self.heap.stopping_block(id, checked.header_address) {
+            Ok(block) => Failure::Not(checked.sentence(refusal, block, object.0)),
+            Err(refusal) => site::in_file(refusal, self.site.base, None).into(),
+        }
+    }
+
+    /// Where blocks are not tested; `end` is the object's end in the heap, by its ID.
+    fn not_found_unchecked(&self, refusal: Refusal, end: u64, remarks: &Remarks) -> Failure {
         // Only under an indirect root the end that is told may be the ID's own.
         let in_heap = self.header.current_rows_in_root_indirect_block > 0;
         match refusal {
@@ -205,10 +248,7 @@ impl<'f> Reading<'f> {
         if turned == *id || turned.bytes().first() != Some(&0) {
             return None;
         }
-        let bytes = self
-            .heap
-            .read_managed_object_of_any_length(turned.bytes())
-            .ok()?;
+        let bytes = self.bytes(turned.bytes()).ok()?;
         (!bytes.is_empty()).then_some((turned, bytes))
     }
 
@@ -274,97 +314,13 @@ impl<'f> Reading<'f> {
     }
 }
 
-/// What is done with the objects that were found.
-struct Printing<'a> {
-    arguments: &'a Read,
-    file: &'a Bytes,
-}
-
-impl Printing<'_> {
-    /// Puts an object, part by part. No part goes out before the file is seen to be whole after the part was copied.
-    fn put(
-        &self,
-        bytes: &[u8],
-        to: &mut impl Write,
-        failed: impl Fn(io::Error) -> Failure,
-    ) -> Result<(), Failure> {
-        let mut copy = Vec::with_capacity(STRIDE.min(bytes.len()));
-        for (i, part) in bytes.chunks(STRIDE).enumerate() {
-            copy.clear();
-            match self.arguments.hex {
-                true => copy.extend(dump(part, i * STRIDE).bytes()),
-                false => copy.extend_from_slice(part),
-            }
-            self.file.check_whole(&self.arguments.file)?;
-            to.write_all(&copy).map_err(&failed)?;
-        }
-        Ok(())
+/// A line of JSON for each object, on standard error where its bytes go to standard output.
+fn describe(objects: &[Object], on_standard_error: bool) -> Result<(), Failure> {
+    let mut talk = Talk::new(on_standard_error, Volume::Results);
+    for object in objects {
+        talk.give(&object.json());
     }
-
-    fn is_input(&self, file: Identity) -> bool {
-        let list = self.arguments.ids_from.iter();
-        let names = list.chain([&self.arguments.file]);
-        inputs::is_among(file, names.map(OsString::as_os_str))
-    }
-
-    /// Puts objects into one file, which has no name yet.
-    fn lay(&self, name: &Path, objects: &[Object]) -> Result<Output, Failure> {
-        let output = Output::begin(name, self.arguments.force, |file| self.is_input(file))?;
-        for object in objects {
-            self.put(object.bytes, &mut output.file(), |error| {
-                output.unwritten(error)
-            })?;
-        }
-        Ok(output)
-    }
-
-    /// Puts objects into one file.
-    fn keep(&self, name: &Path, objects: &[Object]) -> Result<(), Failure> {
-        let output = self.lay(name, objects)?;
-        output.finish(|file| self.is_input(file)).map(|_| ())
-    }
-
-    /// Puts each object into a file of its own. All names are looked at before the first is written.
-    fn keep_each(&self, folder: &Path, objects: &[Object]) -> Result<(), Failure> {
-        let mut names = HashSet::new();
-        if let Some(twice) = objects.iter().find(|o| !names.insert(o.id.digits())) {
-            return Err(Failure::Use(format!("the ID {} is given twice", twice.id)));
-        }
-        output::make_folder(folder)?;
-        let path = |object: &Object| folder.join(object.id.digits());
-        for object in objects {
-            let is_input = |file| self.is_input(file);
-            output::may_go(&path(object), self.arguments.force, is_input)?;
-        }
-        let mut progress = Progress::new("writing the objects", objects.len() as u64);
-        let kept = objects.iter().try_for_each(|object| {
-            let output = self.lay(&path(object), std::slice::from_ref(object))?;
-            output.give_name(|file| self.is_input(file))?;
-            progress.step();
-            Ok(())
-        });
-        output::sync_folder(folder);
-        kept
-    }
-
-    fn print(&self, objects: &[Object]) -> Result<(), Failure> {
-        let failed = |error| Failure::printing(&error);
-        streams::check_output().map_err(failed)?;
-        let mut out = io::stdout().lock();
-        for object in objects {
-            self.put(object.bytes, &mut out, failed)?;
-        }
-        out.flush().map_err(failed)
-    }
-
-    /// A line of JSON for each object, on standard error where its bytes go to standard output.
-    fn describe(&self, objects: &[Object], on_standard_error: bool) -> Result<(), Failure> {
-        let mut talk = Talk::new(on_standard_error, Volume::Results);
-        for object in objects {
-            talk.give(&object.json());
-        }
-        talk.heard()
-    }
+    talk.heard()
 }
 
 /// The IDs that are given, or those of the list.
@@ -421,22 +377,33 @@ pub fn read(arguments: &Read) -> Result<(), Failure> {
     // Of a file that was cut meanwhile not even a refusal is its own.
     file.check_whole(&arguments.file)?;
     let objects = objects?;
-    let printing = Printing {
-        arguments,
+    let giving = Giving {
         file: &file,
+        name: &arguments.file,
+        list: arguments.ids_from.as_deref(),
+        hex: arguments.hex,
+        force: arguments.force,
     };
+    let parts: Vec<&[u8]> = objects.iter().map(|object| object.bytes).collect();
     let mut bytes_on_standard_output = false;
     match (&arguments.out, &arguments.out_dir) {
-        (Some(out), _) if !inputs::is_standard(out.as_os_str()) => printing.keep(out, &objects)?,
-        (_, Some(folder)) => printing.keep_each(folder, &objects)?,
+        (Some(out), _) if !inputs::is_standard(out.as_os_str()) => giving.keep(out, &parts)?,
+        (_, Some(folder)) => {
+            let mut ids = HashSet::new();
+            if let Some(twice) = objects.iter().find(|o| !ids.insert(o.id.digits())) {
+                return Err(Failure::Use(format!("the ID {} is given twice", twice.id)));
+            }
+            let named = objects.iter().map(|o| (o.id.digits().into(), o.bytes));
+            giving.keep_each(folder, &named.collect::<Vec<_>>())?;
+        }
         (None, None) if arguments.json => {}
         _ => {
-            printing.print(&objects)?;
+            giving.print(&parts)?;
             bytes_on_standard_output = true;
         }
     }
     match arguments.json {
-        true => printing.describe(&objects, bytes_on_standard_output),
+        true => describe(&objects, bytes_on_standard_output),
         false => Ok(()),
     }
 }

@@ -39,7 +39,7 @@ fn described(superblock: Option<&Superblock>, addressing: &Addressing) -> String
 }
 
 /// Tells what is wrong with a superblock, also where nothing else is to be said.
-fn warn(superblock: &Superblock) {
+pub fn warn(superblock: &Superblock) {
     if let Some(field) = superblock.base.filter(|&field| field != superblock.at) {
         tell(&format!(
             "the superblock's base address field says {}, but it stands at {}, which counts for HDF5",

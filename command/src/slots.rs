@@ -2,13 +2,13 @@
 use crate::arguments;
 use crate::failure::Failure;
 use crate::image::{STARTING, block_header};
-use crate::library::{self, Entered, Slot};
+use crate::library::{self, Asked, Entered, Slot};
 use crate::talk::{Talk, Volume};
 use fractal_heap::{Refusal, count, grouped};
 use serde_json::json;
 
 /// A direct block and the way to it.
-struct Place {
+struct Located {
     offset: u64,
     way: Vec<Entered>,
     block: Slot,
@@ -17,19 +17,33 @@ struct Place {
     offset_size: u8,
 }
 
-impl Place {
-    fn new(offset: u64, offset_size: u8) -> Result<Self, Refusal> {
+/// The block that the descent names. Where it refuses alone, the engines differ.
+fn named(asked: Asked) -> Result<Slot, Failure> {
+    match (asked.located, asked.counted) {
+        (Ok(block), _) => Ok(block),
+        (Err(refusal), Err(_)) => Err(refusal.into()),
+        (Err(refusal), Ok(Slot { start, size })) => Err(Failure::Not(format!(
+            "the engines differ: counting names the block of {} at heap offset {}, and by descent it is {refusal}",
+            count(size, "byte"),
+            grouped(start)
+        ))),
+    }
+}
+
+impl Located {
+    fn new(offset: u64, offset_size: u8) -> Result<Self, Failure> {
         if !matches!(offset_size, 2 | 4 | 8) {
-            return Err(Refusal::InvalidOffsetSize {
-                size: offset_size.into(),
-            });
+            let size = offset_size.into();
+            return Err(Refusal::InvalidOffsetSize { size }.into());
         }
-        let block = library::locate(offset)?;
-        Ok(Place {
+        let asked = library::ask_both(offset)?;
+        let agree = asked.agree;
+        let block = named(asked)?;
+        Ok(Located {
             offset,
             way: library::way(offset)?,
             block,
-            agree: library::count_to(offset).is_ok_and(|counted| counted == block),
+            agree,
             offset_size,
         })
     }
@@ -79,6 +93,14 @@ impl Place {
         lines
     }
 
+    /// The command fails where the engines differ.
+    fn verdict(&self) -> Result<(), Failure> {
+        match self.agree {
+            true => Ok(()),
+            false => Err(Failure::Not("the engines differ".into())),
+        }
+    }
+
     fn json(&self) -> String {
         let way = self
             .way
@@ -99,17 +121,14 @@ impl Place {
 }
 
 pub fn locate(arguments: &arguments::Locate) -> Result<(), Failure> {
-    let place = Place::new(arguments.offset, arguments.offset_size)?;
+    let located = Located::new(arguments.offset, arguments.offset_size)?;
     let mut talk = Talk::new(false, Volume::Results);
     match arguments.json {
-        true => talk.give(&place.json()),
-        false => place.lines().iter().for_each(|line| talk.give(line)),
+        true => talk.give(&located.json()),
+        false => located.lines().iter().for_each(|line| talk.give(line)),
     }
     talk.end()?;
-    match place.agree {
-        true => Ok(()),
-        false => Err(Failure::Not("the engines differ".into())),
-    }
+    located.verdict()
 }
 
 /// Slots of one size: the size, how many there are, and their bytes together.
@@ -183,6 +202,73 @@ pub fn slots(arguments: &arguments::Slots) -> Result<(), Failure> {
 #[cfg(test)]
 mod tests {
     use super::*;
+
+    // By the rules: row 10 begins at 4,096 * 2^9 and its slots have 2^19 bytes; of the block there, which holds the
+    // offset 1,024 past its start, row 0 has slots of 1,024 bytes.
+    fn located(agree: bool) -> Located {
+        let (row, column, start) = (10, 1, 2_621_440);
+        Located {
+            offset: 2_622_464,
+            way: vec![Entered { row, column, start }],
+            block: Slot {
+                start: 2_622_464,
+                size: 1_024,
+            },
+            agree,
+            offset_size: 8,
+        }
+    }
+
+    #[test]
+    fn engines_that_agree() {
+        let due = [
+            "heap offset 2,622,464",
+            "  indirect block  row 10, column 1, at heap offset 2,621,440",
+            "  direct block    1,024 bytes, at heap offset 2,622,464",
+            "  its header      ends at 2,622,486, at offset size 8; the offset is in it",
+            "  both engines name this block, by descent and by counting",
+        ];
+        assert_eq!(located(true).lines(), due);
+        assert!(located(true).json().contains(r#""engines_agree":true"#));
+        assert!(located(true).verdict().is_ok());
+    }
+
+    #[test]
+    fn engines_that_differ() {
+        let differing = located(false);
+        let last = differing.lines().pop();
+        let due = "  the engines differ: counting does not name this block";
+        assert_eq!(last.as_deref(), Some(due));
+        assert!(differing.json().contains(r#""engines_agree":false"#));
+        let told = differing.verdict();
+        assert!(matches!(told, Err(Failure::Not(why)) if why == "the engines differ"));
+    }
+
+    #[test]
+    fn where_one_engine_refuses_they_differ() {
+        let slot = || Slot {
+            start: 0,
+            size: 1_024,
+        };
+        let refusal = || Refusal::new(15, 1 << 40, 1 << 40);
+        let asked = |located, counted| {
+            let agree = false;
+            named(Asked {
+                located,
+                counted,
+                agree,
+            })
+        };
+        assert!(asked(Ok(slot()), Err(refusal())).is_ok_and(|block| block.size == 1_024));
+        let words = |asked| match asked {
+            Err(Failure::Not(words)) => words,
+            _ => panic!("it is not refused, or called wrong use"),
+        };
+        let due = "the engines differ: counting names the block of 1,024 bytes at heap offset 0, and by descent it is ";
+        assert!(words(asked(Err(refusal()), Ok(slot()))).starts_with(due));
+        let refused = words(asked(Err(refusal()), Err(refusal())));
+        assert!(refused.starts_with("refused by 15"));
+    }
 
     // By the rules: rows 0 and 1 have four slots of 1,024 bytes each, row 2 four of 2,048.
     #[test]

@@ -93,7 +93,7 @@ fn row_start(row: u64) -> u64 {
 }
 
 /// The rows of an indirect block that fills a slot of this row.
-pub fn nested_rows(row: u64) -> u64 {
+fn nested_rows(row: u64) -> u64 {
     row - 2
 }
 
@@ -193,13 +193,4 @@ impl Row {
         let fills = self.slots.iter().map(Slot::fill);
         fills.fold(Fill::default(), Fill::and)
     }
-}
-
-/// How many direct slots an indirect block of so many rows has, nested ones counted.
-pub fn direct_slots(rows: u64) -> u64 {
-    let of_row = |row| match slot_size(row) <= LARGEST_DIRECT {
-        true => WIDTH,
-        false => WIDTH * direct_slots(nested_rows(row)),
-    };
-    (0..rows).map(of_row).sum()
 }

@@ -27,6 +27,11 @@ pub struct Talk {
     failed: Option<io::Error>,
 }
 
+/// The verb of so many.
+pub fn is_or_are(number: u64) -> &'static str {
+    if number == 1 { "is" } else { "are" }
+}
+
 impl Talk {
     pub fn new(on_standard_error: bool, volume: Volume) -> Self {
         let (to, is_terminal): (Box<dyn Write>, bool) = match on_standard_error {

@@ -3,7 +3,7 @@ use crate::arguments::Write;
 use crate::check::check;
 use crate::destination::Destination;
 use crate::failure::Failure;
-use crate::heap::{self, Intake, Lines, Objects, Placed};
+use crate::heap::{self, Gathering, Intake, Lines, Objects, Placed};
 use crate::id::HeapId;
 use crate::image::{self, Layout, Part, Place};
 use crate::inputs::{self, Identity, Taken};
@@ -12,7 +12,6 @@ use crate::quoting::{self, shown};
 use crate::talk::{Talk, tell};
 use crate::{index, print};
 use fractal_heap::{Header, Refusal, Superblock, count, grouped};
-use serde_json::json;
 use std::ffi::OsStr;
 use std::path::PathBuf;
 
@@ -49,19 +48,18 @@ fn place(arguments: &Write) -> Result<Place, Failure> {
 /// A file's bytes are the object.
 struct Files {
     offset_size: u8,
-    lines: Lines,
 }
 
 impl Intake for Files {
-    const HEADING: &'static str = " object     size     heap offset  ID                       file";
+    const COLUMNS: [&'static str; 2] = ["size", "file"];
 
     fn head(&self, _: usize, _: &Taken) -> Result<Vec<u8>, Failure> {
         Ok(Vec::new())
     }
 
-    fn not_taken(&self, refusal: &Refusal, name: &OsStr, _: u64) -> Failure {
+    fn not_taken(&self, refusal: &Refusal, _: usize, name: &OsStr, _: u64) -> Failure {
         let w = self.offset_size;
-        let largest = image::LARGEST_DIRECT - image::block_header(w);
+        let largest = image::largest_object(w);
         Failure::Not(format!(
             "{refusal}\nthe file is {}; at offset size {w} an object has at most {} bytes",
             shown(name),
@@ -69,31 +67,9 @@ impl Intake for Files {
         ))
     }
 
-    fn line(&self, placed: &Placed) -> String {
-        match self.lines {
-            Lines::Ids => placed.id.to_string(),
-            Lines::Json => json_line(placed),
-            Lines::Table => format!(
-                "{:>7} {:>8} {:>15}  {}  {}",
-                grouped(placed.number as u64),
-                grouped(placed.size),
-                grouped(placed.offset),
-                placed.id,
-                shown(placed.name)
-            ),
-        }
+    fn columns<'p>(&'p self, placed: &'p Placed) -> (u64, &'p OsStr) {
+        (placed.size, placed.name)
     }
-}
-
-fn json_line(placed: &Placed) -> String {
-    let mut line = json!({
-        "object": placed.number,
-        "size": placed.size,
-        "offset": placed.offset,
-        "id": placed.id.to_string(),
-    });
-    index::put_name(&mut line, "file", placed.name);
-    line.to_string()
 }
 
 /// What reading from an image has to be told. Where bytes of an object stand as those of a superblock would, that is
@@ -116,13 +92,10 @@ fn options(image: &[u8], place: &Place) -> String {
 }
 
 /// How an object is read from the file, to be pasted.
-pub fn hint(out: &OsStr, options: &str, place: &Place, id: &Id) -> String {
-    let program = std::env::args_os().next().unwrap_or("poilures".into());
-    let command = format!(" read{options} ");
-    let behind = format!(" {} {}", place.header_at, HeapId::new(id));
-    let (program, file) = (quoting::word(program), quoting::word(out));
-    let parts = [&program, command.as_bytes(), &file, behind.as_bytes()];
-    quoting::line(&parts.concat())
+fn hint(out: &OsStr, options: &str, place: &Place, id: &Id) -> String {
+    let behind = format!("{} {}", place.header_at, HeapId::new(id));
+    let read = format!("read{options}");
+    quoting::command(&[read.as_bytes(), &quoting::word(out), behind.as_bytes()])
 }
 
 /// Keeps the image, and says where it is and how an object is read from it. Of a file it comes back which it is.
@@ -162,7 +135,7 @@ fn keep(
 
 pub fn write(arguments: &Write) -> Result<(), Failure> {
     let list = arguments.files0_from.as_deref();
-    let bytes = inputs::list_or_files(list, &arguments.files)?;
+    let (bytes, seen) = inputs::list_or_files(list, &arguments.files)?;
     let names = inputs::all_names(&arguments.files, list.zip(bytes.as_ref()))?;
     let place = place(arguments)?;
     let is_input = |file| inputs::is_among(file, names.iter().copied().chain(list));
@@ -174,12 +147,21 @@ pub fn write(arguments: &Write) -> Result<(), Failure> {
     let (lines, volume) = Lines::asked(arguments.json, arguments.quiet);
     let mut talk = Talk::new(matches!(destination, Destination::Standard), volume);
     let offset_size = place.offset_size;
-    let files = Files { offset_size, lines };
-    let objects = heap::take_in(&files, &names, offset_size, &destination, &mut talk)?;
+    let bytes = inputs::seen_bytes(&seen);
+    let gathering = Gathering::begin(names.len(), bytes, offset_size, &destination)?;
+    let files = Files { offset_size };
+    let objects = heap::take_in(
+        &files,
+        names.iter().copied().zip(seen),
+        gathering,
+        &destination,
+        lines,
+        &mut talk,
+    )?;
     let (heap, image) = heap::written(&objects, place, &destination, |_| vec![])?;
     heap::print_totals(&heap, &objects, "image", &mut talk);
     if arguments.map {
-        heap::print_map(&heap, &objects, arguments.ascii, &mut talk);
+        heap::print_map(&heap, &objects, arguments.ascii, &mut talk)?;
     }
     talk.say("");
     check(&image, &heap, &objects, &mut talk)?;

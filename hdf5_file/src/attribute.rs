@@ -20,35 +20,42 @@ impl Kind {
         }
     }
 
+    /// Bytes of the datatype and of the dataspace.
+    fn sizes(self) -> [usize; 2] {
+        match self {
+            Kind::Bytes => [12, 12],
+            Kind::Text => [8, 4],
+        }
+    }
+
     /// 'Datatype Message', version 1.
-    fn datatype(self, length: u64) -> Option<Vec<u8>> {
-        Some(match self {
+    fn put_datatype(self, length: u64, to: &mut Vec<u8>) -> Option<()> {
+        match self {
             Kind::Bytes => {
                 // Class 0, fixed-point: little-endian, without a sign; one byte, bits 0 to 7.
                 // Size, first bit, bits: 4, 2 and 2 bytes.
-                vec![0x10, 0, 0, 0, 1, 0, 0, 0, 0, 0, 8, 0]
+                to.extend([0x10, 0, 0, 0, 1, 0, 0, 0, 0, 0, 8, 0]);
             }
             Kind::Text => {
                 // Class 3, string: padded with zero bytes, of which it needs none; UTF-8.
-                let mut bytes = vec![0x13, 0x11, 0, 0];
-                bytes.extend(u32::try_from(length).ok()?.to_le_bytes());
-                bytes
+                to.extend([0x13, 0x11, 0, 0]);
+                to.extend(u32::try_from(length).ok()?.to_le_bytes());
             }
-        })
+        }
+        Some(())
     }
 
     /// 'Dataspace Message', version 2: without maximum sizes.
-    fn dataspace(self, length: u64) -> Vec<u8> {
+    fn put_dataspace(self, length: u64, to: &mut Vec<u8>) {
         match self {
             Kind::Bytes => {
                 let (dimensions, flags, simple) = (1, 0, 1);
-                let mut bytes = vec![2, dimensions, flags, simple];
-                bytes.extend(length.to_le_bytes());
-                bytes
+                to.extend([2, dimensions, flags, simple]);
+                to.extend(length.to_le_bytes());
             }
             Kind::Text => {
                 let (dimensions, flags, scalar) = (0, 0, 0);
-                vec![2, dimensions, flags, scalar]
+                to.extend([2, dimensions, flags, scalar]);
             }
         }
     }
@@ -57,9 +64,9 @@ impl Kind {
 /// What stands before a value of so many bytes in its message; None where the name or the value is longer than the
 /// message can say: a name has 65,534 bytes at most.
 pub fn message_head(name: &str, kind: Kind, length: u64) -> Option<Vec<u8>> {
-    let (datatype, dataspace) = (kind.datatype(length)?, kind.dataspace(length));
     let name_size = name.len() + 1;
-    let sizes = [name_size, datatype.len(), dataspace.len()];
+    let [datatype_size, dataspace_size] = kind.sizes();
+    let sizes = [name_size, datatype_size, dataspace_size];
     let (version, flags, utf8) = (3, 0, 1);
     let mut bytes = Vec::with_capacity(9 + sizes.iter().sum::<usize>());
     bytes.extend([version, flags]);
@@ -69,8 +76,8 @@ pub fn message_head(name: &str, kind: Kind, length: u64) -> Option<Vec<u8>> {
     bytes.push(utf8);
     bytes.extend(name.as_bytes());
     bytes.push(0);
-    bytes.extend(datatype);
-    bytes.extend(dataspace);
+    kind.put_datatype(length, &mut bytes)?;
+    kind.put_dataspace(length, &mut bytes);
     Some(bytes)
 }
 

@@ -1,70 +1,72 @@
 //! The attributes of a file's root group, as they are read.
-use crate::cursor::Bytes;
+use crate::cursor::{Bytes, Cursor};
+use crate::heap::{Messages, is_huge};
 use crate::message::{Attribute, attribute};
-use crate::name_tree::{NameTree, Record};
+use crate::name_index::UNTRACKED;
 use crate::object_header::{Message, messages};
-use crate::{Dense, Unreadable};
+use crate::root_group;
+use crate::superblock::{self, Superblock};
+use crate::tree::{ByName, Tree};
+use crate::{Dense, LENGTH_SIZE, OFFSET_SIZE, Unreadable};
+use fractal_heap::Header;
 use std::cmp::Ordering;
-use std::fmt;
 
+/// Types of messages, those that are written, too.
+const NIL: u64 = 0x00;
+const LINK_INFO: u64 = root_group::LINK_INFO as u64;
+const LINK: u64 = 0x06;
+const GROUP_INFO: u64 = root_group::GROUP_INFO as u64;
 const ATTRIBUTE: u64 = 0x0C;
-const ATTRIBUTE_INFO: u64 = 0x15;
+const SYMBOL_TABLE: u64 = 0x11;
+const MODIFICATION_TIME: u64 = 0x12;
+const ATTRIBUTE_INFO: u64 = root_group::ATTRIBUTE_INFO as u64;
 /// A record's flag: its message is shared, and so in another heap.
 const SHARED: u8 = 1 << 1;
-/// A creation order that is none.
-const UNTRACKED: u32 = 65_535;
-
-/// Why an attribute is not read: for something of the file around the heap, or for what who reads the heap says.
-#[derive(Debug, Clone, Copy, PartialEq, Eq)]
-pub enum Error<E> {
-    /// Of the file.
-    File(Unreadable),
-    /// Of the heap.
-    Heap(E),
-}
-
-impl<E> From<Unreadable> for Error<E> {
-    fn from(unreadable: Unreadable) -> Self {
-        Error::File(unreadable)
-    }
-}
-
-impl<E: fmt::Display> fmt::Display for Error<E> {
-    fn fmt(&self, f: &mut fmt::Formatter<'_>) -> fmt::Result {
-        match self {
-            Error::File(why) => why.fmt(f),
-            Error::Heap(why) => why.fmt(f),
-        }
-    }
-}
-
-impl<E: std::error::Error> std::error::Error for Error<E> {}
 
 /// An attribute that was found.
 #[derive(Debug, Clone, PartialEq, Eq)]
-pub struct Found<'f, E> {
-    /// Its message's heap ID; none where it lies in the object header.
+pub struct Found<'f> {
+    /// Its message's heap ID; none where it lies in the object header, or in another heap, shared.
     pub id: Option<[u8; 8]>,
+    /// Where its message is in the heap; none of one in the object header, of a shared one and of a huge object.
+    pub heap_offset: Option<u64>,
     /// Its number where order is tracked.
     pub order: Option<u16>,
     /// The attribute, or why it is not read: one that is not does not hide the others.
-    pub attribute: Result<Attribute<'f>, Error<E>>,
+    pub attribute: Result<Attribute<'f>, Unreadable>,
 }
 
 /// The attributes of the root group: few may lie in its object header, the others are in dense storage.
 pub struct Attributes<'f> {
     bytes: Bytes<'f>,
     compact: Vec<Message<'f>>,
-    dense: Option<(Dense, NameTree<'f>)>,
-    tracks_order: bool,
+    dense: Option<Storage<'f>>,
+    newest: Option<u16>,
+    other_content: Option<&'static str>,
+}
+
+/// Dense storage.
+struct Storage<'f> {
+    places: Dense,
+    messages: Messages<'f>,
+    names: Tree<'f, ByName>,
+}
+
+/// 'Attribute Info Message'.
+#[derive(Default)]
+struct Info {
+    newest: Option<u16>,
+    dense: Option<Dense>,
 }
 
 impl<'f> Attributes<'f> {
     /// Those of a whole file.
     pub fn open(file: &'f [u8]) -> Result<Self, Unreadable> {
-        let (bytes, root) = crate::superblock::open(file)?;
+        let superblock = superblock::open(file)?;
+        let bytes = superblock.bytes;
         let (mut info, mut compact) = (None, Vec::new());
-        for message in messages(&bytes, root)? {
+        let mut other_content = around_root_group(&superblock);
+        for message in messages(&bytes, superblock.root)? {
             match message.kind {
                 ATTRIBUTE => compact.push(message),
                 ATTRIBUTE_INFO if info.is_some() => {
@@ -73,95 +75,120 @@ impl<'f> Attributes<'f> {
                     return Err(Unreadable::Contradicts { what, why });
                 }
                 ATTRIBUTE_INFO => info = Some(attribute_info(message)?),
-                _ => {}
+                _ => other_content = other_content.or(beside_attributes(message)),
             }
         }
-        let (tracks_order, dense) = info.unwrap_or((false, None));
-        let tree = |dense: Dense| NameTree::open(bytes, dense.names).map(|tree| (dense, tree));
-        let dense = dense.map(tree).transpose()?;
+        let Info { newest, dense } = info.unwrap_or_default();
+        let storage = |places: Dense| {
+            Ok::<_, Unreadable>(Storage {
+                places,
+                names: Tree::open(bytes, places.names)?,
+                messages: Messages::new(bytes, places.heap),
+            })
+        };
         Ok(Attributes {
             bytes,
             compact,
-            dense,
-            tracks_order,
+            dense: dense.map(storage).transpose()?,
+            newest,
+            other_content,
         })
     }
 
-    /// The address of the heap, where there is one.
-    pub fn heap(&self) -> Option<u64> {
-        self.dense.as_ref().map(|(dense, _)| dense.heap)
+    /// What the header of the heap says, where there is one.
+    pub fn heap(&self) -> Result<Option<Header>, Unreadable> {
+        let header = |dense: &Storage| dense.messages.header();
+        self.dense.as_ref().map(header).transpose()
     }
 
-    /// The file's bytes from where its addresses count.
-    pub fn file(&self) -> &'f [u8] {
-        self.bytes.all
+    /// Where dense storage is, if there is any.
+    pub fn dense(&self) -> Option<Dense> {
+        self.dense.as_ref().map(|dense| dense.places)
     }
 
-    /// Bytes of an address and of a length.
-    pub fn sizes(&self) -> (u8, u8) {
-        (self.bytes.offset_size, self.bytes.length_size)
+    /// The Maximum Creation Index, where order is tracked.
+    pub fn newest(&self) -> Option<u16> {
+        self.newest
     }
 
-    /// The attribute of a name, if there is one. `read` gives the managed object of the heap by its ID.
-    pub fn find<E>(
-        &self,
-        name: &[u8],
-        read: impl Fn(&[u8; 8]) -> Result<&'f [u8], E>,
-    ) -> Result<Option<Found<'f, E>>, Error<E>> {
+    /// What the file has beside its attributes that a file of attributes, as [`RootGroup`](crate::RootGroup) begins one,
+    /// would not have, if anything: it is lost where such a file takes this one's place.
+    pub fn other_content(&self) -> Option<&'static str> {
+        self.other_content
+    }
+
+    /// The attribute of a name, if there is one.
+    pub fn find(&self, name: &[u8]) -> Result<Option<Found<'f>>, Unreadable> {
+        let mut unread = None;
         for message in &self.compact {
             let found = self.found_compact(message);
-            if found.attribute.as_ref().is_ok_and(|a| a.name == name) {
-                return Ok(Some(found));
+            match &found.attribute {
+                Ok(attribute) if attribute.name == name => return Ok(Some(found)),
+                Ok(_) => {}
+                Err(why) => unread = Some(*why),
             }
         }
-        let Some((_, tree)) = &self.dense else {
-            return Ok(None);
+        let found = match &self.dense {
+            None => None,
+            Some(dense) => self.find_dense(dense, name)?,
         };
+        // Where one is not read it may be that one.
+        match (found, unread) {
+            (None, Some(why)) => Err(why),
+            (found, _) => Ok(found),
+        }
+    }
+
+    fn find_dense(
+        &self,
+        dense: &Storage<'f>,
+        name: &[u8],
+    ) -> Result<Option<Found<'f>>, Unreadable> {
         let hash = fractal_heap::checksum(name);
         let mut found = None;
-        tree.find(|record| match hash.cmp(&record.hash) {
+        dense.names.find(|record| match hash.cmp(&record.hash) {
             // Only a record of the same hash needs its name: from its message, which is the one that is sought.
             Ordering::Equal => {
-                let attribute = self.dense_attribute(record, &read)?;
+                let attribute = dense.attribute(&self.bytes, record)?;
                 let order = name.cmp(attribute.name);
                 if order == Ordering::Equal {
-                    found = Some(self.found_dense(record, Ok(attribute)));
+                    found = Some(self.found_dense(dense, record, Ok(attribute)));
                 }
                 Ok(order)
             }
-            order => Ok::<_, Error<E>>(order),
+            order => Ok(order),
         })?;
         Ok(found)
     }
 
-    /// All attributes, in the order of their numbers where that is tracked, else of their places in the heap.
-    pub fn all<E>(
-        &self,
-        read: impl Fn(&[u8; 8]) -> Result<&'f [u8], E>,
-    ) -> Result<Vec<Found<'f, E>>, Error<E>> {
-        let mut found: Vec<Found<E>> = self.compact.iter().map(|m| self.found_compact(m)).collect();
-        if let Some((_, tree)) = &self.dense {
-            for record in tree.records()? {
-                let attribute = self.dense_attribute(&record, &read);
-                found.push(self.found_dense(&record, attribute));
-            }
-        }
-        // The heap offset stands in an ID behind its first byte, little-endian.
-        let place = |id: &[u8; 8]| {
-            id[1..6]
-                .iter()
-                .rev()
-                .fold(0, |n, &byte| n << 8 | u64::from(byte))
+    /// The attribute whose message has this heap ID, if there is one: what an attribute left that was removed is none.
+    pub fn find_id(&self, id: &[u8; 8]) -> Result<Option<Found<'f>>, Unreadable> {
+        let Some(dense) = &self.dense else {
+            return Ok(None);
         };
-        found.sort_by_key(|found| (found.order, found.id.as_ref().map(place)));
+        let name = attribute(&self.bytes, dense.messages.read(id)?)?.name;
+        let found = self.find(name)?;
+        Ok(found.filter(|found| found.id.as_ref() == Some(id)))
+    }
+
+    /// All attributes, in the order of their numbers where that is tracked, else those of the object header, then by their
+    /// places in the heap, then huge objects.
+    pub fn all(&self) -> Result<Vec<Found<'f>>, Unreadable> {
+        let mut found: Vec<Found> = self.compact.iter().map(|m| self.found_compact(m)).collect();
+        if let Some(dense) = &self.dense {
+            let mut records = dense.names.records()?;
+            records.sort_by_cached_key(|record| dense.place(&record.id));
+            found.extend(records.iter().map(|record| {
+                let attribute = dense.attribute(&self.bytes, record);
+                self.found_dense(dense, record, attribute)
+            }));
+        }
+        found.sort_by_key(|found| found.order);
         Ok(found)
     }
 
-    fn found_compact<E>(&self, message: &Message<'f>) -> Found<'f, E> {
-        let order = message
-            .order
-            .filter(|_| self.tracks_order)
-            .map(|order| order as u16);
+    fn found_compact(&self, message: &Message<'f>) -> Found<'f> {
+        let order = message.order.filter(|_| self.newest.is_some());
         let attribute = match message.is_shared {
             true => Err(Unreadable::NotHere {
                 why: "its message is shared with other objects",
@@ -170,53 +197,54 @@ impl<'f> Attributes<'f> {
         };
         Found {
             id: None,
-            order,
-            attribute: attribute.map_err(Error::File),
-        }
-    }
-
-    fn found_dense<E>(
-        &self,
-        record: &Record,
-        attribute: Result<Attribute<'f>, Error<E>>,
-    ) -> Found<'f, E> {
-        let order = Some(record.order).filter(|&order| self.tracks_order && order < UNTRACKED);
-        Found {
-            id: Some(record.id),
+            heap_offset: None,
             order: order.map(|order| order as u16),
             attribute,
         }
     }
 
-    /// The attribute that a record leads to, whose name must be that of the record's hash.
-    fn dense_attribute<E>(
+    fn found_dense(
         &self,
-        record: &Record,
-        read: &impl Fn(&[u8; 8]) -> Result<&'f [u8], E>,
-    ) -> Result<Attribute<'f>, Error<E>> {
+        dense: &Storage<'f>,
+        record: &ByName,
+        attribute: Result<Attribute<'f>, Unreadable>,
+    ) -> Found<'f> {
+        let is_tracked = self.newest.is_some() && record.order < UNTRACKED;
+        let is_here = record.flags & SHARED == 0;
+        Found {
+            id: is_here.then_some(record.id),
+            heap_offset: dense.messages.offset(&record.id).filter(|_| is_here),
+            order: is_tracked.then_some(record.order as u16),
+            attribute,
+        }
+    }
+}
+
+impl<'f> Storage<'f> {
+    /// Where an object comes among the others: managed ones by their heap offsets, huge ones behind them.
+    fn place(&self, id: &[u8; 8]) -> (bool, Option<u64>, [u8; 8]) {
+        (is_huge(id), self.messages.offset(id), *id)
+    }
+
+    /// The attribute that a record leads to, whose name must be that of the record's hash.
+    fn attribute(&self, bytes: &Bytes<'f>, record: &ByName) -> Result<Attribute<'f>, Unreadable> {
         if record.flags & SHARED != 0 {
             let why = "its message is shared with other objects";
-            return Err(Unreadable::NotHere { why }.into());
+            return Err(Unreadable::NotHere { why });
         }
-        // Bits 4 and 5 of an ID: managed, huge, tiny. III.G, 'Fractal Heap ID'.
-        if record.id[0] >> 4 & 3 == 1 {
-            let why = "it is a huge object, which has a place of its own in the file";
-            return Err(Unreadable::NotHere { why }.into());
-        }
-        let message = read(&record.id).map_err(Error::Heap)?;
-        let attribute = attribute(&self.bytes, message)?;
+        let attribute = attribute(bytes, self.messages.read(&record.id)?)?;
         match fractal_heap::checksum(attribute.name) == record.hash {
             true => Ok(attribute),
             false => {
                 let (what, why) = ("index", "a record leads to an attribute of another name");
-                Err(Unreadable::Contradicts { what, why }.into())
+                Err(Unreadable::Contradicts { what, why })
             }
         }
     }
 }
 
 /// Whether order is tracked, and where dense attributes are. IV.A.2.v, 'Attribute Info Message'.
-fn attribute_info(message: Message) -> Result<(bool, Option<Dense>), Unreadable> {
+fn attribute_info(message: Message) -> Result<Info, Unreadable> {
     let (mut at, what) = (message.data, "root group");
     if message.is_shared {
         let why = "its message on attributes is somewhere else";
@@ -224,8 +252,10 @@ fn attribute_info(message: Message) -> Result<(bool, Option<Dense>), Unreadable>
     }
     at.version("version of a message on attributes", &[0])?;
     let flags = at.byte()?;
-    let tracks_order = flags & 1 != 0;
-    at.take(if tracks_order { 2 } else { 0 })?; // the largest number
+    let newest = match flags & 1 {
+        0 => None,
+        _ => Some(at.number(2)? as u16),
+    };
     let dense = match (at.address()?, at.address()?) {
         (None, _) => None,
         (Some(heap), Some(names)) => Some(Dense { heap, names }),
@@ -234,5 +264,37 @@ fn attribute_info(message: Message) -> Result<(bool, Option<Dense>), Unreadable>
             return Err(Unreadable::Contradicts { what, why });
         }
     };
-    Ok((tracks_order, dense))
+    Ok(Info { newest, dense })
+}
+
+/// What there is around the root group that a file of attributes has not.
+fn around_root_group(superblock: &Superblock) -> Option<&'static str> {
+    let bytes = &superblock.bytes;
+    match (superblock.at, (bytes.offset_size, bytes.length_size)) {
+        (0, (OFFSET_SIZE, LENGTH_SIZE)) if superblock.end < bytes.all.len() as u64 => {
+            Some("bytes behind its end, which its superblock tells")
+        }
+        (0, (OFFSET_SIZE, LENGTH_SIZE)) => superblock.extension,
+        (0, _) => Some("addresses or lengths of other than 8 bytes"),
+        _ => Some("a user block"),
+    }
+}
+
+/// What a message of the root group says that there is, and a file of attributes has not.
+fn beside_attributes(message: Message) -> Option<&'static str> {
+    let links = Some("other objects, which its root group has links to");
+    match message.kind {
+        NIL | GROUP_INFO | MODIFICATION_TIME => None,
+        LINK_INFO if has_links(message.data.clone()) == Ok(false) => None,
+        LINK_INFO | LINK | SYMBOL_TABLE => links,
+        _ => Some("more in its root group than attributes"),
+    }
+}
+
+/// Whether links are in dense storage. IV.A.2.c, 'Link Info Message'.
+fn has_links(mut at: Cursor) -> Result<bool, Unreadable> {
+    at.version("version of a message on links", &[0])?;
+    let flags = at.byte()?;
+    at.take(if flags & 1 != 0 { 8 } else { 0 })?; // the largest number of one
+    Ok(at.address()?.is_some())
 }

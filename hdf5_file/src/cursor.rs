@@ -1,5 +1,6 @@
 //! Reading field by field, where every byte that is asked for may be missing.
 use crate::Unreadable;
+use fractal_heap::little_endian;
 use std::collections::BTreeMap;
 
 /// The bytes of a file from its superblock on, and the two sizes that it gives.
@@ -71,11 +72,7 @@ impl<'f> Cursor<'f> {
 
     /// A little-endian number of at most eight bytes.
     pub fn number(&mut self, width: u64) -> Result<u64, Unreadable> {
-        let bytes = self.take(width)?;
-        Ok(bytes
-            .iter()
-            .rev()
-            .fold(0, |number, &byte| number << 8 | u64::from(byte)))
+        self.take(width).map(little_endian)
     }
 
     pub fn byte(&mut self) -> Result<u8, Unreadable> {
@@ -139,9 +136,9 @@ impl<'f> Cursor<'f> {
 /// The parts of a structure that were met: they do not overlap, so that however they lead to each other no more is
 /// looked at than there is.
 #[derive(Default)]
-pub struct Met(BTreeMap<u64, u64>);
+pub struct PartsMet(BTreeMap<u64, u64>);
 
-impl Met {
+impl PartsMet {
     /// Another part, from a place on.
     pub fn add(&mut self, what: &'static str, at: u64, length: u64) -> Result<(), Unreadable> {
         let end = at.saturating_add(length.max(1));
@@ -185,7 +182,7 @@ mod tests {
 
     #[test]
     fn what_overlaps_is_refused() {
-        let mut met = Met::default();
+        let mut met = PartsMet::default();
         for (at, length, due) in [
             (100, 10, true),
             (110, 5, true),

@@ -10,23 +10,25 @@
 //! | header and nodes of the index, [`NameIndex`] | behind the region | III.A.2 |
 //!
 //! Sections are those of the HDF5 File Format Specification, version 3.0. Checksums are lookup3, by the proved
-//! function. Attributes of files that HDF5 made are read, too, [`Attributes`]; how an object of the heap is read is
-//! handed in.
+//! function. Attributes of files that HDF5 made are read, too, [`Attributes`]; managed objects of the heap are read by
+//! the proved reader.
 #![warn(missing_docs)]
 
 mod attribute;
 mod attributes;
 mod cursor;
+mod global_heap;
+mod heap;
 mod message;
 mod name_index;
-mod name_tree;
 mod object_header;
 mod root_group;
 mod superblock;
+mod tree;
 mod unreadable;
 
 pub use attribute::{Kind, message_head};
-pub use attributes::{Attributes, Error, Found};
+pub use attributes::{Attributes, Found};
 pub use message::Attribute;
 pub use name_index::{NameIndex, Named};
 pub use root_group::{Dense, MOST_IN_ORDER, Places, RootGroup};

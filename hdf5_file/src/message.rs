@@ -1,6 +1,6 @@
 //! An attribute's message that is read: IV.A.2.m, versions 1 to 3, with IV.A.2.b and d.
-use crate::Unreadable;
 use crate::cursor::{Bytes, Cursor};
+use crate::{Unreadable, global_heap};
 
 const WHAT: &str = "attribute's message";
 
@@ -11,6 +11,9 @@ pub struct Attribute<'f> {
     pub name: &'f [u8],
     /// Its value's bytes as they lie in the file, or why there are none to give.
     pub value: Result<&'f [u8], Unreadable>,
+    /// Its message up to the end of its value, where that lies in it, also where its bytes are not given: another file of
+    /// the same two sizes can have it as it is.
+    pub message: Option<&'f [u8]>,
 }
 
 /// The attribute that a message is.
@@ -33,8 +36,25 @@ pub fn attribute<'f>(bytes: &Bytes<'f>, message: &'f [u8]) -> Result<Attribute<'
     let name = name_of(part(name)?)?;
     let datatype = bytes.over("datatype", 0, part(datatype)?);
     let dataspace = bytes.over("dataspace", 0, part(dataspace)?);
-    let value = value(version, flags, datatype, dataspace, at);
-    Ok(Attribute { name, value })
+    let shape = Shape::of(version, flags, datatype, dataspace);
+    let (value, is_in_message) = match shape {
+        Ok(Shape::Bytes(size)) => {
+            let value = at.take(size);
+            (value, value.is_ok())
+        }
+        Ok(Shape::Other { size, why }) => {
+            let is_there = at.take(size).is_ok();
+            (Err(Unreadable::NotHere { why }), is_there)
+        }
+        Ok(Shape::Elsewhere) => (global_heap::value(bytes, at.clone()), false),
+        Err(why) => (Err(why), false),
+    };
+    let end = message.len() - at.rest.len();
+    Ok(Attribute {
+        name,
+        message: is_in_message.then_some(&message[..end]),
+        value,
+    })
 }
 
 /// A name as it is stored, with its one zero byte at the end.
@@ -48,38 +68,61 @@ fn name_of(stored: &[u8]) -> Result<&[u8], Unreadable> {
     }
 }
 
-fn value<'f>(
-    version: u8,
-    flags: u8,
-    datatype: Cursor,
-    dataspace: Cursor,
-    mut data: Cursor<'f>,
-) -> Result<&'f [u8], Unreadable> {
-    let shared = |why| Err(Unreadable::NotHere { why });
-    // Version 1 has no flags.
-    match flags & if version == 1 { 0 } else { 3 } {
-        0 => {}
-        1 => return shared("its type is shared with other objects"),
-        _ => return shared("its space is shared with other objects"),
-    }
-    let element = element_size(datatype)?;
-    let elements = elements(dataspace)?;
-    let size = elements
-        .checked_mul(element)
-        .ok_or(Unreadable::Contradicts {
-            what: "dataspace",
-            why: "the value has more than 2^64 - 1 bytes",
-        })?;
-    data.take(size)
+/// How a value lies in its message.
+enum Shape {
+    /// It is the next bytes, as many.
+    Bytes(u64),
+    /// So it is, but of a type whose bytes are not given.
+    Other { size: u64, why: &'static str },
+    /// The next bytes are the place of one string of variable length.
+    Elsewhere,
 }
 
-/// Bytes of one element, of a type whose bytes are the value. 'Datatype Message'.
-fn element_size(mut at: Cursor) -> Result<u64, Unreadable> {
+/// What one element of a type is.
+enum Element {
+    /// So many bytes of the value.
+    Bytes(u64),
+    /// As many, which are not given.
+    Other { size: u64, why: &'static str },
+    /// The place of a string of variable length.
+    String,
+}
+
+impl Shape {
+    fn of(version: u8, flags: u8, datatype: Cursor, dataspace: Cursor) -> Result<Self, Unreadable> {
+        let not_here = |why| Err(Unreadable::NotHere { why });
+        // Version 1 has no flags.
+        match flags & if version == 1 { 0 } else { 3 } {
+            0 => {}
+            1 => return not_here("its type is shared with other objects"),
+            _ => return not_here("its space is shared with other objects"),
+        }
+        let (element, elements) = (element(datatype)?, elements(dataspace)?);
+        let bytes = |size: u64| {
+            let (what, why) = ("dataspace", "the value has more than 2^64 - 1 bytes");
+            let bytes = elements.checked_mul(size);
+            bytes.ok_or(Unreadable::Contradicts { what, why })
+        };
+        match (element, elements) {
+            (Element::Bytes(size), _) => bytes(size).map(Shape::Bytes),
+            (Element::Other { size, why }, _) => {
+                let size = bytes(size)?;
+                Ok(Shape::Other { size, why })
+            }
+            (Element::String, 0) => Ok(Shape::Bytes(0)),
+            (Element::String, 1) => Ok(Shape::Elsewhere),
+            (Element::String, _) => not_here("it is a list of strings of variable length"),
+        }
+    }
+}
+
+/// 'Datatype Message': whether the bytes of an element are the value's, and how many there are.
+fn element(mut at: Cursor) -> Result<Element, Unreadable> {
     let class = at.byte()?;
-    at.take(3)?; // bits of the class
+    let bits = at.number(3)?;
     let size = at.number(4)?;
     match class >> 4 {
-        1..=3 => {}
+        1..=4 => {} // 4 has other references than 3, and nothing else
         number => {
             let what = "version of a datatype";
             return Err(Unreadable::Unknown {
@@ -88,14 +131,21 @@ fn element_size(mut at: Cursor) -> Result<u64, Unreadable> {
             });
         }
     }
+    let string = 1;
     let why = match class & 0xF {
-        0 | 1 | 3 => return Ok(size), // fixed-point, floating-point, string
-        9 => {
-            "it has a variable length, as h5py writes a str: the message has only the place of its bytes"
+        0 | 1 | 3 => return Ok(Element::Bytes(size)), // fixed-point, floating-point, string
+        9 if bits & 0xF == string && size == global_heap::place_size(&at.bytes) => {
+            return Ok(Element::String);
         }
+        9 => "it has elements of variable length that are no strings",
         6 => "it is a compound of several values",
         7 => "it is a reference to another object",
-        _ => "its type is none of numbers and strings of fixed length",
+        // Times, bits, opaque bytes and enumerations, a truth value among them, are all there.
+        2 | 4 | 5 | 8 => {
+            let why = "its type is none of numbers and strings";
+            return Ok(Element::Other { size, why });
+        }
+        _ => "its type is none of numbers and strings",
     };
     Err(Unreadable::NotHere { why })
 }

@@ -1,19 +1,19 @@
 //! The index of attributes by their names: III.A.2, 'Version 2 B-tree Header', 'Internal Node' and 'Leaf Node', with
 //! records of type 8, 'Version 2 B-tree, Type 8 Record Layout - Attribute Name for Indexed Attributes'.
+use crate::tree;
 use crate::{UNDEFINED, sealed};
 
 /// The type of the B-tree and of its nodes.
 const TYPE: u8 = 8;
 const RECORD_SIZE: usize = 17;
 const NODE_SIZE: usize = 512;
-/// Signature, version, type and checksum of a node.
-const NODE_OVERHEAD: usize = 10;
+const NODE_OVERHEAD: usize = tree::NODE_OVERHEAD as usize;
 const HEADER_LENGTH: u64 = 38;
 /// As HDF5 has them, in percent.
 const SPLIT: u8 = 100;
 const MERGE: u8 = 40;
 /// A record's creation order where none is tracked.
-const UNTRACKED: u32 = 65_535;
+pub const UNTRACKED: u32 = 65_535;
 
 type Record = [u8; RECORD_SIZE];
 
@@ -21,7 +21,7 @@ type Record = [u8; RECORD_SIZE];
 #[derive(Debug, Clone, Copy)]
 pub struct Named<'n> {
     /// Its name.
-    pub name: &'n str,
+    pub name: &'n [u8],
     /// Its message's heap ID.
     pub id: [u8; 8],
     /// Its number where order is tracked, from 0.
@@ -48,9 +48,8 @@ struct Level {
     below_width: usize,
 }
 
-/// Bytes that a count up to this limit takes.
 fn width(limit: u64) -> usize {
-    (limit.ilog2() / 8 + 1) as usize
+    tree::width(limit) as usize // at most 8
 }
 
 /// The B-tree of a list of names, which knows how long it will be.
@@ -69,9 +68,9 @@ impl NameIndex {
     pub fn new(attributes: &[Named]) -> Self {
         let mut keys: Vec<(u32, &Named)> = attributes
             .iter()
-            .map(|a| (fractal_heap::checksum(a.name.as_bytes()), a))
+            .map(|a| (fractal_heap::checksum(a.name), a))
             .collect();
-        keys.sort_unstable_by_key(|&(hash, a)| (hash, a.name.as_bytes()));
+        keys.sort_unstable_by_key(|&(hash, a)| (hash, a.name));
         let records: Vec<Record> = keys.iter().map(|(hash, a)| a.record(*hash)).collect();
         let levels = levels(records.len() as u64);
         NameIndex { records, levels }
@@ -215,7 +214,7 @@ mod tests {
 
     fn index(names: &[String]) -> NameIndex {
         let named = names.iter().map(|name| Named {
-            name,
+            name: name.as_bytes(),
             id: [0; 8],
             order: None,
         });
@@ -273,10 +272,10 @@ mod tests {
     #[test]
     fn names_of_one_hash_go_by_their_bytes() {
         for names in [["note 85167", "note 96241"], ["note 96241", "note 85167"]] {
-            let named = names.map(|name| Named {
+            let named = names.map(str::as_bytes).map(|name| Named {
                 name,
-                id: name.as_bytes()[..8].try_into().unwrap(),
-                order: Some(name.as_bytes()[5].into()),
+                id: name[..8].try_into().unwrap(),
+                order: Some(name[5].into()),
             });
             let index = NameIndex::new(&named);
             assert_eq!(index.records.len(), 2);

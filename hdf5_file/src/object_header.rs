@@ -1,6 +1,6 @@
 //! The messages of an object header that is read: IV.A.1.a and b, with IV.A.2.q, 'Object Header Continuation Message'.
 use crate::Unreadable;
-use crate::cursor::{Bytes, Cursor, Met};
+use crate::cursor::{Bytes, Cursor, PartsMet};
 use std::collections::VecDeque;
 
 const WHAT: &str = "object header";
@@ -44,7 +44,7 @@ pub fn messages<'f>(bytes: &Bytes<'f>, at: u64) -> Result<Vec<Message<'f>>, Unre
         true => version_2(start)?,
         false => version_1(start)?,
     };
-    let (mut met, mut found) = (Met::default(), Vec::new());
+    let (mut met, mut found) = (PartsMet::default(), Vec::new());
     let mut blocks = VecDeque::from([first]);
     while let Some(block) = blocks.pop_front() {
         met.add(WHAT, place_of(bytes, &block), block.rest.len() as u64)?;

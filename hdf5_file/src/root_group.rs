@@ -8,9 +8,9 @@ use crate::{UNDEFINED, sealed};
 pub const MOST_IN_ORDER: u64 = 65_534;
 
 /// The types of the messages.
-const LINK_INFO: u8 = 0x02;
-const GROUP_INFO: u8 = 0x0A;
-const ATTRIBUTE_INFO: u8 = 0x15;
+pub const LINK_INFO: u8 = 0x02;
+pub const GROUP_INFO: u8 = 0x0A;
+pub const ATTRIBUTE_INFO: u8 = 0x15;
 
 /// Where a file of attributes has its first parts.
 #[derive(Debug, Clone, Copy, PartialEq, Eq)]
@@ -68,7 +68,8 @@ impl RootGroup {
             self.message(ATTRIBUTE_INFO, &self.attribute_info()),
         ]
         .concat();
-        // Bits 0 and 1: the size of the messages has four bytes. Bit 2: attributes have their order tracked.
+        // Bits 0 and 1: the size of the messages has four bytes, where one would do, so that HDF5 can let it grow.
+        // Bit 2: attributes have their order tracked.
         let flags = 2 | u8::from(self.newest.is_some()) << 2;
         let mut bytes = [b"OHDR", &[2, flags][..]].concat();
         bytes.extend((messages.len() as u32).to_le_bytes());

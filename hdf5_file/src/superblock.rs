@@ -2,7 +2,7 @@
 use crate::cursor::Bytes;
 use crate::{LENGTH_SIZE, OFFSET_SIZE, UNDEFINED, Unreadable, sealed};
 
-const SIGNATURE: &[u8] = b"\x89HDF\r\n\x1a\n";
+const SIGNATURE: &[u8] = fractal_heap::Superblock::SIGNATURE;
 /// Version 3 only adds flags of a file that several processes have open.
 const VERSION: u8 = 2;
 /// Bytes of it.
@@ -22,22 +22,53 @@ pub fn superblock(root: u64, end: u64) -> Vec<u8> {
 
 const WHAT: &str = "superblock";
 
-/// A file's bytes from its superblock on, with its two sizes, and the address of the root group's object header. II.A,
-/// 'Superblock (Versions 0 and 1)' and '(Versions 2 and 3)'. The base address is not read: HDF5 takes the superblock's
-/// own place for it, whatever the field says, and moves the end of the file by as much.
-pub fn open(file: &[u8]) -> Result<(Bytes<'_>, u64), Unreadable> {
+/// What a superblock says.
+pub struct Superblock<'f> {
+    /// The file from there on.
+    pub bytes: Bytes<'f>,
+    /// Where it is in the file.
+    pub at: u64,
+    /// The address at which the file ends: what stands behind is none of its bytes.
+    pub end: u64,
+    /// What its extension is, if it has one, or in versions 0 and 1 what stands for it.
+    pub extension: Option<&'static str>,
+    /// The address of the root group's object header.
+    pub root: u64,
+}
+
+/// So many bytes of a signature make a place one of a damaged superblock: more than those that PNG's has, which are five.
+const MOST: usize = 6;
+
+/// Whether most of a signature stands at a place where it is sought before this one.
+fn is_behind_a_damaged_one(file: &[u8], at: u64) -> bool {
+    let places = std::iter::successors(Some(0), |&place: &u64| Some((2 * place).max(512)));
+    let most = |place: u64| {
+        let stored = &file[place as usize..];
+        stored.iter().zip(SIGNATURE).filter(|(a, b)| a == b).count() >= MOST
+    };
+    places.take_while(|&place| place < at).any(most)
+}
+
+/// A file's superblock. II.A, 'Superblock (Versions 0 and 1)' and '(Versions 2 and 3)'. One behind the start of the file may
+/// lie in another file, as its value, and that file's own superblock be damaged. So its base address has to be its place,
+/// which it is behind a user block that HDF5 made, and no place before may look like one of a superblock.
+pub fn open(file: &[u8]) -> Result<Superblock<'_>, Unreadable> {
+    let contradicts = |why| Err(Unreadable::Contradicts { what: WHAT, why });
     let found = fractal_heap::Superblock::find(file).ok_or(Unreadable::NoSuperblock)?;
-    let (offset_size, length_size) = found.sizes.ok_or(match found.version {
-        0..=3 => Unreadable::EndsEarly {
-            what: WHAT,
-            at: 0,
-            needed: LENGTH,
-            there: file.len() as u64 - found.at,
-        },
-        version => Unreadable::Unknown {
-            what: "version of the superblock",
-            number: version.into(),
-        },
+    if is_behind_a_damaged_one(file, found.at) {
+        return contradicts(
+            "most of a signature stands at a place before: the file's own is damaged",
+        );
+    }
+    let base_at = found.base_at().ok_or(Unreadable::Unknown {
+        what: "version of the superblock",
+        number: found.version.into(),
+    })?;
+    let (offset_size, length_size) = found.sizes.ok_or(Unreadable::EndsEarly {
+        what: WHAT,
+        at: 0,
+        needed: LENGTH,
+        there: file.len() as u64 - found.at,
     })?;
     for (what, size) in [("offset size", offset_size), ("length size", length_size)] {
         if !matches!(size, 2 | 4 | 8) {
@@ -53,34 +84,39 @@ pub fn open(file: &[u8]) -> Result<(Bytes<'_>, u64), Unreadable> {
     };
     let start = bytes.at(WHAT, 0)?;
     let mut at = start.clone();
-    let to_base = match found.version {
-        0 => 24,
-        1 => 28,
-        _ => 12,
-    };
-    at.take(to_base)?;
+    at.take(base_at)?;
     let base = at.number(offset_size.into())?;
-    at.address()?; // of free space, or the extension
+    let second = at.address()?;
     let end = at.number(offset_size.into())?;
-    let root = match found.version {
+    let (root, extension) = match found.version {
         0 | 1 => {
-            at.address()?; // of the driver's block
+            let free_space = second.map(|_| "an index of free space");
+            let driver = at.address()?.map(|_| "a driver's information block");
             at.address()?; // of the root group's name, III.C
-            at.defined()?
+            (at.defined()?, free_space.or(driver))
         }
         _ => {
             let root = at.defined()?;
             at.checksum(&start)?;
-            root
+            (root, second.map(|_| "a superblock extension"))
         }
     };
+    if found.at > 0 && base != found.at {
+        return contradicts(
+            "its base address is not its place: it may lie in a file whose own superblock is damaged; a file that was put \
+             behind a user block is read without that",
+        );
+    }
     let there = all.len() as u64;
     match end.checked_sub(base) {
-        Some(due) if due <= there => Ok((bytes, root)),
-        Some(due) => Err(Unreadable::Cut { due, there }),
-        None => Err(Unreadable::Contradicts {
-            what: WHAT,
-            why: "the file ends before its addresses begin",
+        Some(end) if end <= there => Ok(Superblock {
+            bytes,
+            at: found.at,
+            end,
+            extension,
+            root,
         }),
+        Some(due) => Err(Unreadable::Cut { due, there }),
+        None => contradicts("the file ends before its addresses begin"),
     }
 }

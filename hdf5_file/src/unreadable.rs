@@ -38,6 +38,11 @@ pub enum Unreadable {
     },
     /// The value is somewhere else, or not of a kind whose bytes can be given.
     NotHere { why: &'static str },
+    /// What the reader of the heap says, and the block where it stopped, if at one.
+    Heap {
+        why: fractal_heap::Error,
+        block: Option<u64>,
+    },
 }
 
 impl fmt::Display for Unreadable {
@@ -89,6 +94,11 @@ impl fmt::Display for Unreadable {
             ),
             Unreadable::Contradicts { what, why } => write!(f, "the {what} is not sound: {why}"),
             Unreadable::NotHere { why } => write!(f, "its bytes are not read: {why}"),
+            Unreadable::Heap { why, block: None } => why.fmt(f),
+            Unreadable::Heap {
+                why,
+                block: Some(at),
+            } => write!(f, "{why}; the block is at {}", grouped(at)),
         }
     }
 }

@@ -12,7 +12,7 @@ use Rattle.fields.specs.LittleEndian.{le, value, le_at}
 use Rattle.fields.proofs.LittleEndian.{le_at-drop, value-lt}
 use Rattle.checksum.specs.Words.{add32}
 use Rattle.checksum.specs.Mix.{mixed, final_mixed}
-use Rattle.checksum.specs.Lookup3.{grouped, run, begun, groups_of, tail_of, hashlittle}
+use Rattle.checksum.specs.Lookup3.{grouped, mixed_groups, begun, groups_of, tail_of, hashlittle}
 use Rattle.checksum.specs.Undoing.{Fit}
 use Rattle.checksum.specs.Damage.{words_after, final_words, Bytes, OnePart, GroupsShow, PartsShow}
 use Rattle.checksum.specs.declared.mixing.State.{State}
@@ -26,13 +26,13 @@ abbrev with_part : (bytes : List ℕ) (n : ℕ) → State
 with_part bytes n = grouped bytes (12 * n) (words_after bytes n)
 
 run-last : (bytes : List ℕ) (p n : ℕ) (s : State)
-    → run bytes p (suc n) s ≡ mixed (grouped bytes (p + 12 * n) (run bytes p n s))
-unfolding run
+    → mixed_groups bytes p (suc n) s ≡ mixed (grouped bytes (p + 12 * n) (mixed_groups bytes p n s))
+unfolding mixed_groups
 run-last bytes p zero s = rw (add-zero p) refl
 run-last bytes p (suc n) s =
     let s' = mixed (grouped bytes p s) in
     let e : p + 12 + 12 * n ≡ p + 12 * suc n = omega arith in
-    run-last bytes (p + 12) n s' ∙ ap (λ (q : ℕ). mixed (grouped bytes q (run bytes (p + 12) n s'))) e
+    run-last bytes (p + 12) n s' ∙ ap (λ (q : ℕ). mixed (grouped bytes q (mixed_groups bytes (p + 12) n s'))) e
 
 next : (bytes : List ℕ) (n : ℕ) → words_after bytes (suc n) ≡ mixed (with_part bytes n)
 next bytes n =
@@ -43,7 +43,7 @@ with-fit : (bytes : List ℕ) (n : ℕ) → Fit (with_part bytes n)
 with-fit bytes n = record { a = add_lt _ _; b = add_lt _ _; c = add_lt _ _ }
 
 words-fit : (bytes : List ℕ) (n : ℕ) → Fit (words_after bytes n)
-unfolding run
+unfolding mixed_groups
 words-fit bytes zero = record { a = add_lt _ _; b = add_lt _ _; c = add_lt _ _ }
 words-fit bytes (suc n) = subst Fit (sym (next bytes n)) (mix-undone.keeps (with_part bytes n) (with-fit bytes n))
 
@@ -76,7 +76,7 @@ module _ (xs ys : List ℕ) (q : ℕ) where
 
   words-before : length xs ≡ length ys → take q xs ≡ take q ys → (n : ℕ) → 12 * n ≤ q
       → words_after xs n ≡ words_after ys n
-  unfolding run
+  unfolding mixed_groups
   words-before l e zero h = ap begun l
   words-before l e (suc n) h =
       let same = words-before l e n (omega arith) in

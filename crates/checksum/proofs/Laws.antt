@@ -2,16 +2,16 @@
 use Rattle.std.proofs.Common.{◌≡◌, ℕ, suc, ◌+◌, ◌-◌, ◌<◌, ◌≤◌, List, length, sym, arith}
 use Rattle.checksum.specs.Mix.{mixed}
 use Rattle.checksum.specs.declared.mixing.State.{State}
-use Rattle.checksum.specs.Lookup3.{group_size, grouped, run, groups_of}
+use Rattle.checksum.specs.Lookup3.{group_size, grouped, mixed_groups, groups_of}
 use Rattle.checksum.specs.Laws.{MixedWhileMore, SwitchedByCase, TailsSwitched}
 use Rattle.checksum.proofs.Switch.{switch-words, tail-group}
 use Rattle.checksum.proofs.Switch.{after_none, after_case, after_above, after_rest}
-use Rattle.checksum.proofs.Walk.{groups-more, groups_none}
+use Rattle.checksum.proofs.Loop.{groups-more, groups_none}
 
 turn-mixed : (bytes : List ℕ) (at : ℕ) (s : State) → group_size < length bytes - at
-    → run bytes at (groups_of (length bytes - at)) s
-    ≡ run bytes (at + group_size) (groups_of (length bytes - (at + group_size))) (mixed (grouped bytes at s))
-unfolding run
+    → mixed_groups bytes at (groups_of (length bytes - at)) s
+    ≡ mixed_groups bytes (at + group_size) (groups_of (length bytes - (at + group_size))) (mixed (grouped bytes at s))
+unfolding mixed_groups
 turn-mixed bytes at s h =
     let more : groups_of (length bytes - at) ≡ suc (groups_of (length bytes - at - group_size)) =
     groups-more (length bytes - at) h in
@@ -19,8 +19,8 @@ turn-mixed bytes at s h =
     rw (more, left)
 
 turns_end : (bytes : List ℕ) (at : ℕ) (s : State) → length bytes - at ≤ group_size
-    → run bytes at (groups_of (length bytes - at)) s ≡ s
-unfolding run
+    → mixed_groups bytes at (groups_of (length bytes - at)) s ≡ s
+unfolding mixed_groups
 turns_end bytes at s h = rw (groups_none (length bytes - at) h)
 
 pub mixed-while-more : MixedWhileMore

@@ -1,7 +1,7 @@
 -- The words after each case of the switch. It adds what its tail's bytes are as words, four to each: so a tail is added
 -- as a group is.
 use Rattle.std.proofs.Common.{◌≡◌, ℕ, ◌+◌, ◌*◌, ◌^◌, ◌<◌, ◌≤◌, List, [], ◌∷◌, length, take, drop, refl, ◌∙◌, add-zero}
-use Rattle.std.proofs.Common.{zero, suc, ◌-◌, sym, ne_eqb, arith, length-drop, pow-add}
+use Rattle.std.proofs.Common.{zero, suc, ◌-◌, sym, ap, ne_eqb, arith, length-drop, pow-add}
 use Rattle.std.proofs.lemmas.Bool.Decides.{nat_tests}
 use Rattle.fields.specs.LittleEndian.{le_at, value}
 use Rattle.fields.proofs.LittleEndian.{le_at-drop}
@@ -140,3 +140,19 @@ pub tail-group : (bytes : List ℕ) (at : ℕ) {s : State} → length bytes ≤ 
 tail-group bytes at {s} most f =
     let words = switch-words (drop at bytes) s f (rw (length-drop at bytes) (omega (arith, most))) in
     rw (words, le_at-drop bytes at 0 4, le_at-drop bytes at 4 4, le_at-drop bytes at 8 4, add-zero at) refl
+
+tail_ended : (bytes : List ℕ) (at : ℕ) {s : State} → at < length bytes → length bytes ≤ at + group_size → Fit s
+    → ended (drop at bytes) s ≡ (final_mixed (grouped bytes at s)).c
+tail_ended bytes at {s} some most f =
+    let more : 0 < length (drop at bytes) = rw (length-drop at bytes) (omega (arith, some)) in
+    sym (ended_some (drop at bytes) s more)
+    ∙ ap (λ (t : State). (final_mixed t).c) (after_last (drop at bytes) s ∙ sym (tail-group bytes at most f))
+
+-- tails that make the same of their words have the same end
+pub tails_end_alike : (xs ys : List ℕ) (at : ℕ) {s t : State} → length xs ≡ length ys → at < length xs
+    → length xs ≤ at + group_size → Fit s → Fit t → grouped xs at s ≡ grouped ys at t
+    → ended (drop at xs) s ≡ ended (drop at ys) t
+tails_end_alike xs ys at e some most f g same =
+    tail_ended xs at some most f
+    ∙ ap (λ (w : State). (final_mixed w).c) same
+    ∙ sym (tail_ended ys at (omega arith) (omega arith) g)

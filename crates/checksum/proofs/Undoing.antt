@@ -127,11 +127,9 @@ module _ (k : ℕ) where
 -- ---- the macros
 
 pub mix-undone : Undoes mixed unmixed
-unfolding mixed unmixed
 mix-undone = mix-a 4 then mix-b 6 then mix-c 8 then mix-a 16 then mix-b 19 then mix-c 4
 
 pub final-undone : Undoes final_mixed unfinal_mixed
-unfolding final_mixed unfinal_mixed
 final-undone = final-c 14 then final-a 11 then final-b 25 then final-c 16 then final-a 4 then final-b 14 then final-c 24
 
 pub undone-tells : {f g : State → State} → Undoes f g → Injective f

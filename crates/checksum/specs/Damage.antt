@@ -1,12 +1,13 @@
 -- What a change of the bytes does to the words of hashlittle.
 use Rattle.std.specs.Prelude.{ℕ, suc, ◌≡◌, ◌<◌, ◌+◌, ◌*◌, List, length, take, drop, slice_index}
 use Rattle.checksum.specs.Mix.{final_mixed}
-use Rattle.checksum.specs.Lookup3.{group_size, run, begun, body, tail_of, switched, hashlittle}
+use Rattle.checksum.specs.Lookup3.{group_size, mixed_groups, begun, body, tail_of}
+use Rattle.checksum.specs.Lookup3.{switched, hashlittle}
 use Rattle.checksum.specs.declared.mixing.State.{State}
 
 -- the words after the mix of the n-th group
 abbrev pub words_after : (bytes : List ℕ) (n : ℕ) → State
-words_after bytes n = run bytes 0 n (begun (length bytes))
+words_after bytes n = mixed_groups bytes 0 n (begun (length bytes))
 
 -- the three words at the end
 abbrev pub final_words : (bytes : List ℕ) → State

@@ -3,18 +3,19 @@ use Rattle.std.specs.Prelude.{ℕ, suc, ◌≡◌, ◌<◌, ◌≤◌, ◌+◌, 
 use Rattle.checksum.specs.Mix.{mixed}
 use Rattle.checksum.specs.declared.mixing.State.{State}
 use Rattle.checksum.specs.Undoing.{Fit}
-use Rattle.checksum.specs.Lookup3.{group_size, grouped, run, groups_of, case_met, switched, after}
+use Rattle.checksum.specs.Lookup3.{group_size, grouped, mixed_groups, groups_of}
+use Rattle.checksum.specs.Lookup3.{case_met, switched, after}
 
 -- the loop mixes a group exactly while more bytes remain than it has
 pub record MixedWhileMore : Type 0 where
   pub more : (n : ℕ) → group_size < n → groups_of n ≡ suc (groups_of (n - group_size))
   pub none : (n : ℕ) → n ≤ group_size → groups_of n ≡ 0
   pub turn : (bytes : List ℕ) (at : ℕ) (s : State) → group_size < length bytes - at
-      → run bytes at (groups_of (length bytes - at)) s
-      ≡ run bytes (at + group_size) (groups_of (length bytes - (at + group_size)))
+      → mixed_groups bytes at (groups_of (length bytes - at)) s
+      ≡ mixed_groups bytes (at + group_size) (groups_of (length bytes - (at + group_size)))
       (mixed (grouped bytes at s))
   pub end : (bytes : List ℕ) (at : ℕ) (s : State) → length bytes - at ≤ group_size
-      → run bytes at (groups_of (length bytes - at)) s ≡ s
+      → mixed_groups bytes at (groups_of (length bytes - at)) s ≡ s
 
 -- the words after case n of the switch, whatever the words before it and the tail: before case 12
 -- they are as they were; case n makes its words of those after case n + 1; no case above the tail's

@@ -1,7 +1,9 @@
--- HDF5 File Format Specification 3.0, I.A: every checksum is Jenkins' lookup3. lookup3.c (Bob Jenkins, May 2006, public
--- domain), hashlittle, by the last of its three ways, byte by byte. That it is hashlittle with initval 0 the text does
--- not say: it is what HDF5's files have (docs/RULES.md). Each definition says which part it follows.
-use Rattle.std.specs.Prelude.{ℕ, zero, suc, ◌+◌, ◌-◌, ◌*◌, ◌/◌, ◌%◌, ◌^◌, if◌then◌else◌, List, length, drop, ◌==◌}
+-- HDF5 File Format Specification 3.0, I.A: every checksum is Jenkins' lookup3. lookup3.c (Bob
+-- Jenkins, May 2006, public domain), hashlittle, by the last of its three ways, byte by byte. That
+-- it is hashlittle with initval 0 the text does not say: it is what HDF5's files have
+-- (docs/RULES.md). Each definition says which part it follows.
+use Rattle.std.specs.Prelude.{ℕ, zero, suc, ◌+◌, ◌-◌, ◌*◌, ◌/◌, ◌%◌, ◌^◌, if◌then◌else◌, List}
+use Rattle.std.specs.Prelude.{length, drop, ◌==◌}
 use Rattle.std.specs.Prelude.{nat_le, slice_index}
 use Rattle.fields.specs.LittleEndian.{le_at}
 use Rattle.checksum.specs.Words.{add32}
@@ -19,8 +21,8 @@ begun n = record { a = first_word n; b = first_word n; c = first_word n }
 abbrev pub group_size : ℕ
 group_size = 12
 
--- the loop's twelve additions, of the group from p on: four to a, four to b, four to c, shifted by 0, 8, 16 and 24
--- bits
+-- the loop's twelve additions, of the group from p on: four to a, four to b, four to c, shifted by
+-- 0, 8, 16 and 24 bits
 abbrev pub grouped : (bytes : List ℕ) (p : ℕ) (s : State) → State
 grouped bytes p s = record {
   a = add32 s.a (le_at bytes p 4);
@@ -28,25 +30,27 @@ grouped bytes p s = record {
   c = add32 s.c (le_at bytes (p + 8) 4);
 }
 
--- the loop, while more bytes are left than a group has: one group is added and mixed. n such groups from p on
-unfoldable pub run : (bytes : List ℕ) (p n : ℕ) (s : State) → State
-run bytes p zero s = s
-run bytes p (suc n) s = run bytes (p + group_size) n (mixed (grouped bytes p s))
+-- the loop, while more bytes are left than a group has: one group is added and mixed. n such groups
+-- from p on
+unfoldable pub mixed_groups : (bytes : List ℕ) (p n : ℕ) (s : State) → State
+mixed_groups bytes p zero s = s
+mixed_groups bytes p (suc n) s = mixed_groups bytes (p + group_size) n (mixed (grouped bytes p s))
 
--- how often more than a group remains of n bytes: that this is the loop's count is the law `MixedWhileMore`
+-- how often more than a group remains of n bytes: that this is the loop's count is the law
+-- `MixedWhileMore`
 abbrev pub groups_of : ℕ → ℕ
 groups_of n = (n - 1) / group_size
 
 -- the words after the loop
 abbrev pub body : List ℕ → State
-body bytes = run bytes 0 (groups_of (length bytes)) (begun (length bytes))
+body bytes = mixed_groups bytes 0 (groups_of (length bytes)) (begun (length bytes))
 
 -- the bytes that are left after it
 abbrev pub tail_of : List ℕ → List ℕ
 tail_of bytes = drop (group_size * groups_of (length bytes)) bytes
 
--- case n of the switch adds x, the n-th byte: cases 1 to 4 to a, 5 to 8 to b, 9 to 12 to c, shifted by 0, 8,
--- 16 and 24 bits in turn
+-- case n of the switch adds x, the n-th byte: cases 1 to 4 to a, 5 to 8 to b, 9 to 12 to c, shifted
+-- by 0, 8, 16 and 24 bits in turn
 abbrev pub case_added : (n x : ℕ) (s : State) → State
 case_added n x s =
     let y = x * 2 ^ ((n - 1) % 4 * 8) in
@@ -54,8 +58,8 @@ case_added n x s =
     else if nat_le n 8 then record { a = s.a; b = add32 s.b y; c = s.c }
     else record { a = s.a; b = s.b; c = add32 s.c y }
 
--- a tail enters at the case of its length and falls through to case 1, so it meets case n if it has n
--- bytes or more
+-- a tail enters at the case of its length and falls through to case 1, so it meets case n if it has
+-- n bytes or more
 abbrev pub case_met : (n : ℕ) (tail : List ℕ) (s : State) → State
 case_met n tail s = if nat_le n (length tail) then case_added n (slice_index tail (n - 1)) s else s
 
@@ -69,7 +73,8 @@ unfoldable pub passed : (done : ℕ) (tail : List ℕ) (s : State) → State
 passed zero tail s = s
 passed (suc done) tail s = case_met (group_size - done) tail (passed done tail s)
 
--- the words after case n: the cases from 12 down to n are done; after case 13, which there is not, none is
+-- the words after case n: the cases from 12 down to n are done; after case 13, which there is not,
+-- none is
 unfoldable pub after : (n : ℕ) (tail : List ℕ) (s : State) → State
 after n tail s = passed (group_size + 1 - n) tail s
 

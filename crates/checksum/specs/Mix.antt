@@ -1,5 +1,5 @@
--- The mix and the final mix of three words: the macros mix and final of lookup3.c (Bob Jenkins, May 2006, public
--- domain). A definition follows one line of C, with k for the line's rotation.
+-- The mix and the final mix of three words: the macros mix and final of lookup3.c (Bob Jenkins, May
+-- 2006, public domain). A definition follows one line of C, with k for the line's rotation.
 use Rattle.std.specs.Prelude.{ℕ}
 use Rattle.checksum.specs.Words.{add32, sub_xor, xor_sub}
 use Rattle.checksum.specs.declared.mixing.State.{State}
@@ -19,7 +19,7 @@ abbrev pub mix_c : ℕ → State → State
 mix_c k s = record { a = s.a; b = add32 s.b s.a; c = sub_xor s.c s.b k }
 
 -- its six lines in turn, with the rotations 4 6 8 16 19 4
-unfoldable pub mixed : State → State
+abbrev pub mixed : State → State
 mixed s = mix_c 4 (mix_b 19 (mix_a 16 (mix_c 8 (mix_b 6 (mix_a 4 s)))))
 
 -- ---- the macro final
@@ -37,5 +37,7 @@ abbrev pub final_b : ℕ → State → State
 final_b k s = record { a = s.a; b = xor_sub s.b s.a k; c = s.c }
 
 -- its seven lines in turn, with the rotations 14 11 25 16 4 14 24
-unfoldable pub final_mixed : State → State
-final_mixed s = final_c 24 (final_b 14 (final_a 4 (final_c 16 (final_b 25 (final_a 11 (final_c 14 s))))))
+abbrev pub final_mixed : State → State
+final_mixed s =
+    final_c 24 (final_b 14 (final_a 4 (final_c 16
+    (final_b 25 (final_a 11 (final_c 14 s))))))

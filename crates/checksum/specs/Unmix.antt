@@ -28,7 +28,7 @@ abbrev pub unmix_c : ℕ → State → State
 unmix_c k s = let b = sub32 s.b s.a in record { a = s.a; b = b; c = xor_add s.c b k }
 
 -- its six lines, the last first
-unfoldable pub unmixed : State → State
+abbrev pub unmixed : State → State
 unmixed s = unmix_a 4 (unmix_b 6 (unmix_c 8 (unmix_a 16 (unmix_b 19 (unmix_c 4 s)))))
 
 -- ---- the macro final
@@ -46,7 +46,7 @@ abbrev pub unfinal_b : ℕ → State → State
 unfinal_b k s = record { a = s.a; b = add_xor s.b s.a k; c = s.c }
 
 -- its seven lines, the last first
-unfoldable pub unfinal_mixed : State → State
+abbrev pub unfinal_mixed : State → State
 unfinal_mixed s =
     unfinal_c 14 (unfinal_a 11 (unfinal_b 25 (unfinal_c 16
     (unfinal_a 4 (unfinal_b 14 (unfinal_c 24 s))))))

@@ -1,8 +1,9 @@
-//! The mixing of Bob Jenkins' lookup3.c. One line of its macros mix and final is one function here, from a state to a
-//! state; a state is its three words.
+//! The mixing of Bob Jenkins' lookup3.c. One line of its macros mix and final is one function here,
+//! from a state to a state; a state is its three words.
 ghost use Rattle.std.specs.Prelude.{◌≡◌};
 ghost use Rattle.checksum.specs.Words.{sub_xor, xor_sub};
-ghost use Rattle.checksum.specs.Mix.{mix_a, mix_b, mix_c, mixed, final_a, final_b, final_c, final_mixed};
+ghost use Rattle.checksum.specs.Mix.{mix_a, mix_b, mix_c, mixed, final_a, final_b, final_c};
+ghost use Rattle.checksum.specs.Mix.{final_mixed};
 
 /// The three words a, b and c.
 #[derive(Clone, Copy)]
@@ -26,7 +27,8 @@ fn xor_sub(x: u32, y: u32, k: u32) -> u32
     (x ^ y).wrapping_sub(y.rotate_left(k))
 }
 
-// A line of mix for a: c is taken from it, then it is exclusive-ored with c rotated by `k`; b is added to c.
+// A line of mix for a: c is taken from it, then it is exclusive-ored with c rotated by `k`; b is
+// added to c.
 fn mix_a(s: State, k: u32) -> State
     ensures { result ≡ mix_a k s }
 {
@@ -60,7 +62,6 @@ fn mix_c(s: State, k: u32) -> State
 }
 
 /// The mix of three words, after each group of 12 bytes.
-#[tactic(auto, unfolding(crate::specs::Mix::mixed))]
 pub fn mix(s: State) -> State
     ensures { result ≡ mixed s }
 {
@@ -106,7 +107,6 @@ fn final_b(s: State, k: u32) -> State
 }
 
 /// The final mix of three words.
-#[tactic(auto, unfolding(crate::specs::Mix::final_mixed))]
 pub fn final_mix(s: State) -> State
     ensures { result ≡ final_mixed s }
 {

@@ -1,5 +1,5 @@
-//! The mixing of Bob Jenkins' lookup3.c undone: one line of its macros mix and final is undone by one function here;
-//! the inverse of each macro goes from its last line to its first.
+//! The mixing of Bob Jenkins' lookup3.c undone: one line of its macros mix and final is undone by
+//! one function here; the inverse of each macro goes from its last line to its first.
 ghost use Rattle.std.specs.Prelude.{◌≡◌};
 ghost use Rattle.checksum.specs.Mix.{mixed, final_mixed};
 ghost use Rattle.checksum.specs.Unmix.{xor_add, add_xor, unmix_a, unmix_b, unmix_c, unmixed};
@@ -8,14 +8,16 @@ ghost use Rattle.checksum.specs.Undoing.{Undoes, Injective};
 
 use crate::mixing::State;
 
-// What `sub_xor` did is undone: `x` is exclusive-ored with `y` rotated by `k`, then `y` is added to it.
+// What `sub_xor` did is undone: `x` is exclusive-ored with `y` rotated by `k`, then `y` is added to
+// it.
 fn xor_add(x: u32, y: u32, k: u32) -> u32
     ensures { result ≡ xor_add x y k }
 {
     (x ^ y.rotate_left(k)).wrapping_add(y)
 }
 
-// What `xor_sub` did is undone: `y` rotated by `k` is added to `x`, then `x` is exclusive-ored with `y`.
+// What `xor_sub` did is undone: `y` rotated by `k` is added to `x`, then `x` is exclusive-ored with
+// `y`.
 fn add_xor(x: u32, y: u32, k: u32) -> u32
     ensures { result ≡ add_xor x y k }
 {
@@ -59,7 +61,6 @@ fn unmix_c(s: State, k: u32) -> State
 }
 
 /// The inverse of the mix of three words.
-#[tactic(auto, unfolding(crate::specs::Unmix::unmixed))]
 pub fn unmix(s: State) -> State
     ensures { result ≡ unmixed s }
 {
@@ -102,7 +103,6 @@ fn unfinal_b(s: State, k: u32) -> State
 }
 
 /// The inverse of the final mix of three words.
-#[tactic(auto, unfolding(crate::specs::Unmix::unfinal_mixed))]
 pub fn unfinal_mix(s: State) -> State
     ensures { result ≡ unfinal_mixed s }
 {

@@ -1,5 +1,5 @@
-//! Fields of an HDF5 file: bounds-checked reads of addresses and lengths in a lent slice. What is stored, and how an
-//! answer is handed to C, is in modules.
+//! Fields of an HDF5 file: bounds-checked reads of addresses and lengths in a lent slice. What is
+//! stored, and how an answer is handed to C, is in modules.
 #![tactic(auto)]
 
 pub mod convert;
@@ -10,7 +10,8 @@ pub mod slot;
 pub mod stores;
 pub mod width;
 
-ghost use Rattle.std.specs.Prelude.{◌≡◌, ◌+◌, ◌≤◌, ◌↔◌, true, length, IsTrue, IsOk, OnOk, IfOk, OnErr, Err};
+ghost use Rattle.std.specs.Prelude.{◌≡◌, ◌+◌, ◌≤◌, ◌↔◌, true, length, IsTrue, IsOk, OnOk, IfOk};
+ghost use Rattle.std.specs.Prelude.{OnErr, Err};
 ghost use Rattle.numbers.specs.Numbers.{saturated};
 ghost use Rattle.fields.specs.Widths.{legal, byte_count};
 ghost use Rattle.fields.specs.Fields.{len_ensured, plain_at, number_at, offset_at, length_at};
@@ -21,7 +22,8 @@ use refusals::FormatError;
 pub use stores::Writer;
 pub use width::Width;
 
-// The refusal where no `needed` bytes stand at `offset`. The end that it reports saturates at 2^64 - 1.
+// The refusal where no `needed` bytes stand at `offset`. The end that it reports saturates at 2^64
+// - 1.
 fn end_missing(bytes: &[u8], offset: usize, needed: usize) -> FormatError
     ensures { result ≡ FormatError.UnexpectedEof (saturated (offset + needed)) (length bytes.now) }
 {
@@ -31,7 +33,8 @@ fn end_missing(bytes: &[u8], offset: usize, needed: usize) -> FormatError
     }
 }
 
-/// Tests that `needed` bytes stand at `offset`: else 1, with the end that they would have, and the number of bytes.
+/// Tests that `needed` bytes stand at `offset`: else 1, with the end that they would have, and the
+/// number of bytes.
 pub fn ensure_len(bytes: &[u8], offset: usize, needed: usize) -> Result<(), FormatError>
     ensures tested { result ≡ len_ensured bytes.now offset needed }
     ensures there { OnOk result (offset + needed ≤ length bytes.now) }

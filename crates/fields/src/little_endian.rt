@@ -1,5 +1,5 @@
-//! Bytes as little-endian numbers: what two, four and eight bytes of a lent slice are. Public for the crates
-//! above alone: the caller has tested the length.
+//! Bytes as little-endian numbers: what two, four and eight bytes of a lent slice are. Public for
+//! the crates above alone: the caller has tested the length.
 #![tactic(auto, unfolding(crate::specs::LittleEndian::le_at, crate::specs::LittleEndian::value))]
 
 ghost use Rattle.std.specs.Prelude.{◌≡◌, true, ◌+◌, ◌≤◌, length};

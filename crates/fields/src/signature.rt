@@ -3,8 +3,8 @@ ghost use Rattle.std.specs.Prelude.{◌≡◌, ◌+◌, ◌≤◌, length, take,
 
 use crate::little_endian::read_u32_le;
 
-/// Whether these four letters stand at `pos`; the caller has tested the length. They are compared as one number, since
-/// slices are compared by a call.
+/// Whether these four letters stand at `pos`; the caller has tested the length. They are compared
+/// as one number, since slices are compared by a call.
 #[tactic(auto, using(crate::proofs::LittleEndian::same_letters))]
 pub fn has_signature(bytes: &[u8], pos: usize, signature: &[u8]) -> bool
     requires there { pos + 4 ≤ length bytes.now }

@@ -8,8 +8,9 @@ use refusals::{Answer, SLICE_TOO_SHORT};
 /// How many bytes the two values have.
 pub const SLOT_SIZE: usize = 16;
 
-/// Puts the two values into the first 16 bytes of `slot`, little-endian, and returns the number. A shorter slot is left
-/// as it is and gives 13, whatever the answer is. A C function that has a slot fills it by this.
+/// Puts the two values into the first 16 bytes of `slot`, little-endian, and returns the number. A
+/// shorter slot is left as it is and gives 13, whatever the answer is. A C function that has a slot
+/// fills it by this.
 pub fn put_answer(slot: &mut [u8], answer: Answer) -> u32
     ensures number { result ≡ slot_number slot.old answer }
     ensures slot_after { slot.new ≡ slot_bytes slot.old answer }

@@ -1,8 +1,9 @@
-//! Little-endian stores into a lent slice: addresses, tested, a writer that goes through a slice, and two laws, each
-//! the contract of a function.
+//! Little-endian stores into a lent slice: addresses, tested, a writer that goes through a slice,
+//! and two laws, each the contract of a function.
 pub mod writer;
 
-ghost use Rattle.std.specs.Prelude.{◌≡◌, ◌+◌, ◌*◌, ◌%◌, ◌^◌, ◌≤◌, true, length, replicate, Ok, OnOk, OnErr};
+ghost use Rattle.std.specs.Prelude.{◌≡◌, ◌+◌, ◌*◌, ◌%◌, ◌^◌, ◌≤◌, true, length, replicate, Ok};
+ghost use Rattle.std.specs.Prelude.{OnOk, OnErr};
 ghost use Rattle.fields.specs.LittleEndian.{le, put};
 ghost use Rattle.fields.specs.Widths.{legal};
 ghost use Rattle.fields.specs.Fields.{offset_at};
@@ -40,9 +41,10 @@ fn ensure_store(lent: usize, pos: usize, offset_size: u8) -> Result<(), FormatEr
     Ok(())
 }
 
-/// Stores the low bytes of `value` as an address of `offset_size` bytes at `pos`. A size that is none gives 2, a slice
-/// that ends too early 13, in this order; then the slice stays as it is. Of the original's file writer, whose source is
-/// not at hand, two facts are known: which bytes this stores, and which `write_undef_offset`.
+/// Stores the low bytes of `value` as an address of `offset_size` bytes at `pos`. A size that is
+/// none gives 2, a slice that ends too early 13, in this order; then the slice stays as it is. Of
+/// the original's file writer, whose source is not at hand, two facts are known: which bytes this
+/// stores, and which `write_undef_offset`.
 #[tactic(auto, using(crate::proofs::Storing::addresses))]
 pub fn write_offset(
     bytes: &mut [u8],
@@ -61,7 +63,8 @@ pub fn write_offset(
     Ok(())
 }
 
-/// Stores the undefined address of `offset_size` bytes at `pos`, with the refusals of `write_offset`.
+/// Stores the undefined address of `offset_size` bytes at `pos`, with the refusals of
+/// `write_offset`.
 #[tactic(auto, using(crate::proofs::Storing::undefined_addresses))]
 pub fn write_undef_offset(bytes: &mut [u8], pos: usize, offset_size: u8) -> Result<(), FormatError>
     ensures tested { result ≡ store_ensured (length bytes.old) pos offset_size }

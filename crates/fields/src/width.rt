@@ -2,9 +2,10 @@
 ghost use Rattle.std.specs.Prelude.{◌≡◌, ◌↔◌, true, IsSome, IfSome};
 ghost use Rattle.fields.specs.Widths.{legal, byte_count};
 
-/// A width that an address or a length may have, once it is tested. Public calls take any byte, as the original does,
-/// and so do reads, which test it by `is_width`: over a `Width` a header took a tenth longer to parse, or, with the
-/// reads inlined, an object up to a third longer to find by its ID.
+/// A width that an address or a length may have, once it is tested. Public calls take any byte, as
+/// the original does, and so do reads, which test it by `is_width`: over a `Width` a header took a
+/// tenth longer to parse, or, with the reads inlined, an object up to a third longer to find by its
+/// ID.
 #[derive(Clone, Copy, Debug, PartialEq, Eq)]
 pub enum Width {
     Two = 2,

@@ -1,6 +1,7 @@
 -- Numbers that stand one behind the other in a file: their bytes, and the fields that are read of them.
 use Rattle.std.proofs.Common.{◌≡◌, refl, sym, ap, ap₂, ◌∙◌, ℕ, ◌+◌, ◌*◌, ◌^◌, ◌<◌, ◌≤◌, List, [], ◌∷◌, ◌++◌}
-use Rattle.std.proofs.Common.{length, drop, true, append_assoc, take_at, drop_at, length-append, length-drop, drop-drop, arith, mod-eq_of_lt}
+use Rattle.std.proofs.Common.{length, drop, true, append_assoc, take_at, drop_at, length-append, length-drop, drop-drop}
+use Rattle.std.proofs.Common.{arith, mod-eq_of_lt}
 use Rattle.std.proofs.lemmas.Grind.{common_steps}
 use Rattle.std.specs.Prelude.{Ok}
 use Rattle.fields.specs.LittleEndian.{le, le_at}
@@ -11,12 +12,12 @@ use Rattle.fractal_heap.specs.Spelling.{spelled, AllFit, field_widths}
 use Rattle.fractal_heap.specs.declared.header.FractalHeapHeader.{FractalHeapHeader}
 
 -- how many bytes they have
-unfoldable pub span : List ℕ → ℕ
+unfoldable pub span : (ws : List ℕ) → ℕ
 span [] = 0
 span (w ∷ ws) = w + span ws
 
 -- the numbers of these widths stand in s from p on
-unfoldable pub Held : List ℕ → ℕ → List ℕ → List ℕ → Type 0
+unfoldable pub Held : (s : List ℕ) (p : ℕ) (ws ns : List ℕ) → Type 0
 Held s p [] ns = ns ≡ []
 Held s p (w ∷ ws) [] = ⊥
 Held s p (w ∷ ws) (n ∷ ns) = (p + w ≤ length s) × (le_at s p w ≡ n) × Held s (p + w) ws ns
@@ -28,7 +29,8 @@ pub record There (s : List ℕ) (p w x : ℕ) (ys : List ℕ) : Type 0 where
   pub reads : le_at s p w ≡ x
   pub behind : drop (p + w) s ≡ ys
 
-pub number_there : (s : List ℕ) (p w x : ℕ) (ys : List ℕ) → p ≤ length s → x < 2 ^ (8 * w) → drop p s ≡ le w x ++ ys → There s p w x ys
+pub number_there : (s : List ℕ) (p w x : ℕ) (ys : List ℕ) → p ≤ length s → x < 2 ^ (8 * w)
+    → drop p s ≡ le w x ++ ys → There s p w x ys
 unfolding le_at
 number_there s p w x ys there fits e =
     let n : length (le w x) ≡ w = length-le w x in
@@ -39,7 +41,7 @@ number_there s p w x ys there fits e =
     }
 
 -- as many numbers as widths
-unfoldable pub Paired : List ℕ → List ℕ → Type 0
+unfoldable pub Paired : (ws ns : List ℕ) → Type 0
 Paired [] ns = ns ≡ []
 Paired (w ∷ ws) [] = ⊥
 Paired (w ∷ ws) (n ∷ ns) = Paired ws ns

@@ -1,6 +1,8 @@
 -- What is read is spelled, each byte of it.
-use Rattle.std.proofs.Common.{◌≡◌, refl, sym, ap, ap₂, subst, ◌∙◌, ℕ, zero, suc, ◌+◌, ◌-◌, ◌*◌, ◌^◌, ◌%◌, ◌/◌, ◌<◌, ◌≤◌, List, [], ◌∷◌, ◌++◌}
-use Rattle.std.proofs.Common.{length, take, drop, true, append_assoc, take_at, length-append, length-drop, drop-drop, drop-cons, length-take-le, length-take, get_or-drop, inl, inr, arith}
+use Rattle.std.proofs.Common.{◌≡◌, refl, sym, ap, ap₂, subst, ◌∙◌, ℕ, zero, suc, ◌+◌, ◌-◌, ◌*◌, ◌^◌, ◌%◌, ◌/◌, ◌<◌, ◌≤◌}
+use Rattle.std.proofs.Common.{List, [], ◌∷◌, ◌++◌}
+use Rattle.std.proofs.Common.{length, take, drop, true, append_assoc, take_at, length-append, length-drop, drop-drop}
+use Rattle.std.proofs.Common.{drop-cons, length-take-le, length-take, get_or-drop, inl, inr, arith}
 use Rattle.std.proofs.lemmas.Bool.{cases_lt}
 use Rattle.std.proofs.lemmas.List.{get_or-take, get_or_past, take-append-drop}
 use Rattle.std.proofs.lemmas.Grind.{common_steps}
@@ -33,7 +35,7 @@ use Rattle.fractal_heap.proofs.Spelling.{paired}
 
 -- ---- numbers that stand in a file, as bytes
 
-abbrev pub IsBytes : List ℕ → Type 0
+abbrev pub IsBytes : (bs : List ℕ) → Type 0
 IsBytes bs = (j : ℕ) → slice_index bs j < 256
 
 le-value : (w : ℕ) (bs : List ℕ) → IsBytes bs → length bs ≡ w → le w (value bs) ≡ bs
@@ -53,16 +55,19 @@ part-bytes s p w h j =
       | inr le ↦ rw (get_or_past (take w (drop p s)) j 0 (omega (arith, length-take w (drop p s)))) (omega arith)
     ]
 
-pub front-bytes : (s : List ℕ) (p w x : ℕ) → IsBytes s → p + w ≤ length s → le_at s p w ≡ x → le w x ≡ take w (drop p s)
+pub front-bytes : (s : List ℕ) (p w x : ℕ) → IsBytes s → p + w ≤ length s → le_at s p w ≡ x
+    → le w x ≡ take w (drop p s)
 unfolding le_at
 front-bytes s p w x h l e =
-    ap (le w) (sym e) ∙ le-value w (take w (drop p s)) (part-bytes s p w h) (length-take-le w (drop p s) (rw length-drop (omega arith)))
+    ap (le w) (sym e)
+    ∙ le-value w (take w (drop p s)) (part-bytes s p w h) (length-take-le w (drop p s) (rw length-drop (omega arith)))
 
 fits-width : (s : List ℕ) (p w x : ℕ) → IsBytes s → p + w ≤ length s → le_at s p w ≡ x → x < 2 ^ (8 * w)
 unfolding le_at
 fits-width s p w x h l e =
     let n : length (take w (drop p s)) ≡ w = length-take-le w (drop p s) (rw length-drop (omega arith)) in
-    subst (λ (y : ℕ). y < 2 ^ (8 * w)) e (subst (λ (m : ℕ). value (take w (drop p s)) < 2 ^ (8 * m)) n (value-lt (take w (drop p s)) (part-bytes s p w h)))
+    let bound = value-lt (take w (drop p s)) (part-bytes s p w h) in
+    subst (λ (y : ℕ). y < 2 ^ (8 * w)) e (subst (λ (m : ℕ). value (take w (drop p s)) < 2 ^ (8 * m)) n bound)
 
 pub held-spelled : (ws ns : List ℕ) (s : List ℕ) (p : ℕ) → IsBytes s → p ≤ length s → Held s p ws ns
     → AllFit ws ns × (drop p s ≡ spelled ws ns ++ drop (p + span ws) s)
@@ -88,7 +93,8 @@ record Gave (s : List ℕ) (p q : ℕ) (ws ns : List ℕ) : Type 0 where
   held : Held s p ws ns
   end : q ≡ p + span ws
 
-held-join : (ws vs ns ms : List ℕ) (s : List ℕ) (p : ℕ) → Held s p ws ns → Held s (p + span ws) vs ms → Held s p (ws ++ vs) (ns ++ ms)
+held-join : (ws vs ns ms : List ℕ) (s : List ℕ) (p : ℕ) → Held s p ws ns → Held s (p + span ws) vs ms
+    → Held s p (ws ++ vs) (ns ++ ms)
 unfolding Held span
 held-join [] vs ns ms s p a b =
     let e : p + 0 ≡ p = omega arith in
@@ -104,7 +110,8 @@ span-append [] vs = omega arith
 span-append (w ∷ ws) vs = omega (arith, span-append ws vs)
 
 -- one group behind another
-gave-append : (s : List ℕ) (p q r : ℕ) (ws ns vs ms : List ℕ) → Gave s p q ws ns → Gave s q r vs ms → Gave s p r (ws ++ vs) (ns ++ ms)
+gave-append : (s : List ℕ) (p q r : ℕ) (ws ns vs ms : List ℕ) → Gave s p q ws ns → Gave s q r vs ms
+    → Gave s p r (ws ++ vs) (ns ++ ms)
 gave-append s p q r ws ns vs ms a b =
     record {
       held = held-join ws vs ns ms s p a.held (subst (λ (x : ℕ). Held s x vs ms) a.end b.held);
@@ -116,7 +123,7 @@ pub bind_ok : {T U : Type 0} (r : Result T FormatError) (f : T → Result U Form
 bind_ok (Ok x) f y e = (x, refl, e)
 bind_ok (Err d) f y e = absurd cc
 
-abbrev done : {T : Type 0} → T → Result T FormatError
+abbrev done : {T : Type 0} (x : T) → Result T FormatError
 done x = Ok x
 
 pub ok_is : {T : Type 0} (x y : T) → done x ≡ done y → x ≡ y
@@ -129,17 +136,18 @@ required_ok false e x r = absurd cc
 abbrev front_widths : List ℕ
 front_widths = 2 ∷ 2 ∷ 1 ∷ 4 ∷ []
 
-abbrev front_numbers : FrontFields → List ℕ
+abbrev front_numbers : (f : FrontFields) → List ℕ
 front_numbers f = f.heap_id_length ∷ f.io_filter_encoded_length ∷ f.flags ∷ f.max_managed_object_size ∷ []
 
-front-gave : (s : List ℕ) (p q : ℕ) (f : FrontFields) → front_fields s p ≡ Ok (f, q) → Gave s p q front_widths (front_numbers f)
+front-gave : (s : List ℕ) (p q : ℕ) (f : FrontFields) → front_fields s p ≡ Ok (f, q)
+    → Gave s p q front_widths (front_numbers f)
 unfolding Held span
 front-gave s p q f e = grind (arith, common_steps)
 
-abbrev object_widths : ℕ → ℕ → List ℕ
+abbrev object_widths : (os ls : ℕ) → List ℕ
 object_widths os ls = ls ∷ os ∷ ls ∷ os ∷ ls ∷ ls ∷ ls ∷ ls ∷ []
 
-abbrev object_numbers : ObjectFields → List ℕ
+abbrev object_numbers : (o : ObjectFields) → List ℕ
 object_numbers o =
     o.next_huge_object_id
     ∷ o.btree_huge_objects_address
@@ -168,8 +176,8 @@ ensured : (s : List ℕ) (p n : ℕ) → len_ensured s p n ≡ Ok tt → p + n �
 ensured s p n e = grind (arith, nat_tests, required_ok (nat_le (p + n) (length s)) _ tt e)
 
 -- the fields of the group stand where its tests have them
-objects-held : (s : List ℕ) (p a q os ls x n : ℕ) → p + ls ≤ length s → Found s (p + ls) os x a → a + (4 * ls + os) ≤ length s
-    → Found s (a + ls + os + ls + ls + ls) ls n q
+objects-held : (s : List ℕ) (p a q os ls x n : ℕ) → p + ls ≤ length s → Found s (p + ls) os x a
+    → a + (4 * ls + os) ≤ length s → Found s (a + ls + os + ls + ls + ls) ls n q
     → Gave s p q (object_widths os ls)
     (le_at s p ls ∷ x ∷ le_at s a ls ∷ le_at s (a + ls) os ∷ le_at s (a + ls + os) ls ∷ le_at s (a + ls + os + ls) ls
     ∷ le_at s (a + ls + os + ls + ls) ls ∷ n ∷ [])
@@ -201,10 +209,10 @@ object-widths s p q os ls o e =
       (length-found s (b.0.1 + ls + os + ls + ls + ls) ls d.0.0 d.0.1 d.1).width,
     )
 
-abbrev table_widths : ℕ → List ℕ
+abbrev table_widths : (ls : ℕ) → List ℕ
 table_widths ls = ls ∷ ls ∷ ls ∷ ls ∷ 2 ∷ ls ∷ ls ∷ 2 ∷ []
 
-abbrev table_numbers : TableFields → List ℕ
+abbrev table_numbers : (t : TableFields) → List ℕ
 table_numbers t =
     t.huge_objects_size
     ∷ t.huge_objects_count
@@ -221,10 +229,10 @@ table-gave : (s : List ℕ) (p q ls : ℕ) (t : TableFields) → table_fields s 
 unfolding Held span
 table-gave s p q ls t e = grind (arith, common_steps)
 
-abbrev root_widths : ℕ → List ℕ
+abbrev root_widths : (os : ℕ) → List ℕ
 root_widths os = 2 ∷ os ∷ 2 ∷ []
 
-abbrev root_numbers : RootFields → List ℕ
+abbrev root_numbers : (r : RootFields) → List ℕ
 root_numbers r = r.start_root_rows ∷ r.root_block_address ∷ r.current_rows_in_root_indirect_block ∷ []
 
 root-gave : (s : List ℕ) (p q os : ℕ) (r : RootFields) → root_fields s p os ≡ Ok (r, q)
@@ -244,10 +252,21 @@ fields-gave s p q os ls h e =
     let t = c.0.0 in
     let r = d.0.0 in
     let gr = root-gave s c.0.1 d.0.1 os r d.1 in
-    let gt = gave-append s b.0.1 c.0.1 d.0.1 (table_widths ls) (table_numbers t) (root_widths os) (root_numbers r) (table-gave s b.0.1 c.0.1 ls t c.1) gr in
-    let go = gave-append s a.0.1 b.0.1 d.0.1 (object_widths os ls) (object_numbers o) (table_widths ls ++ root_widths os) (table_numbers t ++ root_numbers r) (objects-gave s a.0.1 b.0.1 os ls o b.1) gt in
-    let gf = gave-append s p a.0.1 d.0.1 front_widths (front_numbers f) (object_widths os ls ++ (table_widths ls ++ root_widths os)) (object_numbers o ++ (table_numbers t ++ root_numbers r)) (front-gave s p a.0.1 f a.1) go in
-    subst (λ (y : FractalHeapHeader × ℕ). Gave s p y.1 (field_widths os ls) (header_numbers y.0)) (ok_is _ (h, q) d.2) gf
+    let widths_behind_objects = table_widths ls ++ root_widths os in
+    let behind_objects = table_numbers t ++ root_numbers r in
+    let widths_behind_front = object_widths os ls ++ widths_behind_objects in
+    let behind_front = object_numbers o ++ behind_objects in
+    let gt =
+    gave-append s b.0.1 c.0.1 d.0.1 (table_widths ls) (table_numbers t) (root_widths os) (root_numbers r)
+    (table-gave s b.0.1 c.0.1 ls t c.1) gr in
+    let go =
+    gave-append s a.0.1 b.0.1 d.0.1 (object_widths os ls) (object_numbers o) widths_behind_objects behind_objects
+    (objects-gave s a.0.1 b.0.1 os ls o b.1) gt in
+    let gf =
+    gave-append s p a.0.1 d.0.1 front_widths (front_numbers f) widths_behind_front behind_front
+    (front-gave s p a.0.1 f a.1) go in
+    subst (λ (y : FractalHeapHeader × ℕ). Gave s p y.1 (field_widths os ls) (header_numbers y.0)) (ok_is _ (h, q) d.2)
+    gf
 
 -- ---- the whole header
 
@@ -259,8 +278,10 @@ pub record Started (s : List ℕ) (p next : ℕ) : Type 0 where
 start-gave : (s : List ℕ) (p next : ℕ) → start_checked s p ≡ Ok next → Started s p next
 start-gave s p next e =
     let a = bind_ok (len_ensured s p 5) _ next e in
-    let b = bind_ok (required (bytes_eq (take 4 (drop p s)) header_signature) InvalidFractalHeapSignature) _ next a.2 in
-    let c = bind_ok (required (slice_index s (p + 4) == 0) (InvalidFractalHeapVersion (slice_index s (p + 4)))) _ next b.2 in
+    let begins = bytes_eq (take 4 (drop p s)) header_signature in
+    let version_is = slice_index s (p + 4) in
+    let b = bind_ok (required begins InvalidFractalHeapSignature) _ next a.2 in
+    let c = bind_ok (required (version_is == 0) (InvalidFractalHeapVersion version_is)) _ next b.2 in
     let room : p + 5 ≤ length s = grind (arith, nat_tests, required_ok (nat_le (p + 5) (length s)) _ a.0 a.1) in
     let signature : take 4 (drop p s) ≡ header_signature =
     (bytes_eq-Decides (take 4 (drop p s)) header_signature).0 (required_ok _ _ b.0 b.1) in
@@ -280,9 +301,12 @@ sum-gave : (s : List ℕ) (p q : ℕ) → sum_checked s p q ≡ Ok tt
     → (q + 4 ≤ length s) × (le_at s q 4 ≡ hashlittle (take (q - p) (drop p s)))
 sum-gave s p q e =
     let a = bind_ok (len_ensured s q 4) _ tt e in
-    (grind (arith, nat_tests, required_ok (nat_le (q + 4) (length s)) _ a.0 a.1), grind (arith, nat_tests, required_ok _ _ tt a.2))
+    let there = required_ok (nat_le (q + 4) (length s)) _ a.0 a.1 in
+    let same = required_ok _ _ tt a.2 in
+    (grind (arith, nat_tests, there), grind (arith, nat_tests, same))
 
-module _ (h : FractalHeapHeader) (s : List ℕ) (p os ls : ℕ) (bytes : IsBytes s) (plain : h.io_filter_encoded_length ≡ 0) where
+module _ (h : FractalHeapHeader) (s : List ℕ) (p os ls : ℕ) (bytes : IsBytes s)
+    (plain : h.io_filter_encoded_length ≡ 0) where
   abbrev fields : List ℕ
   fields = spelled (field_widths os ls) (header_numbers h)
 
@@ -292,7 +316,8 @@ module _ (h : FractalHeapHeader) (s : List ℕ) (p os ls : ℕ) (bytes : IsBytes
   -- from where the fields end, and the checksum stands
   spelled-here : (q : ℕ) → Started s p (p + 5) → Gave s (p + 5) q (field_widths os ls) (header_numbers h)
       → sum_checked s p q ≡ Ok tt
-      → AllFit (field_widths os ls) (header_numbers h) × (drop p s ≡ header_spelled h os ls ++ drop (p + length (header_spelled h os ls)) s)
+      → AllFit (field_widths os ls) (header_numbers h)
+      × (drop p s ≡ header_spelled h os ls ++ drop (p + length (header_spelled h os ls)) s)
   spelled-here q start gave right =
       let held = held-spelled (field_widths os ls) (header_numbers h) s (p + 5) bytes start.room gave.held in
       let sum = sum-gave s p q right in

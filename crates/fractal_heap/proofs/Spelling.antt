@@ -1,13 +1,13 @@
 -- What is spelled is read.
 use Rattle.std.proofs.Common.{◌≡◌, refl, sym, ap, ◌∙◌, ℕ, ◌+◌, ◌*◌, ◌^◌, ◌-◌, ◌<◌, ◌≤◌, List, ◌∷◌, ◌++◌}
-use Rattle.std.proofs.Common.{length, take, drop, true, append_assoc, take_at, drop_at, length-append, length-drop, drop-drop, ne_eqb, get_or-drop, arith}
+use Rattle.std.proofs.Common.{length, take, drop, true, append_assoc, take_at, drop_at, length-append, length-drop}
+use Rattle.std.proofs.Common.{drop-drop, ne_eqb, get_or-drop, arith}
 use Rattle.std.proofs.lemmas.Bool.Decides.{nat_tests}
 use Rattle.std.specs.Prelude.{slice_index, Ok}
 use Rattle.fields.specs.LittleEndian.{le, le_at}
 use Rattle.fields.specs.Widths.{legal}
 use Rattle.fields.specs.Signatures.{header_signature}
 use Rattle.checksum.specs.Lookup3.{groups_of, tail_of, hashlittle}
-use Rattle.checksum.specs.Mix.{final_mixed}
 use Rattle.fractal_heap.specs.Frame.{start_checked, sum_checked}
 use Rattle.fractal_heap.specs.Header.{fields_at, header_at, header_numbers, without_filters}
 use Rattle.fractal_heap.specs.Spelling.{spelled, AllFit, field_widths, unsummed, header_spelled}
@@ -17,9 +17,10 @@ use Rattle.fractal_heap.proofs.Holding.{span, Paired, There, number_there, spell
 
 -- a checksum has four bytes
 pub sum_fits : (bytes : List ℕ) → 0 < length bytes → hashlittle bytes < 2 ^ 32
-unfolding hashlittle final_mixed
+unfolding hashlittle
 sum_fits bytes some =
-    let last : length (tail_of bytes) ≡ length bytes - 12 * groups_of (length bytes) = length-drop (12 * groups_of (length bytes)) bytes in
+    let last : length (tail_of bytes) ≡ length bytes - 12 * groups_of (length bytes) =
+    length-drop (12 * groups_of (length bytes)) bytes in
     rw (ne_eqb (length (tail_of bytes)) 0 (λ z. absurd (omega (arith, last, z, some)))) (omega arith)
 
 pub paired : (h : FractalHeapHeader) (os ls : ℕ) → Paired (field_widths os ls) (header_numbers h)
@@ -68,12 +69,20 @@ module _ (h : FractalHeapHeader) (s : List ℕ) (p os ls : ℕ) (rest : List ℕ
 
   behind-fields : end ≤ length s
   behind-fields =
-      omega (arith, behind-start, ap (length {A = ℕ}) start.1, length-drop (p + 5) s, length-append fields (sum ++ rest), length-fields)
+      omega (
+        arith,
+        behind-start,
+        ap (length {A = ℕ}) start.1,
+        length-drop (p + 5) s,
+        length-append fields (sum ++ rest),
+        length-fields,
+      )
 
   read : fields_at s (p + 5) os ls ≡ Ok (without_filters h, end)
   read =
       held-read h s (p + 5) os ls go gl
-      (spelled-held (field_widths os ls) (header_numbers h) s (p + 5) (sum ++ rest) (paired h os ls) behind-start fits start.1)
+      (spelled-held (field_widths os ls) (header_numbers h) s (p + 5) (sum ++ rest) (paired h os ls) behind-start fits
+      start.1)
 
   sum-there : There s end 4 (hashlittle (unsummed h os ls)) rest
   sum-there =

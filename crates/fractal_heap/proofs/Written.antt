@@ -1,12 +1,14 @@
 -- What an accepted header fulfils, and what is accepted.
-use Rattle.std.proofs.Common.{◌≡◌, refl, sym, ap, ◌∙◌, take_at, append_assoc, length, length-append, take, drop, drop-drop, ◌++◌, ℕ, ◌+◌, ◌*◌, ◌^◌, ◌≤◌, List, [], ◌∷◌, true, arith}
+use Rattle.std.proofs.Common.{◌≡◌, refl, sym, ap, ◌∙◌, take_at, append_assoc, length, length-append, take, drop}
+use Rattle.std.proofs.Common.{drop-drop, ◌++◌, ℕ, ◌+◌, ◌*◌, ◌^◌, ◌≤◌, List, [], ◌∷◌, true, arith}
 use Rattle.std.proofs.lemmas.Bool.Decides.{nat_tests}
 use Rattle.std.proofs.lemmas.Grind.{common_steps}
 use Rattle.std.proofs.lemmas.List.{append-nil}
 use Rattle.std.specs.Prelude.{slice_index, nat_lt, nat_le, ◌==◌, Result, Ok, Err, OnOk}
 use Rattle.refusals.specs.Steps.{◌>>=◌, required}
 use Rattle.refusals.specs.declared.FormatError.{FormatError}
-use Rattle.refusals.specs.declared.FormatError.TheVariants.{InvalidOffsetSize, InvalidLengthSize, UnsupportedFilteredHeapObject, HeaderFieldTooLarge}
+use Rattle.refusals.specs.declared.FormatError.TheVariants.{InvalidOffsetSize, InvalidLengthSize}
+use Rattle.refusals.specs.declared.FormatError.TheVariants.{UnsupportedFilteredHeapObject, HeaderFieldTooLarge}
 use Rattle.fields.specs.Widths.{legal}
 use Rattle.fields.specs.Writing.{Puts, written, behind}
 use Rattle.fields.specs.declared.stores.writer.Writer.{Writer}
@@ -15,7 +17,8 @@ use Rattle.checksum.specs.Lookup3.{hashlittle}
 use Rattle.fields.specs.LittleEndian.{le, put}
 use Rattle.fields.proofs.LittleEndian.{length-le, put_front}
 use Rattle.fractal_heap.specs.Spelling.{AllFit, spelled, field_widths, unsummed, header_spelled}
-use Rattle.fractal_heap.specs.Writing.{header_length, widths_checked, header_checked, header_written, ReadsBack, ParsedReadsBack, WrittenBack}
+use Rattle.fractal_heap.specs.Writing.{header_length, widths_checked, header_checked, header_written, ReadsBack}
+use Rattle.fractal_heap.specs.Writing.{ParsedReadsBack, WrittenBack}
 use Rattle.fractal_heap.specs.declared.write.WrittenHeader.{WrittenHeader}
 use Rattle.fractal_heap.specs.declared.header.FractalHeapHeader.{FractalHeapHeader}
 use Rattle.fractal_heap.proofs.Holding.{span, length-spelled}
@@ -42,10 +45,12 @@ unfolding widths_checked
 widths_checked-four place a b c d x y z v ws ns = grind (arith, common_steps)
 
 -- the test of the field at a place, and of the four from there on
-abbrev pub one : List ℕ → List ℕ → ℕ → Result (Unit {0}) FormatError
-one ns ws place = required (nat_lt (slice_index ns place) (2 ^ (8 * slice_index ws place))) (HeaderFieldTooLarge place (slice_index ns place))
+abbrev pub one : (ns ws : List ℕ) (place : ℕ) → Result (Unit {0}) FormatError
+one ns ws place =
+    required (nat_lt (slice_index ns place) (2 ^ (8 * slice_index ws place)))
+    (HeaderFieldTooLarge place (slice_index ns place))
 
-abbrev pub four : List ℕ → List ℕ → ℕ → Result (Unit {0}) FormatError
+abbrev pub four : (ns ws : List ℕ) (place : ℕ) → Result (Unit {0}) FormatError
 four ns ws place =
     widths_checked place
     (slice_index ws place ∷ slice_index ws (place + 1) ∷ slice_index ws (place + 2) ∷ slice_index ws (place + 3) ∷ [])
@@ -110,7 +115,8 @@ acceptable h os ls lent a =
 -- ---- steps of a writer
 
 -- two steps are one
-pub puts-append : (a b c : Writer) (n m : ℕ) (xs ys : List ℕ) → Puts a b n xs → Puts b c m ys → Puts a c (n + m) (xs ++ ys)
+pub puts-append : (a b c : Writer) (n m : ℕ) (xs ys : List ℕ) → Puts a b n xs → Puts b c m ys
+    → Puts a c (n + m) (xs ++ ys)
 puts-append a b c n m xs ys p q =
     record {
       same_reference = q.same_reference ∙ p.same_reference;
@@ -124,21 +130,22 @@ puts-append a b c n m xs ys p q =
 pub puts-as : (a b : Writer) (n m : ℕ) (xs ys : List ℕ) → Puts a b n xs → n ≡ m → xs ≡ ys → Puts a b m ys
 puts-as a b n m xs ys p e f = rw (← e, ← f) p
 
-abbrev pub width_of_four : List ℕ → ℕ → ℕ
+abbrev pub width_of_four : (ws : List ℕ) (place : ℕ) → ℕ
 width_of_four ws place =
     slice_index ws place + slice_index ws (place + 1) + slice_index ws (place + 2) + slice_index ws (place + 3)
 
-abbrev pub spelled_four : List ℕ → List ℕ → ℕ → List ℕ
+abbrev pub spelled_four : (ns ws : List ℕ) (place : ℕ) → List ℕ
 spelled_four ns ws place =
-    spelled (slice_index ws place ∷ slice_index ws (place + 1) ∷ slice_index ws (place + 2) ∷ slice_index ws (place + 3) ∷ [])
+    spelled
+    (slice_index ws place ∷ slice_index ws (place + 1) ∷ slice_index ws (place + 2) ∷ slice_index ws (place + 3) ∷ [])
     (slice_index ns place ∷ slice_index ns (place + 1) ∷ slice_index ns (place + 2) ∷ slice_index ns (place + 3) ∷ [])
 
-abbrev pub spelled_one : List ℕ → List ℕ → ℕ → List ℕ
+abbrev pub spelled_one : (ns ws : List ℕ) (place : ℕ) → List ℕ
 spelled_one ns ws place = le (slice_index ws place) (slice_index ns place)
 
 pub spelled_by_fours : (os ls : ℕ) (ns ws : List ℕ) → ws ≡ field_widths os ls
-    → spelled_four ns ws 0 ++ (spelled_four ns ws 4 ++ (spelled_four ns ws 8 ++ (spelled_four ns ws 12 ++ (spelled_four ns ws 16
-    ++ (spelled_one ns ws 20 ++ (spelled_one ns ws 21 ++ spelled_one ns ws 22))))))
+    → spelled_four ns ws 0 ++ (spelled_four ns ws 4 ++ (spelled_four ns ws 8 ++ (spelled_four ns ws 12
+    ++ (spelled_four ns ws 16 ++ (spelled_one ns ws 20 ++ (spelled_one ns ws 21 ++ spelled_one ns ws 22))))))
     ≡ spelled (field_widths os ls) (header_numbers (header_of ns))
 unfolding spelled
 spelled_by_fours os ls ns ws e = rw e (simp (append_assoc, append-nil))
@@ -155,7 +162,8 @@ pub length-header_spelled : (h : FractalHeapHeader) (os ls : ℕ) → length (he
 unfolding span
 length-header_spelled h os ls =
     let fields = spelled (field_widths os ls) (header_numbers h) in
-    let n : length fields ≡ span (field_widths os ls) = length-spelled (field_widths os ls) (header_numbers h) (paired h os ls) in
+    let n : length fields ≡ span (field_widths os ls) =
+    length-spelled (field_widths os ls) (header_numbers h) (paired h os ls) in
     let sum = le 4 (hashlittle (unsummed h os ls)) in
     omega (arith, n, length-append (unsummed h os ls) sum, length-le 4 (hashlittle (unsummed h os ls)))
 

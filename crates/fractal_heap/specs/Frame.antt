@@ -14,7 +14,7 @@ use Rattle.refusals.specs.declared.FormatError.TheVariants.{ChecksumMismatch}
 use Rattle.checksum.specs.Lookup3.{hashlittle}
 
 -- Signature FRHP and Version 0 stand at `pos`: where the first field begins
-abbrev pub start_checked : List ℕ → ℕ → Result ℕ FormatError
+abbrev pub start_checked : (file : List ℕ) (pos : ℕ) → Result ℕ FormatError
 start_checked file pos = do
   _ ← len_ensured file pos 5
   _ ← required (bytes_eq (take 4 (drop pos file)) header_signature) InvalidFractalHeapSignature
@@ -23,7 +23,7 @@ start_checked file pos = do
   Ok (pos + 5)
 
 -- Checksum at `place` is that of all bytes of the header at `pos` before it
-abbrev pub sum_checked : List ℕ → ℕ → ℕ → Result (Unit {0}) FormatError
+abbrev pub sum_checked : (file : List ℕ) (pos place : ℕ) → Result (Unit {0}) FormatError
 sum_checked file pos place = do
   _ ← len_ensured file place 4
   let stored = le_at file place 4

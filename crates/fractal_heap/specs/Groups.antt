@@ -1,7 +1,7 @@
 -- The fields of the header in a file, in five groups and in header order. HDF5 File Format
 -- Specification 3.0, III.G, 'Fractal Heap Header'. Each group begins at `pos`, gives its fields and
--- where the next group begins, and makes the original's tests in the original's order; the last one,
--- which the original reads otherwise, makes one. Beside each group is how many bytes it has.
+-- where the next group begins, and makes the original's tests in the original's order; the last
+-- one, which the original reads otherwise, makes one. Beside each group is how many bytes it has.
 use Rattle.std.specs.Prelude.{ℕ, ◌+◌, ◌*◌, ◌==◌, if◌then◌else◌, List, Ok}
 use Rattle.refusals.specs.Steps.{◌>>=◌}
 use Rattle.fields.specs.Fields.{len_ensured}
@@ -14,7 +14,7 @@ use Rattle.fractal_heap.specs.declared.header_fields.RootFields.{RootFields}
 use Rattle.fractal_heap.specs.declared.header_fields.FilterFields.{FilterFields}
 
 -- what stands before the fields whose sizes the file chooses
-abbrev pub front_fields : List ℕ → ℕ → Step FrontFields
+abbrev pub front_fields : (file : List ℕ) (pos : ℕ) → Step FrontFields
 front_fields file pos = do
   -- Heap ID Length
   (heap_id_length, pos) ← plain_field file pos 2
@@ -39,7 +39,7 @@ front_size = 9
 
 -- the huge objects' IDs and tree, the managed space, and how many managed objects there are; one
 -- test is made for the five fields between the tree's address and the number of objects
-abbrev pub object_fields : List ℕ → ℕ → ℕ → ℕ → Step ObjectFields
+abbrev pub object_fields : (file : List ℕ) (pos offset_size length_size : ℕ) → Step ObjectFields
 object_fields file pos offset_size length_size = do
   _ ← len_ensured file pos length_size
   -- Next Huge Object ID
@@ -74,12 +74,12 @@ object_fields file pos offset_size length_size = do
     pos,
   )
 
-abbrev pub objects_size : ℕ → ℕ → ℕ
+abbrev pub objects_size : (offset_size length_size : ℕ) → ℕ
 objects_size offset_size length_size = 6 * length_size + 2 * offset_size
 
 -- the sizes and numbers of huge and of tiny objects, of which nothing is tested, and the doubling
 -- table, with whose tests they are there, too
-abbrev pub table_fields : List ℕ → ℕ → ℕ → Step TableFields
+abbrev pub table_fields : (file : List ℕ) (pos length_size : ℕ) → Step TableFields
 table_fields file pos length_size = do
   -- Size of Huge Objects in Heap
   (huge_objects_size, pos) ← untested_field file pos length_size
@@ -114,11 +114,11 @@ table_fields file pos length_size = do
     pos,
   )
 
-abbrev pub table_size : ℕ → ℕ
+abbrev pub table_size : (length_size : ℕ) → ℕ
 table_size length_size = 6 * length_size + 4
 
 -- the root block, and how many rows it has
-abbrev pub root_fields : List ℕ → ℕ → ℕ → Step RootFields
+abbrev pub root_fields : (file : List ℕ) (pos offset_size : ℕ) → Step RootFields
 root_fields file pos offset_size = do
   -- Starting # of Rows in Root Indirect Block
   (start_root_rows, pos) ← plain_field file pos 2
@@ -135,16 +135,16 @@ root_fields file pos offset_size = do
     pos,
   )
 
-abbrev pub root_size : ℕ → ℕ
+abbrev pub root_size : (offset_size : ℕ) → ℕ
 root_size offset_size = offset_size + 4
 
 -- how many bytes the filters of a heap take that has some, their information being of so many
-abbrev pub filters_size : ℕ → ℕ → ℕ
+abbrev pub filters_size : (filter_length length_size : ℕ) → ℕ
 filters_size filter_length length_size = length_size + 4 + filter_length
 
 -- the filters of such a heap; one test is made for all of the group and for Checksum, which stands
 -- behind it
-abbrev pub filter_fields : List ℕ → ℕ → ℕ → ℕ → Step FilterFields
+abbrev pub filter_fields : (file : List ℕ) (pos filter_length length_size : ℕ) → Step FilterFields
 filter_fields file pos filter_length length_size = do
   _ ← len_ensured file pos (filters_size filter_length length_size + 4)
   -- Size of Filtered Root Direct Block
@@ -170,7 +170,7 @@ no_filters = record {
 }
 
 -- the filters, if the heap has some
-abbrev pub filters_at : List ℕ → ℕ → ℕ → ℕ → Step FilterFields
+abbrev pub filters_at : (file : List ℕ) (pos filter_length length_size : ℕ) → Step FilterFields
 filters_at file pos filter_length length_size =
     if filter_length == 0 then Ok (no_filters, pos)
     else filter_fields file pos filter_length length_size

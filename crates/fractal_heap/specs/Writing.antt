@@ -19,16 +19,17 @@ use Rattle.fractal_heap.specs.declared.header.FractalHeapHeader.{FractalHeapHead
 use Rattle.fractal_heap.specs.declared.write.WrittenHeader.{WrittenHeader}
 
 -- how many bytes a whole header without filters has
-abbrev pub header_length : ℕ → ℕ → ℕ
+abbrev pub header_length : (offset_size length_size : ℕ) → ℕ
 header_length offset_size length_size = header_end offset_size length_size + 4
 
 -- how many bytes a field may have
-abbrev pub field_width : ℕ → Bool
+abbrev pub field_width : (width : ℕ) → Bool
 field_width width = (width == 1) || legal width
 
 -- the first number that is too large for its width is refused, with its place in header order,
 -- which is `place` for the first one here
-unfoldable pub widths_checked : ℕ → List ℕ → List ℕ → Result (Unit {0}) FormatError
+unfoldable pub widths_checked : (place : ℕ) (widths numbers : List ℕ)
+    → Result (Unit {0}) FormatError
 widths_checked place [] numbers = Ok tt
 widths_checked place (width ∷ widths) [] = Ok tt
 widths_checked place (width ∷ widths) (number ∷ numbers) =
@@ -36,7 +37,8 @@ widths_checked place (width ∷ widths) (number ∷ numbers) =
     else Err (HeaderFieldTooLarge place number)
 
 -- the tests of a header of these numbers, in header order, into so many lent bytes
-abbrev pub header_checked : List ℕ → ℕ → ℕ → ℕ → Result (Unit {0}) FormatError
+abbrev pub header_checked : (numbers : List ℕ) (offset_size length_size lent : ℕ)
+    → Result (Unit {0}) FormatError
 header_checked numbers offset_size length_size lent = do
   _ ← required (legal offset_size) (InvalidOffsetSize offset_size)
   _ ← required (legal length_size) (InvalidLengthSize length_size)
@@ -46,27 +48,28 @@ header_checked numbers offset_size length_size lent = do
   required (nat_le needed lent) (SliceTooShort needed lent)
 
 -- the tests, then what is told of a header that is written: how many bytes it has, and its checksum
-abbrev pub header_written : FractalHeapHeader → ℕ → ℕ → ℕ → Result WrittenHeader FormatError
+abbrev pub header_written : (header : FractalHeapHeader) (offset_size length_size lent : ℕ)
+    → Result WrittenHeader FormatError
 header_written header offset_size length_size lent = do
   _ ← header_checked (header_numbers header) offset_size length_size lent
   let checksum = hashlittle (unsummed header offset_size length_size)
   Ok (record { length = header_length offset_size length_size; checksum = checksum })
 
-abbrev pub written_report : WrittenHeader → Answer
+abbrev pub written_report : (written : WrittenHeader) → Answer
 written_report written = answer 0 written.length written.checksum
 
 -- whatever file the bytes of this header stand in, `read` is read there
-abbrev pub ReadAs : FractalHeapHeader → FractalHeapHeader → ℕ → ℕ → Type 0
+abbrev pub ReadAs : (header read : FractalHeapHeader) (offset_size length_size : ℕ) → Type 0
 ReadAs header read offset_size length_size = (file : List ℕ) (pos : ℕ) (rest : List ℕ)
     → drop pos file ≡ header_spelled header offset_size length_size ++ rest
     → header_at file pos offset_size length_size ≡ Ok read
 
 -- this header is read, but for what it has of filters, which is not in its bytes
-abbrev pub ReadsBack : FractalHeapHeader → ℕ → ℕ → Type 0
+abbrev pub ReadsBack : (header : FractalHeapHeader) (offset_size length_size : ℕ) → Type 0
 ReadsBack header = ReadAs header (without_filters header)
 
 -- a header that is read from some file, whatever its place and the sizes there, is read itself
-abbrev pub ParsedReadsBack : FractalHeapHeader → ℕ → ℕ → Type 0
+abbrev pub ParsedReadsBack : (header : FractalHeapHeader) (offset_size length_size : ℕ) → Type 0
 ParsedReadsBack header offset_size length_size =
     (file : List ℕ) (pos file_offset_size file_length_size : ℕ)
     → header_at file pos file_offset_size file_length_size ≡ Ok header
@@ -74,8 +77,8 @@ ParsedReadsBack header offset_size length_size =
 
 -- wherever this header is read from a file, and has no filters, it is written into all that is long
 -- enough, `new` at the end, and the bytes are the file's
-abbrev pub WrittenBack : FractalHeapHeader → ℕ → ℕ → Result WrittenHeader FormatError → List ℕ
-    → Type 0
+abbrev pub WrittenBack : (header : FractalHeapHeader) (offset_size length_size : ℕ)
+    (result : Result WrittenHeader FormatError) (new : List ℕ) → Type 0
 WrittenBack header offset_size length_size result new = (file : List ℕ) (pos : ℕ)
     → ((j : ℕ) → slice_index file j < 256)
     → header_at file pos offset_size length_size ≡ Ok header

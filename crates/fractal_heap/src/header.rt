@@ -24,8 +24,8 @@ pub struct FractalHeapHeader {
     /// How many bytes the filter information takes that a header with filters has before its checksum; 0 where the heap
     /// has no filters: I/O Filters' Encoded Length.
     pub io_filter_encoded_length: u16,
-    /// Bits: that of value 1 is set where the IDs of huge objects have wrapped round, that of value 2 where direct blocks
-    /// have a checksum; the others are reserved: Flags.
+    /// Bits: that of value 1 is set where the IDs of huge objects have wrapped round, that of value 2 where direct
+    /// blocks have a checksum; the others are reserved: Flags.
     pub flags: u8,
     /// The most bytes that a managed object may have, a longer one being huge: Maximum Size of Managed Objects.
     pub max_managed_object_size: u32,
@@ -68,12 +68,12 @@ pub struct FractalHeapHeader {
     pub root_block_address: u64,
     /// How many rows the root block has now, 0 where it is a direct block: Current # of Rows in Root Indirect Block.
     pub current_rows_in_root_indirect_block: u16,
-    /// Where the filter information begins, in bytes from the start of `file`, as the header's own place is counted; its
-    /// length is `io_filter_encoded_length`. The information itself, a Filter Pipeline message, is not read. Without
-    /// filters 0: I/O Filter Information.
+    /// Where the filter information begins, in bytes from the start of `file`, as the header's own place is counted;
+    /// its length is `io_filter_encoded_length`. The information itself, a Filter Pipeline message, is not read.
+    /// Without filters 0: I/O Filter Information.
     pub io_filter_information_position: u64,
-    /// How many bytes the root block has after filtering, where it is a direct block. Without filters 0: Size of Filtered
-    /// Root Direct Block.
+    /// How many bytes the root block has after filtering, where it is a direct block. Without filters 0: Size of
+    /// Filtered Root Direct Block.
     pub filtered_root_direct_block_size: u64,
     /// Which filters the root block was not put through, where it is a direct block: each set bit stands for a filter,
     /// the lowest for the first. Without filters 0: I/O Filter Mask.

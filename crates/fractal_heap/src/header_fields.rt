@@ -64,7 +64,8 @@ impl Reader<'_> {
     ghost use Rattle.std.specs.Prelude.{true, OnOk, IfOk};
     ghost use Rattle.fields.specs.Widths.{legal};
     ghost use Rattle.fractal_heap.specs.Header.{sum_place};
-    ghost use Rattle.fractal_heap.specs.Groups.{front_fields, front_size, object_fields, objects_size, table_fields};
+    ghost use Rattle.fractal_heap.specs.Groups.{front_fields, front_size, object_fields};
+    ghost use Rattle.fractal_heap.specs.Groups.{objects_size, table_fields};
     ghost use Rattle.fractal_heap.specs.Groups.{table_size, root_fields, root_size, filter_fields};
     ghost use Rattle.fractal_heap.specs.Groups.{filters_at, filters_size};
 
@@ -88,8 +89,8 @@ impl Reader<'_> {
         Ok((front, pos))
     }
 
-    /// From Next Huge Object ID to Number of Managed Objects in Heap. What the original steps over is read when the test
-    /// of its width has passed, which a field behind it has.
+    /// From Next Huge Object ID to Number of Managed Objects in Heap. What the original steps over is read when the
+    /// test of its width has passed, which a field behind it has.
     #[inline(always)]
     pub fn objects(&self, pos: usize) -> Result<(ObjectFields, usize), FormatError>
         ensures read { result

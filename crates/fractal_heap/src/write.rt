@@ -1,5 +1,6 @@
 //! Writing a header without filters: every test comes first, then the fields and their checksum are stored.
-ghost use Rattle.std.specs.Prelude.{◌≡◌, ◌+◌, ◌*◌, ◌^◌, ◌≤◌, [], ◌∷◌, true, length, slice_index, nat_lt, OnOk, OnErr};
+ghost use Rattle.std.specs.Prelude.{◌≡◌, ◌+◌, ◌*◌, ◌^◌, ◌≤◌, [], ◌∷◌, true, length, slice_index};
+ghost use Rattle.std.specs.Prelude.{nat_lt, OnOk, OnErr};
 ghost use Rattle.refusals.specs.Steps.{required};
 ghost use Rattle.checksum.specs.Lookup3.{hashlittle};
 ghost use Rattle.fields.specs.LittleEndian.{le, put};
@@ -7,7 +8,8 @@ ghost use Rattle.fields.specs.Widths.{legal};
 ghost use Rattle.fields.specs.Writing.{Puts};
 ghost use Rattle.fractal_heap.specs.Header.{fields_size, header_end, header_numbers, header_of};
 ghost use Rattle.fractal_heap.specs.Spelling.{field_widths, spelled, unsummed, header_spelled};
-ghost use Rattle.fractal_heap.specs.Writing.{header_length, field_width, widths_checked, header_checked, header_written};
+ghost use Rattle.fractal_heap.specs.Writing.{header_length, field_width, widths_checked};
+ghost use Rattle.fractal_heap.specs.Writing.{header_checked, header_written};
 ghost use Rattle.fractal_heap.specs.Writing.{ReadsBack, ParsedReadsBack, WrittenBack};
 
 use crate::header::{FIELD_COUNT, FractalHeapHeader};
@@ -91,7 +93,8 @@ fn put_field(writer: &mut Writer<'_>, number: u64, width: u8)
     }
 }
 
-// Tests the four fields from `place` on: a loop is not unrolled, and a chain of all 23 is more than the prover searches.
+// Tests the four fields from `place` on: a loop is not unrolled, and a chain of all 23 is more than the prover
+// searches.
 #[inline(always)]
 #[tactic(auto, unfolding(crate::specs::Writing::widths_checked))]
 fn check_four(place: usize, numbers: &[u64], widths: &[u8]) -> Result<(), FormatError>
@@ -185,7 +188,8 @@ fn put_fields(writer: &mut Writer<'_>, numbers: &[u64], offset_size: u8, length_
     requires numbers { FIELD_COUNT ≤ length numbers.now }
     requires offsets { legal offset_size ≡ true }
     requires lengths { legal length_size ≡ true }
-    requires room { writer.old.at + fields_size offset_size length_size ≤ length writer.old.bytes.now }
+    requires room { writer.old.at + fields_size offset_size length_size
+        ≤ length writer.old.bytes.now }
     ensures { Puts writer.old writer.new (fields_size offset_size length_size)
         (spelled (field_widths offset_size length_size) (header_numbers (header_of numbers.now))) }
 {
@@ -220,7 +224,8 @@ fn put_header(bytes: &mut [u8], numbers: &[u64], offset_size: u8, length_size: u
     requires offsets { legal offset_size ≡ true }
     requires lengths { legal length_size ≡ true }
     requires room { header_length offset_size length_size ≤ length bytes.old }
-    ensures checksum { result ≡ hashlittle (unsummed (header_of numbers.now) offset_size length_size) }
+    ensures checksum { result
+        ≡ hashlittle (unsummed (header_of numbers.now) offset_size length_size) }
     ensures written { bytes.new ≡ put bytes.old 0
         (header_spelled (header_of numbers.now) offset_size length_size) }
 {
@@ -305,7 +310,8 @@ pub fn write_numbers(
     ensures written { OnOk result (bytes.new ≡ put bytes.old 0
         (header_spelled (header_of numbers.now) offset_size length_size)) }
     ensures reads_back { OnOk result (ReadsBack (header_of numbers.now) offset_size length_size) }
-    ensures written_back { WrittenBack (header_of numbers.now) offset_size length_size result bytes.new }
+    ensures written_back { WrittenBack (header_of numbers.now) offset_size length_size result
+        bytes.new }
     ensures untouched { OnErr result (bytes.new ≡ bytes.old) }
 {
     store_header(numbers, offset_size, length_size, bytes)

@@ -1,5 +1,5 @@
 -- What C finds in the slot: the place of an object that was found, the pair of an ID that was written.
-use Rattle.std.proofs.Common.{◌≡◌, ℕ, ◌+◌, ◌^◌, ◌<◌, ◌≤◌, false, List, ◌++◌, length, take, drop, nat_lt, Ok}
+use Rattle.std.proofs.Common.{◌≡◌, ℕ, ◌+◌, ◌^◌, ◌<◌, ◌≤◌, false, List, ◌++◌, length, take, drop, nat_lt, Result, Ok}
 use Rattle.std.proofs.Common.{refl, ap, ◌∙◌, arith, mod-eq_of_lt, length-take, length-drop, take_at}
 use Rattle.std.proofs.Common.{drop_at}
 use Rattle.std.proofs.lemmas.Bool.Decides.{nat_tests}
@@ -14,10 +14,11 @@ use Rattle.ids.proofs.ReadBack.{decodes}
 use Rattle.ids.specs.Written.{HasTable, IsManaged}
 use Rattle.fractal_heap.specs.declared.header.FractalHeapHeader.{FractalHeapHeader}
 use Rattle.fractal_heap.specs.Header.{header_at}
-use Rattle.fractal_heap.specs.Read.{managed_at, id_by, object_by}
-use Rattle.heap_kept.specs.HeapKept.{part_of}
-use Rattle.heap_kept.specs.Kept.{ForKept}
-use Rattle.heap_kept.proofs.Keeping.{kept, size-is}
+use Rattle.fields.specs.declared.place.Place.{Place}
+use Rattle.refusals.specs.declared.FormatError.{FormatError}
+use Rattle.fractal_heap.specs.Read.{managed_at, managed_checked, id_by, object_by, checked_by}
+use Rattle.heap_kept.specs.Kept.{ForKept, ForKeptChecked, IsPlaceOf}
+use Rattle.heap_kept.proofs.Keeping.{kept, kept_checked, size-is}
 use Rattle.fractal_heap_c.specs.InSlot.{NamesPlace, NamesPair}
 use Rattle.fractal_heap_c.specs.WrittenIds.{IsWrittenId}
 
@@ -54,6 +55,23 @@ in-file a file bytes s e = omega (arith, ap length e, length-take (length bytes)
 small : {id : List ℕ} {offset len : ℕ} → IsWrittenId id offset len → (offset < 2 ^ 40) × (len < 2 ^ 16)
 small I = let e = I.writer_accepts in (grind (arith, nat_tests), grind (arith, nat_tests))
 
+-- C is answered the place of an object that was found
+module _ (slot : List ℕ) {file new bytes : List ℕ} {result : ℕ} {answered : Result Place FormatError} where
+  pub names-place : IsPlaceOf answered file bytes → 0 < length bytes → length file < 2 ^ 64
+      → result ≡ slot_number slot (report_of place_report answered)
+      → new ≡ slot_bytes slot (report_of place_report answered)
+      → 16 ≤ length slot → NamesPlace result new file bytes
+  names-place P some few u v room =
+      let s = in-file P.position file bytes some P.bytes_there in
+      let q = ap (report_of place_report) P.place_found in
+      let N = named slot P.position (length bytes) room (omega (arith, s, few)) (omega (arith, s, few)) in
+      rw (u ∙ ap (slot_number slot) q, v ∙ ap (slot_bytes slot) q)
+      (record {
+        answers_zero = N.answers_zero;
+        names_length = N.names_length;
+        bytes_there = ap (λ (x : ℕ). take (length bytes) (drop x file)) N.names_offset ∙ P.bytes_there;
+      })
+
 module _ (slot file id : List ℕ) (at offset_size length_size : ℕ) {new : List ℕ} {result : ℕ}
     {header : FractalHeapHeader}
     (g : header_at file at offset_size length_size ≡ Ok header) where
@@ -63,19 +81,21 @@ module _ (slot file id : List ℕ) (at offset_size length_size : ℕ) {new : Lis
       → new ≡ slot_bytes slot (report_of place_report (object_by file at offset_size length_size id offset_size))
       → ForKept header file offset_size id (λ bytes. 16 ≤ length slot → NamesPlace result new file bytes)
   names-kept few u v c p k i H I m room =
-      let bytes : List ℕ = part_of c.sizes c.objects i in
       let found : object_by file at offset_size length_size id offset_size ≡ managed_at header file id offset_size =
       rw g in
-      let P = kept H I m found in
-      let s = in-file P.position file bytes (omega (arith, size-is H I, I.not_empty)) P.bytes_there in
-      let q = ap (report_of place_report) P.place_found in
-      let N = named slot P.position (length bytes) room (omega (arith, s, few)) (omega (arith, s, few)) in
-      rw (u ∙ ap (slot_number slot) q, v ∙ ap (slot_bytes slot) q)
-      (record {
-        answers_zero = N.answers_zero;
-        names_length = N.names_length;
-        bytes_there = ap (λ (x : ℕ). take (length bytes) (drop x file)) N.names_offset ∙ P.bytes_there;
-      })
+      names-place slot (kept H I m found) (omega (arith, size-is H I, I.not_empty)) few u v room
+
+  -- and with every block tested
+  module _ (a : ℕ) where
+    pub names-checked : length file < 2 ^ 64
+        → result
+        ≡ slot_number slot (report_of place_report (checked_by file at offset_size length_size a id offset_size))
+        → new ≡ slot_bytes slot (report_of place_report (checked_by file at offset_size length_size a id offset_size))
+        → ForKeptChecked header a file offset_size id (λ bytes. 16 ≤ length slot → NamesPlace result new file bytes)
+    names-checked few u v sums c p k i H address I m room =
+        let found : checked_by file at offset_size length_size a id offset_size
+        ≡ managed_checked header a file id offset_size = rw g in
+        names-place slot (kept_checked H I m sums address found) (omega (arith, size-is H I, I.not_empty)) few u v room
 
   -- and of an ID that was written
   pub names-pair : HasTable header.table fixed

@@ -1,6 +1,6 @@
 -- What C is told of opening a plan, and of one object more.
 use Rattle.std.specs.Prelude.{ℕ, Result}
-use Rattle.refusals.specs.Refusals.{answer, report_of}
+use Rattle.refusals.specs.Refusals.{answer, report_of, test_report}
 use Rattle.refusals.specs.declared.answer.Answer.{Answer}
 use Rattle.refusals.specs.declared.FormatError.{FormatError}
 use Rattle.planner.specs.declared.State.{State}
@@ -8,7 +8,7 @@ use Rattle.plan.specs.Checks.{width_checked}
 
 -- 2, or no values
 abbrev pub opening_report : ℕ → Answer
-opening_report offset_size = report_of (λ _. answer 0 0 0) (width_checked offset_size)
+opening_report offset_size = test_report (width_checked offset_size)
 
 -- the heap offset, or 11, or 12
 abbrev pub addition_report : Result (State × ℕ) FormatError → Answer

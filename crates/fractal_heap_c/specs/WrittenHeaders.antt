@@ -20,7 +20,8 @@ written_header_number slot numbers offset_size length_size lent =
     if is_short field_count numbers then slice_too_short
     else (header_answer numbers offset_size length_size lent).number)
 
--- the slot at the end: 13 is the number alone, whatever is too short, and the slot is then as it was
+-- the slot at the end: 13 is the number alone, whatever is too short, and the slot is then as it
+-- was
 abbrev pub written_header_slot : (slot numbers : List ℕ) (offset_size length_size lent : ℕ)
     → List ℕ
 written_header_slot slot numbers offset_size length_size lent =

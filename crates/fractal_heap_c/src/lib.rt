@@ -1,5 +1,6 @@
 //! What the loader calls: the checksum, the decoding of a managed ID, and reading; in `headers` a header's fields, told and
-//! written, in `open_plans` a plan that stays open, in `written_ids` the ID of what was planned. Decoding and reading parse
+//! written, in `open_plans` a plan that stays open, in `unchecked` reading without tests of the blocks, in `written_ids`
+//! the ID of what was planned. Decoding and reading parse
 //! the header at `at` first. Each returns the refusal's number, 0 where there is none, and puts the answer's two values into
 //! the first 16 bytes of the slot; a shorter slot gives 13 before all else. In decoding and reading `put_answer` tests it,
 //! after parsing and answering, so what is handed back for a short slot is 13 whatever the file is.
@@ -7,24 +8,28 @@
 
 pub mod headers;
 pub mod open_plans;
+pub mod unchecked;
 pub mod written_ids;
 
-ghost use Rattle.std.specs.Prelude.{◌≡◌, ◌≤◌, ℕ, length, Ok, ◌+◌, IfOk};
+ghost use Rattle.std.specs.Prelude.{◌≡◌, ◌≤◌, ℕ, length, Ok, Err, ◌+◌, IfOk};
 ghost use Rattle.checksum.specs.Lookup3.{hashlittle};
 ghost use Rattle.fields.specs.Slot.{slot_number, slot_bytes};
 ghost use Rattle.refusals.specs.Refusals.{report_of};
+ghost use Rattle.refusals.specs.declared.FormatError.{FormatError};
 ghost use Rattle.ids.specs.Decoded.{id_report};
 ghost use Rattle.fields.specs.Places.{place_report};
+ghost use Rattle.checked_reading.specs.Path.{site_report};
 ghost use Rattle.fractal_heap.specs.declared.header.FractalHeapHeader.{FractalHeapHeader};
 ghost use Rattle.fractal_heap.specs.Header.{header_at};
-ghost use Rattle.fractal_heap.specs.Read.{id_by, object_by};
-ghost use Rattle.heap_kept.specs.FromBytes.{ForWritten};
-ghost use Rattle.heap_kept.specs.Kept.{ForKept};
+ghost use Rattle.fractal_heap.specs.Read.{id_by, object_by, checked_by, stopped_by};
+ghost use Rattle.heap_kept.specs.FromBytes.{ForWrittenChecked};
+ghost use Rattle.heap_kept.specs.Kept.{ForKeptChecked};
 ghost use Rattle.fractal_heap_c.specs.InSlot.{NamesPlace, NamesPair};
 ghost use Rattle.ids.specs.Written.{HasTable, IsManaged};
 ghost use Rattle.table.specs.Table.{fixed};
 ghost use Rattle.fractal_heap_c.specs.WrittenIds.{IsWrittenId};
 
+use checked_reading::BlockSite;
 use checksum::jenkins_lookup3;
 use fields::Place;
 use fields::convert::to_usize;
@@ -58,13 +63,35 @@ fn read(
     at: u64,
     offset_size: u8,
     length_size: u8,
+    heap_header_address: u64,
     id: &[u8],
 ) -> Result<Place, FormatError>
-    ensures found { result ≡ object_by file.now at offset_size length_size id.now offset_size }
+    ensures found { result ≡ checked_by file.now at offset_size length_size heap_header_address
+        id.now offset_size }
+    ensures only_refuses { IfOk result (λ place.
+        object_by file.now at offset_size length_size id.now offset_size ≡ Ok place) }
     ensures in_file { IfOk result (λ place. place.position + place.length ≤ length file.now) }
 {
     let header = FractalHeapHeader::parse(file, to_usize(at), offset_size, length_size)?;
-    header.read_managed_object(file, id, offset_size)
+    header.read_managed_object(file, heap_header_address, id, offset_size)
+}
+
+fn stop(
+    file: &[u8],
+    at: u64,
+    offset_size: u8,
+    length_size: u8,
+    heap_header_address: u64,
+    id: &[u8],
+) -> Result<BlockSite, FormatError>
+    ensures last { result ≡ stopped_by file.now at offset_size length_size heap_header_address
+        id.now }
+    ensures refused { (refused : FormatError) → result ≡ Err refused
+        → checked_by file.now at offset_size length_size heap_header_address id.now offset_size
+        ≡ Err refused }
+{
+    let header = FractalHeapHeader::parse(file, to_usize(at), offset_size, length_size)?;
+    header.stopping_block(file, heap_header_address, id, offset_size)
 }
 
 /// Heap offset and length of a managed ID.
@@ -97,37 +124,73 @@ pub extern "C" fn fractal_heap_decode_managed_id(
     )
 }
 
-/// Position in the file and length of a managed object.
+/// Position in the file and length of a managed object. Every block on the way is tested, and has to be one of the heap
+/// whose header's address is `heap_header_address`; that is the address in HDF5's terms, `at` less the superblock's base
+/// in an HDF5 file. What this finds `fractal_heap_read_managed_object_unchecked` finds, too.
 ///
-/// Of a heap that our writer wrote, and by an ID that it gave, early or at the end, the file has the object's bytes
-/// there, if the object is no longer than the header's largest managed object, whatever else the header says: `kept`
-/// says so where the header parses, `from_bytes` where its bytes stand.
+/// Of a heap that our writer wrote with this address, and by an ID that it gave, early or at the end, the file has the
+/// object's bytes there, if the header's flags say that direct blocks have a checksum, and the object is no longer than
+/// the header's largest managed object, whatever else the header says: `kept` says so where the header parses,
+/// `from_bytes` where its bytes stand.
 #[unsafe(no_mangle)]
 pub extern "C" fn fractal_heap_read_managed_object(
     file: &[u8],
     at: u64,
     offset_size: u8,
     length_size: u8,
+    heap_header_address: u64,
     id: &[u8],
     slot: &mut [u8],
 ) -> u32
     ensures number { result ≡ slot_number slot.old
-        (report_of place_report
-        (object_by file.now at offset_size length_size id.now offset_size)) }
+        (report_of place_report (checked_by file.now at offset_size length_size
+        heap_header_address id.now offset_size)) }
     ensures slot_after { slot.new ≡ slot_bytes slot.old
-        (report_of place_report
-        (object_by file.now at offset_size length_size id.now offset_size)) }
-    ensures in_file { IfOk (object_by file.now at offset_size length_size id.now offset_size)
+        (report_of place_report (checked_by file.now at offset_size length_size
+        heap_header_address id.now offset_size)) }
+    ensures only_refuses { IfOk
+        (checked_by file.now at offset_size length_size heap_header_address id.now offset_size)
+        (λ place. object_by file.now at offset_size length_size id.now offset_size ≡ Ok place) }
+    ensures in_file { IfOk
+        (checked_by file.now at offset_size length_size heap_header_address id.now offset_size)
         (λ place. place.position + place.length ≤ length file.now) }
     ensures kept { (header : FractalHeapHeader)
         → header_at file.now at offset_size length_size ≡ Ok header
-        → ForKept header file.now offset_size id.now
+        → ForKeptChecked header heap_header_address file.now offset_size id.now
         (λ bytes. 16 ≤ length slot.old → NamesPlace result slot.new file.now bytes) }
     // The same where the file holds the header's bytes, as the header writer leaves them.
-    ensures from_bytes { ForWritten file.now at offset_size length_size id.now
+    ensures from_bytes { ForWrittenChecked file.now at offset_size length_size heap_header_address id.now
         (λ bytes. 16 ≤ length slot.old → NamesPlace result slot.new file.now bytes) }
 {
-    put_answer(slot, read(file, at, offset_size, length_size, id).answer())
+    let found = read(file, at, offset_size, length_size, heap_header_address, id);
+    put_answer(slot, found.answer())
+}
+
+/// The block at which that read stops, by its address and its heap offset: the direct block that has the object, or the
+/// block that is refused, or that has no child for the object. A read that comes to no block is refused here as there.
+#[unsafe(no_mangle)]
+pub extern "C" fn fractal_heap_stopping_block(
+    file: &[u8],
+    at: u64,
+    offset_size: u8,
+    length_size: u8,
+    heap_header_address: u64,
+    id: &[u8],
+    slot: &mut [u8],
+) -> u32
+    ensures number { result ≡ slot_number slot.old
+        (report_of site_report
+        (stopped_by file.now at offset_size length_size heap_header_address id.now)) }
+    ensures slot_after { slot.new ≡ slot_bytes slot.old
+        (report_of site_report
+        (stopped_by file.now at offset_size length_size heap_header_address id.now)) }
+    ensures refused { (refused : FormatError)
+        → stopped_by file.now at offset_size length_size heap_header_address id.now ≡ Err refused
+        → checked_by file.now at offset_size length_size heap_header_address id.now offset_size
+        ≡ Err refused }
+{
+    let last = stop(file, at, offset_size, length_size, heap_header_address, id);
+    put_answer(slot, last.answer())
 }
 
 #[cfg(test)]

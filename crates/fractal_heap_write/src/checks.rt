@@ -1,10 +1,12 @@
-//! The writer's answer: planning's, then that of the tests between planning and writing. Nothing is written here.
+//! The writer's answer: planning's, then that of the tests between planning and writing. Nothing is
+//! written here.
 ghost use Rattle.std.specs.Prelude.{◌≡◌, ◌+◌, ◌≤◌, ◌^◌, ◌<◌, OnOk, IfOk};
 ghost use Rattle.fields.specs.Undefined.{undefined_address};
 ghost use Rattle.fields.specs.Widths.{byte_count};
 ghost use Rattle.numbers.specs.Sums.{sum};
 ghost use Rattle.fractal_heap_write.specs.Answer.{Accepted, serialized_for};
-ghost use Rattle.fractal_heap_write.specs.Checks.{bytes_checked, header_address_checked, region_address_checked};
+ghost use Rattle.fractal_heap_write.specs.Checks.{bytes_checked, header_address_checked};
+ghost use Rattle.fractal_heap_write.specs.Checks.{region_address_checked};
 
 use fields::convert::undefined_address;
 use fields::{Width, has_room, offset_width};
@@ -13,7 +15,8 @@ use plan::{ManagedPlan, planned_for};
 use refusals::FormatError;
 use region_blocks::Site;
 
-/// How much the writer is lent: the places of both lists, the bytes of the objects, the bytes for the region.
+/// How much the writer is lent: the places of both lists, the bytes of the objects, the bytes for
+/// the region.
 #[derive(Clone, Copy, Debug, PartialEq, Eq)]
 pub struct Lent {
     pub offset_places: usize,
@@ -53,8 +56,8 @@ fn check_header_address(address: u64, width: Width) -> Result<(), FormatError>
     Ok(())
 }
 
-// Tests that a region of `size` bytes ends at or before the undefined address: else 15. No sum is formed that could
-// wrap.
+// Tests that a region of `size` bytes ends at or before the undefined address: else 15. No sum is
+// formed that could wrap.
 fn check_region_address(address: u64, size: u64, width: Width) -> Result<(), FormatError>
     ensures tested { result ≡ region_address_checked (byte_count width) address size }
     ensures end_defined { OnOk result (address + size ≤ undefined_address (byte_count width)) }
@@ -66,9 +69,9 @@ fn check_region_address(address: u64, size: u64, width: Width) -> Result<(), For
     Ok(())
 }
 
-/// The plan of objects of these sizes, if all tests pass for what is lent and the site of the region: first those of
-/// planning (2, 13 for the offsets, 13 for the blocks, 11, 12), then 14, 13 for the region, 15 for the header, 15 for
-/// the region.
+/// The plan of objects of these sizes, if all tests pass for what is lent and the site of the
+/// region: first those of planning (2, 13 for the offsets, 13 for the blocks, 11, 12), then 14, 13
+/// for the region, 15 for the header, 15 for the region.
 #[tactic(auto, using(crate::proofs::Answering::planning))]
 pub fn serialized_for(sizes: &[u64], lent: Lent, site: Site) -> Result<ManagedPlan, FormatError>
     ensures answer { result ≡ serialized_for sizes.now lent site }

@@ -1,4 +1,5 @@
-//! Writing the managed blocks of a fractal heap: `serialize` plans anew and writes the region of the plan.
+//! Writing the managed blocks of a fractal heap: `serialize` plans anew and writes the region of
+//! the plan.
 #![tactic(auto)]
 
 pub mod checks;
@@ -18,13 +19,14 @@ use refusals::FormatError;
 use region_blocks::Site;
 use region_write::write_region;
 
-/// Plans anew, and writes the region of the plan into the front of `region`; the objects' heap offsets and the
-/// blocks' starts go into the front of the lent lists. `objects` are the objects' bytes, joined in the order of their
-/// sizes. What is refused is refused by planning's tests (2, 13, 13, 11, 12), then for the bytes of the objects (14),
-/// the room for the region (13) and the two addresses of the site (15, 15); then nothing that is lent has changed.
-/// What is accepted keeps its objects apart, so that each comes back.
-// In the original a method of a plan that is kept. Here a plan lies in the lent lists, and is made anew: one pass over
-// the sizes gives the answer, one the lists, one the direct blocks.
+/// Plans anew, and writes the region of the plan into the front of `region`; the objects' heap
+/// offsets and the blocks' starts go into the front of the lent lists. `objects` are the objects'
+/// bytes, joined in the order of their sizes. What is refused is refused by planning's tests (2,
+/// 13, 13, 11, 12), then for the bytes of the objects (14), the room for the region (13) and the
+/// two addresses of the site (15, 15); then nothing that is lent has changed. What is accepted
+/// keeps its objects apart, so that each comes back.
+// In the original a method of a plan that is kept. Here a plan lies in the lent lists, and is made
+// anew: one pass over the sizes gives the answer, one the lists, one the direct blocks.
 pub fn serialize(
     sizes: &[u64],
     objects: &[u8],

@@ -8,13 +8,14 @@ use Rattle.table.specs.Table.{Table, fixed}
 use Rattle.table.specs.Slots.{slot_at}
 use Rattle.table_laws.proofs.Format.{direct-local, fixed-slot}
 use Rattle.plan.specs.declared.ManagedPlan.{ManagedPlan}
+use Rattle.plan.specs.Plans.{object_start}
 use Rattle.numbers.proofs.Saturating.{sat-fits}
 use Rattle.reading.specs.Walk.{direct_at}
 use Rattle.fractal_heap.specs.declared.header.FractalHeapHeader.{FractalHeapHeader}
 use Rattle.fractal_heap.specs.Read.{root_at, managed_at}
 use Rattle.ids.specs.Checks.{id_checked}
 use Rattle.ids.specs.Written.{managed_id}
-use Rattle.heap_kept.specs.HeapKept.{Call, WriterAccepts, HoldsRegion, IsHeaderOf, offset_of, EmptyRead, accepts}
+use Rattle.heap_kept.specs.HeapKept.{Call, WriterAccepts, HoldsRegion, IsHeaderOf, EmptyRead, accepts}
 use Rattle.heap_kept.specs.HeapKept.{refuses, EmptyObjectsAnswered}
 use Rattle.heap_kept.proofs.Ids.{id-passes}
 use Rattle.heap_kept.proofs.FromRoot.{starts, block_of, start, place_of, place-fits, block_inside, by_bare}
@@ -72,7 +73,9 @@ module _ {c : Call} {p : ManagedPlan} (W : WriterAccepts c p) {F : List ℕ} (H 
         in_block F (place n l) (its n l) x 0 (omega arith) (omega arith)
 
     found-there : x < 2 ^ 40 → root_at h F x 0 w ≡ direct_at F (place n l) (its n l) x 0 → EmptyRead F h w x p.root_rows
-    found-there s e = accepts (place n l + (x - its n l)) in-file (by-id T F w x 0 s (omega arith) (omega arith) ∙ e ∙ nothing_read)
+    found-there s e =
+        accepts (place n l + (x - its n l)) in-file
+        (by-id T F w x 0 s (omega arith) (omega arith) ∙ e ∙ nothing_read)
 
   -- where no placed block holds the offset, and the root has rows
   pub missed-there : (n : ℕ) → n < length (starts W) → 0 < p.root_rows → NoneHolds fixed x (starts W) → x < 2 ^ 40
@@ -98,7 +101,7 @@ module _ {c : Call} {p : ManagedPlan} (W : WriterAccepts c p) {F : List ℕ} (H 
 -- every empty object
 pub empty-answered : EmptyObjectsAnswered
 empty-answered c p W file H h T i l e =
-    let x = offset_of c.site.offset_size c.sizes i in
+    let x = object_start c.site.offset_size c.sizes i in
     let B = block_of W i l in
     let z = (fixed-slot B.slot).size_is in
     let t = B.ends_inside in

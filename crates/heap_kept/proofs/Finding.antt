@@ -1,7 +1,7 @@
--- At any table: the reader's walk over written indirect blocks comes to the direct block that holds the wanted
--- heap offset.
+-- At any table, however blocks are taken: the reader's walk over written indirect blocks comes to the direct block that
+-- holds the wanted heap offset.
 use Rattle.std.proofs.Common.{◌≡◌, ℕ, zero, suc, ◌+◌, ◌-◌, ◌*◌, ◌^◌, ◌<◌, ◌≤◌, true, ◌⊎◌, inl, inr, List, [], ◌∷◌}
-use Rattle.std.proofs.Common.{◌++◌, length, drop, Option, Result, sym, ap, ◌∙◌, subst, arith, length-append}
+use Rattle.std.proofs.Common.{◌++◌, length, drop, Option, Result, sym, ap, ap₂, ◌∙◌, subst, arith, length-append}
 use Rattle.std.proofs.Math.Decide.{dec_lt}
 use Rattle.fields.specs.LittleEndian.{le}
 use Rattle.fields.specs.Widths.{legal}
@@ -11,7 +11,7 @@ use Rattle.table.specs.Slots.{slot_at}
 use Rattle.table_laws.proofs.Format.{SlotOf, direct-local}
 use Rattle.plan.specs.Plans.{sizes_at}
 use Rattle.region_indirects.specs.Walk.{Walked, all_slots, block}
-use Rattle.region_indirects.proofs.Walking.{slot-entry}
+use Rattle.region_indirects.proofs.Walking.{slot-entry, block-entries}
 use Rattle.region_write.proofs.Starts.{Placed, more, before, from, before-yes, before-no, from-placed, before-later}
 use Rattle.region_write.proofs.Starts.{from-later, sizes-append}
 use Rattle.region_write.proofs.Geometry.{SlotAt, slot-end, BlockAt, inner-span, own-slot, inner_block}
@@ -20,8 +20,8 @@ use Rattle.reading.specs.declared.rows.DoublingTable.{DoublingTable}
 use Rattle.reading.specs.declared.children.HeapChild.{HeapChild}
 use Rattle.fields.specs.declared.place.Place.{Place}
 use Rattle.refusals.specs.declared.FormatError.{FormatError}
-use Rattle.reading.specs.Walk.{direct_at}
-use Rattle.heap_kept.specs.Walking.{HasBytes, GivesRows, IsToCome, Finds, PlacedBlocksFound}
+use Rattle.reading.specs.Walk.{Taking}
+use Rattle.heap_kept.specs.Walking.{HasBytes, GivesRows, IsToCome, Opens, Finds, PlacedBlocksFound}
 use Rattle.heap_kept.proofs.Entries.{entry-passed, entry-taken}
 use Rattle.heap_kept.proofs.Standing.{Stands, in_slot, block-stands, onward, walk-scans}
 use Rattle.heap_kept.proofs.Scanning.{Settled, Passed, leads-inside, scanned}
@@ -70,19 +70,20 @@ module _ {t : Table} {b a : ℕ} {bs : List ℕ} where
 
 module _ (t : Table) (g : t.start_bits ≤ t.direct_bits) (wd : t.width_bits + t.start_bits ≤ suc t.direct_bits)
     (w header : ℕ) (d : DoublingTable) (N : ℕ) (A : GivesRows d t N) (F : List ℕ) (ok : legal w ≡ true)
-    (target len b a : ℕ) (bs : List ℕ) (lo : b ≤ target) (hi : target < b + (slot_at t b).size)
+    (target len : ℕ) (taking : Taking) (O : Opens t w header F target taking)
+    (b a : ℕ) (bs : List ℕ) (lo : b ≤ target) (hi : target < b + (slot_at t b).size)
     (last : a < 2 ^ (8 * w) - 1) where
   abbrev Wanted : Result Place FormatError
-  Wanted = direct_at F a b target len
+  Wanted = taking.object a (slot_at t b).size b
 
   -- the walk from a block of n rows comes to the block at b
   abbrev FindsFrom : ℕ → Type 0
-  FindsFrom n = Finds t w header d N F target len b a bs n
+  FindsFrom n = Finds t w header d N F target len taking b a bs n
 
   module _ {n base : ℕ} (finds : (j : ℕ) → j < n → FindsFrom j) (few : n ≤ N)
       (top : base + row_offset t n < 2 ^ 64) (B : BlockAt t n base) (depth : ℕ) (deep : n ≤ depth) (s : List ℕ) where
     abbrev then : Result (Option HeapChild) FormatError → Result Place FormatError
-    then = onward d F w target len depth
+    then = onward taking d F w target len depth
 
     module _ {r at : ℕ} (C : SlotAt t n base r at) where
       abbrev z : ℕ
@@ -109,7 +110,7 @@ module _ (t : Table) (g : t.start_bits ≤ t.direct_bits) (wd : t.width_bits + t
             A.direct_children r a at (omega arith)
                 dr,
           )
-          (ap (λ (y : ℕ). direct_at F a y target len) (sym o0))
+          (ap₂ (λ (x y : ℕ). taking.object a x y) (sym o1) (sym o0))
       taken {pos = pos} {next = next} e (deeper {s = s₁} {ss = ss} dr h q) S u H rs =
           let j : ℕ = r - t.width_bits in
           let f : row_offset t j ≡ z = inner-span t g wd r dr in
@@ -119,9 +120,9 @@ module _ (t : Table) (g : t.start_bits ≤ t.direct_bits) (wd : t.width_bits + t
           let v = C.row_in in
           let x = fits in
           let G : Stands F s w pos e (block t w header j at (s₁ ∷ ss) pos next) = subst (Stands F s w pos e) q H in
-          leads-inside t w header d N A F s target len depth r at (s₁ ∷ ss) pos next e ok (omega arith) dr fits
+          leads-inside taking t w header d N A F s target len depth r at (s₁ ∷ ss) pos next e ok (omega arith) dr fits
           (omega arith) (omega arith) G rs
-          ∙ finds j (omega arith) at (s₁ ∷ ss) pos next depth (omega arith) (omega arith) (omega arith) I
+          ∙ finds j (omega arith) at (s₁ ∷ ss) pos next depth (omega arith) (omega arith) (omega arith) (omega arith) I
           (S, omega arith) G.bytes G.below
 
       -- a slot settles it, or ends before the block at b
@@ -150,13 +151,15 @@ module _ (t : Table) (g : t.start_bits ≤ t.direct_bits) (wd : t.width_bits + t
               )
 
   block-found : (n : ℕ) → ((j : ℕ) → j < n → FindsFrom j) → FindsFrom n
-  block-found n finds base ss pos next zero few deep top B (S, u) H k = absurd (omega arith)
-  block-found n finds base ss pos next (suc depth) few deep top B (S, u) H k =
+  block-found n finds base ss pos next zero few deep begins top B (S, u) H k = absurd (omega arith)
+  block-found n finds base ss pos next (suc depth) few deep begins top B (S, u) H k =
       let o : Walked = all_slots t w header n base ss pos next in
       let I = block-stands t w header n base ss pos next F H k in
       let p : ℕ = pos + length o.bytes in
-      walk-scans t w header d A.heap_bits F target len p n base depth o.entries I.own
-      ∙ scanned t w header d N A F (drop p F) target n base (onward d F w target len depth) Wanted (IsToCome t b a bs)
+      walk-scans taking t w header d A.heap_bits F target len p n base depth o.entries I.own
+      (O.is_opened p n base o.entries begins (block-entries t w header n base ss pos next) I.own)
+      ∙ scanned t w header d N A F (drop p F) target n base (onward taking d F w target len depth) Wanted
+      (IsToCome t b a bs)
       (λ r at ss pos next e C S H. law finds few top B depth (omega arith) (drop p F) C ss pos next e S H)
       (λ ss next S. absurd (let l = S.not_passed in omega arith))
       ss pos next (5 + w + offset_bytes t) S I.slots
@@ -166,5 +169,5 @@ module _ (t : Table) (g : t.start_bits ≤ t.direct_bits) (wd : t.width_bits + t
 
 -- the walk from any block in which the block at b is still to come finds it
 pub found : PlacedBlocksFound
-found t D w header d N A F ok target len b a bs lo hi last n =
-    walk-found t D.starts_direct D.rows_fill_slots w header d N A F ok target len b a bs lo hi last n
+found t D w header d N A F ok target len taking O b a bs lo hi last n =
+    walk-found t D.starts_direct D.rows_fill_slots w header d N A F ok target len taking O b a bs lo hi last n

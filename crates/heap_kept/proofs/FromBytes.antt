@@ -11,7 +11,9 @@ use Rattle.plan.specs.declared.ManagedPlan.{ManagedPlan}
 use Rattle.heap_kept.specs.HeapKept.{Call, IsHeaderOf}
 use Rattle.heap_kept.specs.Kept.{HoldsHeap}
 use Rattle.heap_kept.specs.FromBytes.{HoldsHeader, WrittenHeapsAreRead}
+use Rattle.heap_kept.specs.CheckedKept.{WrittenHeapsPass}
 use Rattle.heap_kept.proofs.Theorem.{heap-kept}
+use Rattle.heap_kept.proofs.Checked.{checked-kept}
 
 -- what was written is parsed there, but for what the header has of filters
 pub parsed-written : {file : List ℕ} {at : ℕ} {header : FractalHeapHeader} {os ls : ℕ}
@@ -47,6 +49,16 @@ pub written-read : WrittenHeapsAreRead
 written-read call plan W header T file at ls B R i l s m =
     let parsed = parsed-written B in
     let back = heap-kept.comes_back call plan W file R (without_filters header) (plain-is T) i l s m in
+    record {
+      position = back.position;
+      reader_accepts = rw parsed back.reader_accepts;
+      bytes_there = back.bytes_there;
+    }
+
+pub written-passes : WrittenHeapsPass
+written-passes call plan W header T sums file at ls B R i l s m =
+    let parsed = parsed-written B in
+    let back = checked-kept call plan W file R (without_filters header) (plain-is T) sums i l s m in
     record {
       position = back.position;
       reader_accepts = rw parsed back.reader_accepts;

@@ -34,10 +34,10 @@ use Rattle.fractal_heap_write.specs.Checks.{Fit}
 use Rattle.fractal_heap_write.proofs.Answering.{written, fit}
 use Rattle.fields.specs.declared.place.Place.{Place}
 use Rattle.refusals.specs.declared.FormatError.{FormatError}
-use Rattle.reading.specs.Walk.{direct_at, walk_from}
+use Rattle.reading.specs.Walk.{Taking, as_they_stand, direct_at, walk_by, root_by}
 use Rattle.fractal_heap.specs.declared.header.FractalHeapHeader.{FractalHeapHeader}
 use Rattle.fractal_heap.specs.Read.{root_at}
-use Rattle.heap_kept.specs.Walking.{HasBytes, GivesRows, IsToCome, NoneHolds, missed, Doubles}
+use Rattle.heap_kept.specs.Walking.{HasBytes, GivesRows, IsToCome, NoneHolds, missed, Opens, Doubles}
 use Rattle.heap_kept.proofs.Holding.{has_some, has_left, has_right}
 use Rattle.heap_kept.proofs.Agreeing.{numbers_of, agrees}
 use Rattle.heap_kept.proofs.Entries.{defined}
@@ -110,7 +110,7 @@ module _ {c : Call} {p : ManagedPlan} (W : WriterAccepts c p) where
   indirect-length = let a = indirects-planned xs o b w p planned header address first_direct in
       let c = indirect-bytes xs o b w p planned header in omega arith
 
-  direct-length : length direct_part ≤ sizes_at fixed starts
+  pub direct-length : length direct_part ≤ sizes_at fixed starts
   direct-length =
       let a = region-length xs o b w p planned header address js in
       let c = length-append indirect_part direct_part in
@@ -140,7 +140,7 @@ module _ {c : Call} {p : ManagedPlan} (W : WriterAccepts c p) where
     abbrev pub place_of : ℕ
     place_of = first_direct + sizes_at fixed (before start starts)
 
-    there : from start starts ≡ start ∷ drop (suc n) starts
+    pub there : from start starts ≡ start ∷ drop (suc n) starts
     there = nth-from starts-placed n l
 
     -- it ends in the region
@@ -195,7 +195,7 @@ module _ {c : Call} {p : ManagedPlan} (W : WriterAccepts c p) where
       -- ---- under a header
 
       module _ {h : FractalHeapHeader} (T : IsHeaderOf h c p) (t len : ℕ) where
-        table_is : h.table ≡ numbers_of fixed
+        pub table_is : h.table ≡ numbers_of fixed
         table_is = λ i. record {
           table_width = T.fixed_geometry.table_width i;
           starting_block_size = T.fixed_geometry.starting_block_size i;
@@ -206,29 +206,7 @@ module _ {c : Call} {p : ManagedPlan} (W : WriterAccepts c p) where
         below : place_of < 2 ^ (8 * w) - 1
         below = let i = in-region in let e = tests.end in let s = slot-some fixed start in omega arith
 
-        -- a root of no rows is the one block
-        pub by_bare : p.root_rows ≡ 0 → root_at h F t len w ≡ direct_at F place_of start t len
-        unfolding sizes_at
-        by_bare z =
-            let B = bare-planned xs o b w p planned z in
-            let r = B.region in
-            let a = B.allocated in
-            let c = indirect-bytes xs o b w p planned header in
-            let q = B.place in
-            let f : start ≡ 0 = one starts B.blocks n l in
-            let g = ap (sizes_at fixed) (before-none start (omega arith) starts-placed) in
-            let e = T.root_address in
-            let u = below in
-            let d : h.root_block_address ≡ place_of = omega arith in
-            let v = defined h.root_block_address w (omega arith) in
-            let no-rows = T.root_rows ∙ z in
-            grind (arith, common_steps)
-          where
-            one : (ss : List ℕ) → ss ≡ 0 ∷ [] → (n : ℕ) → n < length ss → slice_index ss n ≡ 0
-            one ss e zero l = ap (λ (v : List ℕ). slice_index v 0) e
-            one ss e (suc n) l = absurd (let z = ap length e in omega arith)
-
-        -- from a root of some rows the walk goes over the indirect blocks
+        -- a root of some rows is the last of the indirect blocks
         module _ (some : 0 < p.root_rows) where
           abbrev root : ℕ
           root = address + length (all_slots fixed w header p.root_rows 0 starts address first_direct).bytes
@@ -272,42 +250,99 @@ module _ {c : Call} {p : ManagedPlan} (W : WriterAccepts c p) where
               let x = indirect-length in
               omega arith
 
-          by-walk : (x : Result Place FormatError)
-              → walk_from (numbers_of fixed) F w t len 64 root p.root_rows 0 ≡ x → root_at h F t len w ≡ x
-          by-walk x q =
-              let e = root_is in
-              let u = root_below in
-              let z = T.root_rows in
+        -- ---- however the blocks are taken
+
+        module _ (taking : Taking) where
+          abbrev Read : Result Place FormatError
+          Read = root_by taking h.table F h.root_block_address h.current_rows_in_root_indirect_block t len w
+
+          abbrev Wanted : Result Place FormatError
+          Wanted = taking.object place_of (slot_at fixed start).size start
+
+          -- a root of no rows is the one block
+          bare-found : p.root_rows ≡ 0 → Read ≡ Wanted
+          unfolding sizes_at
+          bare-found z =
+              let B = bare-planned xs o b w p planned z in
+              let r = B.region in
+              let a = B.allocated in
+              let c = indirect-bytes xs o b w p planned header in
+              let q = B.place in
+              let f : start ≡ 0 = one starts B.blocks n l in
+              let g = ap (sizes_at fixed) (before-none start (omega arith) starts-placed) in
+              let e = T.root_address in
+              let u = below in
+              let d : h.root_block_address ≡ place_of = omega arith in
               let v = defined h.root_block_address w (omega arith) in
-              let walk = (λ i. walk_from (table_is i) F w t len 64 (e i) (z i) 0) ∙ q in
+              let no-rows = T.root_rows ∙ z in
+              let its = (fixed-slot (no-root-rows xs o b w p planned z).slot).size_is in
+              let size : h.table.starting_block_size ≡ (slot_at fixed start).size
+              = T.fixed_geometry.starting_block_size ∙ its ∙ ap (λ (x : ℕ). (slot_at fixed x).size) (sym f) in
+              let block : taking.object h.root_block_address h.table.starting_block_size 0 ≡ Wanted
+              = (λ i. taking.object (d i) (size i) (sym f i)) in
               grind (arith, common_steps)
+            where
+              one : (ss : List ℕ) → ss ≡ 0 ∷ [] → (n : ℕ) → n < length ss → slice_index ss n ≡ 0
+              one ss e zero l = ap (λ (v : List ℕ). slice_index v 0) e
+              one ss e (suc n) l = absurd (let z = ap length e in omega arith)
 
-          by-found : start ≤ t → t < start + (slot_at fixed start).size
-              → root_at h F t len w ≡ direct_at F place_of start t len
-          by-found lo hi =
-              let r = (rooted xs o b w p planned some).reaches in
-              let e = end-reached starts-placed there in
-              let s = slot-some fixed start in
-              let f = few in
-              by-walk (direct_at F place_of start t len)
-              (found fixed doubles w header (numbers_of fixed) 29 agree F width-legal t len start place_of
-              (drop (suc n) starts) lo hi below p.root_rows 0 starts address first_direct 64 few (omega arith)
-              span_small is_block (coming, omega arith) blocks-have blocks-below)
+          -- from a root of some rows the walk goes over the indirect blocks
+          module _ (O : Opens fixed w header F t taking) where
+            module _ (some : 0 < p.root_rows) where
+              by-walk : (x : Result Place FormatError)
+                  → walk_by taking (numbers_of fixed) F w t len 64 (root some) p.root_rows 0 ≡ x → Read ≡ x
+              by-walk x q =
+                  let e = root_is some in
+                  let u = root_below some in
+                  let z = T.root_rows in
+                  let v = defined h.root_block_address w (omega arith) in
+                  let walk = (λ i. walk_by taking (table_is i) F w t len 64 (e i) (z i) 0) ∙ q in
+                  grind (arith, common_steps)
 
-          -- where no placed block holds the offset
-          pub by-missing : NoneHolds fixed t starts → root_at h F t len w ≡ missed F t len
-          by-missing X =
-              let f = few in
-              by-walk (missed F t len)
-              (not_found fixed doubles w header (numbers_of fixed) 29 agree F width-legal t len p.root_rows 0 starts
-              address first_direct 64 few (omega arith) span_small is_block
-              (record { placed = starts-placed; none_holds = X }) blocks-have blocks-below)
+              rows-found : start ≤ t → t < start + (slot_at fixed start).size → Read ≡ Wanted
+              rows-found lo hi =
+                  let r = (rooted xs o b w p planned some).reaches in
+                  let e = end-reached starts-placed there in
+                  let s = slot-some fixed start in
+                  let f = few some in
+                  by-walk Wanted
+                  (found fixed doubles w header (numbers_of fixed) 29 (agree some) F width-legal t len taking O start
+                  place_of (drop (suc n) starts) lo hi below p.root_rows 0 starts address first_direct 64 (few some)
+                  (omega arith) (omega arith) (span_small some) (is_block some) (coming, omega arith)
+                  (blocks-have some) (blocks-below some))
 
-        -- from the root to the block
+              -- where no placed block holds the offset
+              none-found : NoneHolds fixed t starts → Read ≡ missed F t len
+              none-found X =
+                  let f = few some in
+                  by-walk (missed F t len)
+                  (not_found fixed doubles w header (numbers_of fixed) 29 (agree some) F width-legal t len taking O
+                  p.root_rows 0 starts address first_direct 64 (few some) (omega arith) (omega arith)
+                  (span_small some) (is_block some) (record { placed = starts-placed; none_holds = X })
+                  (blocks-have some) (blocks-below some))
+
+            -- from the root to the block
+            pub block-found : start ≤ t → t < start + (slot_at fixed start).size → Read ≡ Wanted
+            block-found lo hi = go (ℕ_discrete p.root_rows 0)
+              where
+                go : Dec (p.root_rows ≡ 0) → Read ≡ Wanted
+                go (yes z) = bare-found z
+                go (no z) = rows-found (omega arith) lo hi
+
+        -- ---- as they stand
+
+        abbrev plain : Taking
+        plain = as_they_stand F t len
+
+        plain-opens : Opens fixed w header F t plain
+        plain-opens = record { is_opened = λ q m at es k e G. refl }
+
+        pub by_bare : p.root_rows ≡ 0 → root_at h F t len w ≡ direct_at F place_of start t len
+        by_bare z = bare-found plain z
+
+        pub by-missing : 0 < p.root_rows → NoneHolds fixed t starts → root_at h F t len w ≡ missed F t len
+        by-missing some X = none-found plain plain-opens some X
+
         pub root-finds : start ≤ t → t < start + (slot_at fixed start).size
             → root_at h F t len w ≡ direct_at F place_of start t len
-        root-finds lo hi = go (ℕ_discrete p.root_rows 0)
-          where
-            go : Dec (p.root_rows ≡ 0) → root_at h F t len w ≡ direct_at F place_of start t len
-            go (yes z) = by_bare z
-            go (no z) = by-found (omega arith) lo hi
+        root-finds lo hi = block-found plain plain-opens lo hi

@@ -6,9 +6,10 @@ use Rattle.table.specs.Table.{fixed}
 use Rattle.planner.specs.Steps.{plan_offsets}
 use Rattle.plan.specs.declared.ManagedPlan.{ManagedPlan}
 use Rattle.plan.specs.Answer.{planned_for}
+use Rattle.plan.specs.Plans.{object_start}
 use Rattle.open_plan.proofs.Planned.{small-placed, stays}
 use Rattle.ids.specs.Written.{managed_id}
-use Rattle.heap_kept.specs.HeapKept.{Call, WriterAccepts, offset_of, object_id, ComesBack, part_of}
+use Rattle.heap_kept.specs.HeapKept.{Call, WriterAccepts, object_id, ComesBack, part_of}
 use Rattle.heap_kept.specs.Kept.{IsIdOf}
 use Rattle.heap_kept.specs.Given.{IsGiven, GivenIdsHold}
 use Rattle.heap_kept.proofs.FromRoot.{planned}
@@ -28,7 +29,7 @@ module _ (c : Call) (p : ManagedPlan) (W : WriterAccepts c p) (xs later : List �
   size-is : slice_index c.sizes i ≡ x
   size-is = ap (λ (l : List ℕ). slice_index l i) E ∙ get_or-append_seam xs x later 0
 
-  offset-is : offset_of w c.sizes i ≡ o
+  offset-is : object_start w c.sizes i ≡ o
   offset-is =
       let (small, placed) = small-placed w G.before G.objects x G.after o G.is_accepted in
       ap (λ (l : List ℕ). slice_index (plan_offsets fixed w l) i) E
@@ -57,6 +58,7 @@ given-ids-hold c p W xs later x o E G =
           let w : ℕ = c.site.offset_size in
           let size : slice_index c.sizes (length xs) ≡ x = size-is c p W xs later x o E G in
           subst (λ (y : ℕ). ComesBack file h w y x part) (offset-is c p W xs later x o E G)
-          (subst (λ (z : ℕ). ComesBack file h w (offset_of w c.sizes (length xs)) z part) size
-          (heap-kept.comes_back c p W file H h T (length xs) (among c p W xs later x o E G) (omega arith) (omega (arith, size, m))));
+          (subst (λ (z : ℕ). ComesBack file h w (object_start w c.sizes (length xs)) z part) size
+          (heap-kept.comes_back c p W file H h T (length xs) (among c p W xs later x o E G) (omega arith)
+          (omega (arith, size, m))));
     }

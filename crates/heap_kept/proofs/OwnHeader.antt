@@ -1,5 +1,6 @@
 -- Every field of a plan's own header fits its width, where lengths have eight bytes.
-use Rattle.std.proofs.Common.{◌≡◌, refl, ap, ℕ, zero, suc, ◌+◌, ◌*◌, ◌^◌, ◌<◌, ◌≤◌, ◌⊎◌, ⊎_elim, Bool, length, slice_index, Ok, arith}
+use Rattle.std.proofs.Common.{◌≡◌, refl, ap, ℕ, zero, suc, ◌+◌, ◌*◌, ◌^◌, ◌<◌, ◌≤◌, ◌⊎◌, ⊎_elim, Bool, length}
+use Rattle.std.proofs.Common.{slice_index, Ok, arith}
 use Rattle.std.proofs.Common.{pow_mono, pow_pos}
 use Rattle.std.proofs.lemmas.Bool.Decides.{nat_tests}
 use Rattle.fields.specs.Undefined.{undefined_address}

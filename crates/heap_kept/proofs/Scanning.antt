@@ -13,7 +13,7 @@ use Rattle.reading.specs.declared.children.HeapChild.{HeapChild}
 use Rattle.fields.specs.declared.place.Place.{Place}
 use Rattle.refusals.specs.declared.FormatError.{FormatError}
 use Rattle.reading.specs.Blocks.{slot_rows, child_in_slots}
-use Rattle.reading.specs.Walk.{walk_from}
+use Rattle.reading.specs.Walk.{Taking, walk_by}
 use Rattle.heap_kept.specs.Walking.{HasBytes, GivesRows}
 use Rattle.heap_kept.proofs.Entries.{entry-taken}
 use Rattle.heap_kept.proofs.Standing.{Stands, in_slot, stands-first, stands-next, block-entry, block-below, onward}
@@ -29,16 +29,16 @@ Passed d s w target r size e at = (rs : List ℕ)
     → child_in_slots d s w target (r ∷ rs) e at ≡ child_in_slots d s w target rs (e + w) (at + size)
 
 -- the entry of an indirect slot that holds the wanted offset leads to the block in it
-pub leads-inside : (t : Table) (w header : ℕ) (d : DoublingTable) (N : ℕ) → GivesRows d t N
+pub leads-inside : (taking : Taking) (t : Table) (w header : ℕ) (d : DoublingTable) (N : ℕ) → GivesRows d t N
     → (F s : List ℕ) (target len depth r at : ℕ) (ss : List ℕ) (pos next e : ℕ) → legal w ≡ true → r < N
     → t.direct_bits < row_bits t r
     → at + 2 ^ row_bits t r < 2 ^ 64 → at ≤ target → target < at + 2 ^ row_bits t r
     → Stands F s w pos e (block t w header (r - t.width_bits) at ss pos next)
-    → Settled d (onward d F w target len depth)
-    (walk_from d F w target len depth
+    → Settled d (onward taking d F w target len depth)
+    (walk_by taking d F w target len depth
     (pos + length (all_slots t w header (r - t.width_bits) at ss pos next).bytes) (r - t.width_bits) at) s w
     target r e at
-leads-inside t w header d N A F s target len depth r at ss pos next e ok l dr fits lo hi H rs =
+leads-inside taking t w header d N A F s target len depth r at ss pos next e ok l dr fits lo hi H rs =
     let j : ℕ = r - t.width_bits in
     let y : ℕ = pos + length (all_slots t w header j at ss pos next).bytes in
     let E : HasBytes s e (le w y) = subst (HasBytes s e) (block-entry t w header j at ss pos next) H.entries in

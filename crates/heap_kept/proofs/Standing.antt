@@ -1,6 +1,7 @@
 -- Written indirect blocks in a file: their slots one by one, their signature, and where their entries are.
-use Rattle.std.proofs.Common.{◌≡◌, ℕ, suc, ◌+◌, ◌-◌, ◌*◌, ◌/◌, ◌^◌, ◌<◌, ◌≤◌, List, [], ◌∷◌, ◌++◌, length, take, drop, true}
-use Rattle.std.proofs.Common.{Option, Result, refl, sym, ap, ◌∙◌, subst, arith, add-zero, length-append}
+use Rattle.std.proofs.Common.{◌≡◌, ℕ, suc, ◌+◌, ◌-◌, ◌*◌, ◌/◌, ◌^◌, ◌<◌, ◌≤◌, List, [], ◌∷◌, ◌++◌, length, take, drop}
+use Rattle.std.proofs.Common.{true}
+use Rattle.std.proofs.Common.{Option, Result, Ok, refl, sym, ap, ◌∙◌, subst, arith, add-zero, length-append}
 use Rattle.std.proofs.lemmas.Grind.{common_steps}
 use Rattle.std.specs.Prelude.{bytes_eq}
 use Rattle.fields.specs.LittleEndian.{le}
@@ -19,7 +20,7 @@ use Rattle.refusals.specs.declared.FormatError.{FormatError}
 use Rattle.refusals.specs.declared.FormatError.TheVariants.{UnexpectedEof}
 use Rattle.numbers.specs.Numbers.{saturated}
 use Rattle.reading.specs.Blocks.{slot_rows, child_in_slots}
-use Rattle.reading.specs.Walk.{direct_at, by_child, walk_from}
+use Rattle.reading.specs.Walk.{Taking, by_child, walk_by}
 use Rattle.heap_kept.specs.Walking.{HasBytes}
 use Rattle.heap_kept.proofs.Holding.{has_left, has_right, has-drop}
 
@@ -118,20 +119,21 @@ block-stands t w header n at ss pos next F H k =
     }
 
 -- what the walk makes of a child, with so many blocks to go
-abbrev pub onward : DoublingTable → List ℕ → ℕ → ℕ → ℕ → ℕ → Result (Option HeapChild) FormatError
+abbrev pub onward : Taking → DoublingTable → List ℕ → ℕ → ℕ → ℕ → ℕ → Result (Option HeapChild) FormatError
     → Result Place FormatError
-onward d F w target len depth c =
-    c >>= (λ child. by_child child (λ p o. direct_at F p o target len)
-    (λ p m o. walk_from d F w target len depth p m o) (UnexpectedEof (saturated (target + len)) (length F)))
+onward taking d F w target len depth c =
+    c >>= (λ child. by_child child taking.object (λ p m o. walk_by taking d F w target len depth p m o)
+    (UnexpectedEof (saturated (target + len)) (length F)))
 
--- at a block in the file the walk scans its entries
-pub walk-scans : (t : Table) (w header : ℕ) (d : DoublingTable) → d.max_heap_size ≡ t.heap_bits
+-- at a block in the file that is opened the walk scans its entries
+pub walk-scans : (taking : Taking) (t : Table) (w header : ℕ) (d : DoublingTable) → d.max_heap_size ≡ t.heap_bits
     → (F : List ℕ) (target len p n at depth : ℕ) (es : List ℕ) → HasBytes F p (indirect_block t w header at es)
-    → walk_from d F w target len (suc depth) p n at
-    ≡ onward d F w target len depth
+    → taking.opened p n at ≡ Ok tt
+    → walk_by taking d F w target len (suc depth) p n at
+    ≡ onward taking d F w target len depth
     (child_in_slots d (drop p F) w target (slot_rows d n 0) (5 + w + offset_bytes t) at)
-unfolding walk_from
-walk-scans t w header d bits F target len p n at depth es H =
+unfolding walk_by
+walk-scans taking t w header d bits F target len p n at depth es H opened =
     let r = H.in_file in
     let l = indirect-length t w header at es in
     let S = sign-has t w header F p at es H in

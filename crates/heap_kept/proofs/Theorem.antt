@@ -15,16 +15,16 @@ use Rattle.table_laws.proofs.Format.{direct-local, fixed-slot}
 use Rattle.planner.specs.Steps.{plan_offsets}
 use Rattle.plan.specs.declared.ManagedPlan.{ManagedPlan}
 use Rattle.plan.proofs.Checking.{all_small}
-use Rattle.plan.specs.Plans.{InPlacedBlock}
+use Rattle.plan.specs.Plans.{InPlacedBlock, object_start}
 use Rattle.plan.proofs.Front.{front-part}
 use Rattle.plan.proofs.Kept.{plan-kept}
 use Rattle.region_directs.proofs.Objects.{objects-at}
-use Rattle.reading.specs.Walk.{direct_at}
+use Rattle.reading.specs.Walk.{Taking, as_they_stand, root_by, direct_at}
 use Rattle.fractal_heap.specs.declared.header.FractalHeapHeader.{FractalHeapHeader}
-use Rattle.fractal_heap.specs.Read.{root_at, managed_at}
+use Rattle.fractal_heap.specs.Read.{root_at, managed_by, managed_at}
 use Rattle.ids.specs.Written.{managed_id, IsManaged}
 use Rattle.heap_kept.proofs.Holding.{has_part}
-use Rattle.heap_kept.specs.HeapKept.{Call, WriterAccepts, HoldsRegion, IsHeaderOf, offset_of, object_id, ComesBack, part_of}
+use Rattle.heap_kept.specs.HeapKept.{Call, WriterAccepts, HoldsRegion, IsHeaderOf, object_id, ComesBack, part_of}
 use Rattle.heap_kept.specs.HeapKept.{ObjectIsManaged, HeapKept, EarlyIdsHold}
 use Rattle.ids.proofs.ReadBack.{decodes}
 use Rattle.heap_kept.proofs.Ids.{id-passes}
@@ -33,14 +33,21 @@ use Rattle.heap_kept.proofs.FromRoot.{bytes-least, block-has, block_inside, root
 
 -- ---- the reader by an ID
 
--- by a written ID the reader looks for what it was written for
-pub by-id : {h : FractalHeapHeader} {c : Call} {p : ManagedPlan} → IsHeaderOf h c p → (F : List ℕ) (w o x : ℕ)
-    → o < 2 ^ 40 → x < 2 ^ 16 → IsManaged x h.max_managed_object_size
-    → managed_at h F (managed_id fixed o x) w ≡ root_at h F o x w
-by-id {h = h} T F w o x lo hi m =
+-- by a written ID the reader looks for what it was written for, however blocks are taken
+pub sought : {h : FractalHeapHeader} {c : Call} {p : ManagedPlan} → IsHeaderOf h c p
+    → (taking : (target len : ℕ) → Taking) (F : List ℕ) (w o x : ℕ) → o < 2 ^ 40 → x < 2 ^ 16
+    → IsManaged x h.max_managed_object_size
+    → managed_by taking h F (managed_id fixed o x) w
+    ≡ root_by (taking o x) h.table F h.root_block_address h.current_rows_in_root_indirect_block o x w
+sought {h = h} T taking F w o x lo hi m =
     let d = decodes o x lo hi h.table h.max_managed_object_size T.fixed_geometry m in
     let z = T.unfiltered in
     grind (arith, common_steps)
+
+pub by-id : {h : FractalHeapHeader} {c : Call} {p : ManagedPlan} → IsHeaderOf h c p → (F : List ℕ) (w o x : ℕ)
+    → o < 2 ^ 40 → x < 2 ^ 16 → IsManaged x h.max_managed_object_size
+    → managed_at h F (managed_id fixed o x) w ≡ root_at h F o x w
+by-id T F w o x lo hi m = sought T (as_they_stand F) F w o x lo hi m
 
 -- len bytes in a block that the file holds
 pub in_block : (F : List ℕ) (a b t len : ℕ) → a + (t - b) ≤ 2 ^ 64 - 1 → a + (t - b) + len ≤ length F
@@ -61,13 +68,13 @@ module _ {c : Call} {p : ManagedPlan} (W : WriterAccepts c p) {F : List ℕ} (H 
   w = c.site.offset_size
 
   abbrev offset : ℕ
-  offset = offset_of w xs i
+  offset = object_start w xs i
 
   abbrev size : ℕ
   size = slice_index xs i
 
   -- the block that it lies in
-  B : InPlacedBlock w xs i
+  pub B : InPlacedBlock w xs i
   B = block_of W i l
 
   abbrev its : ℕ
@@ -76,15 +83,15 @@ module _ {c : Call} {p : ManagedPlan} (W : WriterAccepts c p) {F : List ℕ} (H 
   abbrev place : ℕ
   place = place_of W B.n B.placed
 
-  slot-size : B.size ≡ (slot_at fixed its).size
+  pub slot-size : B.size ≡ (slot_at fixed its).size
   slot-size = (fixed-slot B.slot).size_is
 
-  size_small : size < 2 ^ 16
+  pub size_small : size < 2 ^ 16
   size_small = let z = all_small (max_managed fixed w) 0 xs (went W).0.sizes i l in omega arith
 
   -- where its offset lies in the block, and so not at the block's end
   module _ (u : offset < its + B.size) where
-    offset-small : offset < 2 ^ 40
+    pub offset-small : offset < 2 ^ 40
     offset-small = let z = (direct-local fixed (omega arith) (omega arith) B.slot).inside in omega arith
 
     read : root_at h F offset size w ≡ Ok (record { position = place + (offset - its); length = size })
@@ -97,7 +104,7 @@ module _ {c : Call} {p : ManagedPlan} (W : WriterAccepts c p) {F : List ℕ} (H 
         root-finds W B.n B.placed H T offset size (omega arith) (omega arith)
         ∙ in_block F place its offset size (omega arith) (omega arith)
 
-    bytes : take size (drop (place + (offset - its)) F) ≡ part_of xs js i
+    pub bytes : take size (drop (place + (offset - its)) F) ≡ part_of xs js i
     bytes = go (ℕ_discrete size 0)
       where
         from_block : take size (drop (place + (offset - its)) F)
@@ -158,11 +165,12 @@ part-early xs js k i l m =
     ∙ ap (take (slice_index xs i)) (drop-take s r js)
     ∙ take-take (slice_index xs i) r (drop s js) (omega arith)
 
-module _ {c : Call} {p : ManagedPlan} (W : WriterAccepts c p) (early i : ℕ) (l : i < early) (m : i < length c.sizes) where
+module _ {c : Call} {p : ManagedPlan} (W : WriterAccepts c p) (early i : ℕ) (l : i < early)
+    (m : i < length c.sizes) where
   size-stays : slice_index (take early c.sizes) i ≡ slice_index c.sizes i
   size-stays = get_or-take early c.sizes i 0 l
 
-  offset-stays : offset_of c.site.offset_size (take early c.sizes) i ≡ offset_of c.site.offset_size c.sizes i
+  offset-stays : object_start c.site.offset_size (take early c.sizes) i ≡ object_start c.site.offset_size c.sizes i
   offset-stays =
       let w : ℕ = c.site.offset_size in
       let k = length (take early c.sizes) in
@@ -182,7 +190,8 @@ early-id-holds c p W file H h T early i l m s =
     let xs : List ℕ = c.sizes in
     record {
       id_stays = early-id-stays W early i l m;
-      comes_back = λ managed. subst (ComesBack file h w (offset_of w (take early xs) i) (slice_index (take early xs) i))
+      comes_back = λ managed. subst
+          (ComesBack file h w (object_start w (take early xs) i) (slice_index (take early xs) i))
           (sym (part-early xs c.objects early i l m))
           (rw (offset-stays W early i l m, size-stays W early i l m) (nonempty-back W H T m s managed));
     }

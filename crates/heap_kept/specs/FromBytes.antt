@@ -9,7 +9,7 @@ use Rattle.fractal_heap.specs.Writing.{header_length, header_checked}
 use Rattle.fractal_heap.specs.Read.{object_by}
 use Rattle.heap_kept.specs.HeapKept.{Call, WriterAccepts, HoldsRegion, IsHeaderOf, ObjectIsManaged}
 use Rattle.heap_kept.specs.HeapKept.{object_id, part_of}
-use Rattle.heap_kept.specs.Kept.{ForKept}
+use Rattle.heap_kept.specs.Kept.{ForKept, ForKeptChecked}
 
 -- the header writer accepts this header at these widths, for some number of lent bytes, and what it
 -- writes stands at this place of the file; its other bytes may be anything, and so may what the
@@ -50,7 +50,17 @@ WrittenHeapsAreRead = (call : Call) (plan : ManagedPlan) → WriterAccepts call 
 -- whatever header of ours the file holds at this place, and whatever heap of ours with that header,
 -- and of whatever object of it, managed under the header, this is the ID, given early or at the
 -- end: P holds of that object's bytes
-abbrev pub ForWritten : List ℕ → ℕ → ℕ → ℕ → List ℕ → (List ℕ → Type 0) → Type 0
+abbrev pub ForWritten : (file : List ℕ) (at offset_size length_size : ℕ) (id : List ℕ)
+    (P : (bytes : List ℕ) → Type 0) → Type 0
 ForWritten file at offset_size length_size id P = (header : FractalHeapHeader)
     → HoldsHeader file at header offset_size length_size
     → ForKept header file offset_size id P
+
+-- the same where every block is tested, and the heap's blocks were written with this address of
+-- their header
+abbrev pub ForWrittenChecked : (file : List ℕ)
+    (at offset_size length_size heap_header_address : ℕ) (id : List ℕ)
+    (P : (bytes : List ℕ) → Type 0) → Type 0
+ForWrittenChecked file at offset_size length_size heap_header_address id P =
+    (header : FractalHeapHeader) → HoldsHeader file at header offset_size length_size
+    → ForKeptChecked header heap_header_address file offset_size id P

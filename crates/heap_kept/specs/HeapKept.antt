@@ -3,10 +3,9 @@ use Rattle.std.specs.Prelude.{ℕ, ◌+◌, ◌≤◌, ◌<◌, ◌≡◌, List,
 use Rattle.refusals.specs.declared.FormatError.TheVariants.{UnexpectedEof, HeapIdTooLarge}
 use Rattle.table.specs.Table.{fixed, heap_space}
 use Rattle.numbers.specs.Sums.{sum}
-use Rattle.planner.specs.Steps.{plan_offsets}
 use Rattle.plan.specs.declared.ManagedPlan.{ManagedPlan}
 use Rattle.plan.specs.Answer.{planned_for}
-use Rattle.plan.specs.Plans.{PlanKept}
+use Rattle.plan.specs.Plans.{object_start, PlanKept}
 use Rattle.fractal_heap.specs.declared.header.FractalHeapHeader.{FractalHeapHeader}
 use Rattle.fractal_heap.specs.Read.{managed_at}
 use Rattle.region_write.specs.Region.{region}
@@ -27,7 +26,7 @@ pub record Call : Type 0 where
   pub region_bytes : ℕ
 
 -- how much it is lent
-abbrev pub lent_by : Call → Lent
+abbrev pub lent_by : (call : Call) → Lent
 lent_by call = record {
   offset_places = call.offset_places;
   block_places = call.block_places;
@@ -54,23 +53,19 @@ pub record IsHeaderOf (header : FractalHeapHeader) (call : Call) (plan : Managed
   pub root_rows : header.current_rows_in_root_indirect_block ≡ plan.root_rows
   pub fixed_geometry : HasTable header.table fixed
 
--- the heap offset of the i-th object
-abbrev pub offset_of : ℕ → List ℕ → ℕ → ℕ
-offset_of offset_size sizes i = slice_index (plan_offsets fixed offset_size sizes) i
-
 -- the ID that the i-th object is given, by its heap offset and its size: its eight bytes alone,
 -- since the reader takes a ninth into the length where the header's sizes need three bytes
-abbrev pub object_id : ℕ → List ℕ → ℕ → List ℕ
+abbrev pub object_id : (offset_size : ℕ) (sizes : List ℕ) (i : ℕ) → List ℕ
 object_id offset_size sizes i =
-    managed_id fixed (offset_of offset_size sizes i) (slice_index sizes i)
+    managed_id fixed (object_start offset_size sizes i) (slice_index sizes i)
 
 -- the i-th object's part of the joined bytes, which begins at the sum of the sizes before it
-abbrev pub part_of : List ℕ → List ℕ → ℕ → List ℕ
+abbrev pub part_of : (sizes objects : List ℕ) (i : ℕ) → List ℕ
 part_of sizes objects i = take (slice_index sizes i) (drop (sum (take i sizes)) objects)
 
 -- the ID writer accepts offset and size in every lent slice of at least eight bytes; by the ID that
--- it writes `read_managed_object` accepts, with the size as length, and from the answered position
--- on the file has these bytes
+-- it writes `read_managed_object_unchecked` accepts, with the size as length, and from the answered
+-- position on the file has these bytes
 pub record ComesBack (file : List ℕ) (header : FractalHeapHeader)
     (offset_size offset size : ℕ) (bytes : List ℕ) : Type 0 where
   pub id_accepted : (lent : ℕ) → 8 ≤ lent → id_checked fixed offset size lent ≡ Ok tt
@@ -81,16 +76,17 @@ pub record ComesBack (file : List ℕ) (header : FractalHeapHeader)
   pub bytes_there : take size (drop position file) ≡ bytes
 
 -- the i-th object of a call comes back
-abbrev pub ObjectComesBack : List ℕ → FractalHeapHeader → Call → ℕ → Type 0
+abbrev pub ObjectComesBack : (file : List ℕ) (header : FractalHeapHeader) (call : Call) (i : ℕ)
+    → Type 0
 ObjectComesBack file header call i =
     ComesBack file header call.site.offset_size
-    (offset_of call.site.offset_size call.sizes i)
+    (object_start call.site.offset_size call.sizes i)
     (slice_index call.sizes i)
     (part_of call.sizes call.objects i)
 
 -- the i-th object of a call is managed under the header: it is no longer than the header's largest
 -- managed object
-abbrev pub ObjectIsManaged : FractalHeapHeader → Call → ℕ → Type 0
+abbrev pub ObjectIsManaged : (header : FractalHeapHeader) (call : Call) (i : ℕ) → Type 0
 ObjectIsManaged header call i = IsManaged (slice_index call.sizes i) header.max_managed_object_size
 
 -- what planning accepts is kept apart, and by its ID every nonempty object of what the writer
@@ -107,7 +103,7 @@ pub record HeapKept : Type 0 where
       → ObjectIsManaged header call i → ObjectComesBack file header call i
 
 -- the call for its first objects alone, `early` of them
-abbrev pub first_of : ℕ → Call → Call
+abbrev pub first_of : (early : ℕ) (call : Call) → Call
 first_of early call = record call {
   sizes = take early call.sizes;
   objects = take (sum (take early call.sizes)) call.objects;
@@ -163,4 +159,4 @@ EmptyObjectsAnswered = (call : Call) (plan : ManagedPlan) → WriterAccepts call
     → (header : FractalHeapHeader) → IsHeaderOf header call plan
     → (i : ℕ) → i < length call.sizes → slice_index call.sizes i ≡ 0
     → EmptyAnswered file header call.site.offset_size
-    (offset_of call.site.offset_size call.sizes i) plan.root_rows
+    (object_start call.site.offset_size call.sizes i) plan.root_rows

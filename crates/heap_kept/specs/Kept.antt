@@ -1,11 +1,12 @@
 -- What an ID of ours promises of a file that holds a heap of ours.
 use Rattle.std.specs.Prelude.{ℕ, ◌≡◌, ◌≤◌, ◌<◌, List, ◌++◌, length, take, drop, slice_index, nat_le}
-use Rattle.std.specs.Prelude.{Result, Ok}
+use Rattle.std.specs.Prelude.{Result, Ok, true}
 use Rattle.refusals.specs.Steps.{◌>>=◌, required}
 use Rattle.refusals.specs.declared.FormatError.{FormatError}
 use Rattle.refusals.specs.declared.FormatError.TheVariants.{SliceTooShort}
 use Rattle.plan.specs.declared.ManagedPlan.{ManagedPlan}
 use Rattle.fields.specs.declared.place.Place.{Place}
+use Rattle.checked_reading.specs.Blocks.{has_checksum}
 use Rattle.fractal_heap.specs.declared.header.FractalHeapHeader.{FractalHeapHeader}
 use Rattle.heap_kept.specs.HeapKept.{Call, WriterAccepts, HoldsRegion, IsHeaderOf, ObjectIsManaged}
 use Rattle.heap_kept.specs.HeapKept.{object_id, part_of}
@@ -29,9 +30,20 @@ pub record IsIdOf (id : List ℕ) (call : Call) (early i : ℕ) : Type 0 where
 
 -- whatever heap of ours the file holds, and of whatever object of it, managed under the header,
 -- this is the ID: P holds of that object's bytes
-abbrev pub ForKept : FractalHeapHeader → List ℕ → ℕ → List ℕ → (List ℕ → Type 0) → Type 0
+abbrev pub ForKept : (header : FractalHeapHeader) (file : List ℕ) (offset_size : ℕ) (id : List ℕ)
+    (P : (bytes : List ℕ) → Type 0) → Type 0
 ForKept header file offset_size id P = (call : Call) (plan : ManagedPlan) (early i : ℕ)
     → HoldsHeap header file offset_size call plan → IsIdOf id call early i
+    → ObjectIsManaged header call i → P (part_of call.sizes call.objects i)
+
+-- the same where every block is tested: the header's flags say that direct blocks have a checksum,
+-- and its address is the one that the heap's blocks were written with
+abbrev pub ForKeptChecked : (header : FractalHeapHeader) (heap_header_address : ℕ)
+    (file : List ℕ) (offset_size : ℕ) (id : List ℕ) (P : (bytes : List ℕ) → Type 0) → Type 0
+ForKeptChecked header heap_header_address file offset_size id P = has_checksum header.flags ≡ true
+    → (call : Call) (plan : ManagedPlan) (early i : ℕ)
+    → HoldsHeap header file offset_size call plan
+    → heap_header_address ≡ call.site.heap_header_address → IsIdOf id call early i
     → ObjectIsManaged header call i → P (part_of call.sizes call.objects i)
 
 -- `found` is a place where the file has these bytes, and their number
@@ -47,7 +59,7 @@ pub record IsFetched (result : Result ℕ FormatError) (old new bytes : List ℕ
 
 -- what `fetch` answers, where this was found and so many bytes are lent: how many were copied, or a
 -- refusal
-abbrev pub fetched : Result Place FormatError → ℕ → Result ℕ FormatError
+abbrev pub fetched : (found : Result Place FormatError) (lent : ℕ) → Result ℕ FormatError
 fetched found lent = do
   place ← found
   _ ← required (nat_le place.length lent) (SliceTooShort place.length lent)

@@ -17,7 +17,7 @@ use Rattle.heap_kept.specs.FromBytes.{HoldsHeader}
 -- eight bytes, no filters, checksums in the direct blocks (the flag of value 2), no huge and no
 -- tiny objects, and so no index of huge ones, no manager of free space, the plan's totals and the
 -- fixed geometry. With how many rows the root began no reader heeds: with one
-abbrev pub planned_header : Site → ManagedPlan → ℕ → FractalHeapHeader
+abbrev pub planned_header : (site : Site) (plan : ManagedPlan) (objects : ℕ) → FractalHeapHeader
 planned_header site plan objects = record {
   heap_id_length = 8;
   io_filter_encoded_length = 0;
@@ -50,7 +50,7 @@ planned_header site plan objects = record {
 }
 
 -- that of a call's plan
-abbrev pub own_header : Call → ManagedPlan → FractalHeapHeader
+abbrev pub own_header : (call : Call) (plan : ManagedPlan) → FractalHeapHeader
 own_header call plan = planned_header call.site plan (length call.sizes)
 
 -- it is a header of the plan under which every object is managed, and at a length size of eight

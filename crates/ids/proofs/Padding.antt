@@ -1,6 +1,7 @@
 -- What stands behind the fields of an ID is not looked at.
 use Rattle.std.proofs.Common.{◌≡◌, refl, sym, ap, ◌∙◌, ℕ, ◌+◌, ◌-◌, ◌*◌, ◌^◌, ◌/◌, ◌≤◌, ◌<◌, List, ◌++◌, arith}
-use Rattle.std.proofs.Common.{length, drop, slice_index, nat_lt, true, ◌⊎◌, inl, inr, pow-add, length-drop, length-append, Result}
+use Rattle.std.proofs.Common.{length, drop, slice_index, nat_lt, true, ◌⊎◌, inl, inr, pow-add, length-drop}
+use Rattle.std.proofs.Common.{length-append, Result}
 use Rattle.std.proofs.lemmas.Bool.{cases_lt, lt-ltb}
 use Rattle.std.proofs.lemmas.Nat.{pow_pos}
 use Rattle.std.proofs.Math.Nat.{add-mul-mod_self_right, add-mul-div_right}
@@ -59,7 +60,8 @@ module _ (fields padding : List ℕ) (n : ℕ) (there : 1 + n ≤ length fields)
 padded-alike : (table : DoublingTable) (largest : ℕ) (fields padding : List ℕ) → HasFields table largest fields
     → decoded_id table largest (fields ++ padding) ≡ decoded_id table largest fields
 padded-alike table largest fields padding h =
-    let first : slice_index (fields ++ padding) 0 ≡ slice_index fields 0 = get_or-append fields padding 0 0 (omega arith) in
+    let first : slice_index (fields ++ padding) 0 ≡ slice_index fields 0 =
+    get_or-append fields padding 0 0 (omega arith) in
     let some : nat_lt 0 (length fields) ≡ true = lt-ltb 0 (length fields) (omega arith) in
     let more : nat_lt 0 (length (fields ++ padding)) ≡ true =
     lt-ltb 0 (length (fields ++ padding)) (rw length-append (omega arith)) in

@@ -3,7 +3,7 @@
 -- docs/RULES.md (docs/DIFFERENCES.md).
 use Rattle.std.specs.Prelude.{ℕ, ◌+◌, ◌*◌, ◌^◌, ◌&&◌, nat_le, nat_lt, Result}
 use Rattle.refusals.specs.Steps.{◌>>=◌, required}
-use Rattle.refusals.specs.Refusals.{answer, report_of}
+use Rattle.refusals.specs.Refusals.{test_report}
 use Rattle.refusals.specs.declared.answer.Answer.{Answer}
 use Rattle.refusals.specs.declared.FormatError.{FormatError}
 use Rattle.refusals.specs.declared.FormatError.TheVariants.{SliceTooShort, HeapIdTooLarge}
@@ -13,11 +13,11 @@ use Rattle.ids.specs.Written.{length_bytes}
 
 -- how many bytes an ID has: Version and Type in one, Offset in as many as the heap's bits need,
 -- Length
-abbrev pub id_length : Table → ℕ
+abbrev pub id_length : (table : Table) → ℕ
 id_length table = 1 + offset_bytes table + length_bytes
 
 -- an ID into so many lent bytes: 16 where offset or length is too large for it, then 13
-abbrev pub id_checked : Table → (offset size lent : ℕ) → Result (Unit {0}) FormatError
+abbrev pub id_checked : (table : Table) (offset size lent : ℕ) → Result (Unit {0}) FormatError
 id_checked table offset size lent = do
   let fits = nat_lt offset (heap_space table) && nat_lt size (2 ^ (8 * length_bytes))
   _ ← required fits (HeapIdTooLarge offset size)
@@ -26,4 +26,4 @@ id_checked table offset size lent = do
 -- what C is told of it: 0 and two zeros, or the refusal
 abbrev pub written_id_report : (offset size lent : ℕ) → Answer
 written_id_report offset size lent =
-    report_of (λ _. answer 0 0 0) (id_checked fixed offset size lent)
+    test_report (id_checked fixed offset size lent)

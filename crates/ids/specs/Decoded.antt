@@ -30,7 +30,7 @@ split_id heap_bits length_bytes number = record {
 
 -- the managed ID in a heap with this table and this Maximum Size of Managed Objects: the number is
 -- that of the first eight bytes after byte 0, or of as many as there are
-abbrev pub decoded_id : DoublingTable → (max_managed_object_size : ℕ) → List ℕ
+abbrev pub decoded_id : (table : DoublingTable) (max_managed_object_size : ℕ) (id : List ℕ)
     → Result ManagedId FormatError
 decoded_id table max_managed_object_size id = do
   _ ← required (nat_lt 0 (length id)) (UnexpectedEof 1 0)
@@ -39,19 +39,19 @@ decoded_id table max_managed_object_size id = do
   Ok (split_id table.max_heap_size (length_bytes_in table max_managed_object_size) (le_at id 1 8))
 
 -- heap offset and length
-abbrev pub id_report : ManagedId → Answer
+abbrev pub id_report : (id : ManagedId) → Answer
 id_report id = answer 0 id.offset id.length
 
 -- an ID has all bits of Version and Type, Offset and Length, as far as these lie in the first eight
 -- bytes after byte 0
-abbrev pub HasFields : DoublingTable → (max_managed_object_size : ℕ) → List ℕ → Type 0
+abbrev pub HasFields : (table : DoublingTable) (max_managed_object_size : ℕ) (id : List ℕ) → Type 0
 HasFields table max_managed_object_size id =
     8 + min 64 (table.max_heap_size + 8 * length_bytes_in table max_managed_object_size)
     ≤ 8 * length id
 
 -- what an ID is answered that has any bytes behind these fields is what it is answered without them
-abbrev pub IgnoresPadding : DoublingTable → (max_managed_object_size : ℕ) → List ℕ
-    → Result ManagedId FormatError → Type 0
+abbrev pub IgnoresPadding : (table : DoublingTable) (max_managed_object_size : ℕ) (id : List ℕ)
+    (answered : Result ManagedId FormatError) → Type 0
 IgnoresPadding table max_managed_object_size id answered = (fields padding : List ℕ)
     → id ≡ fields ++ padding → HasFields table max_managed_object_size fields
     → answered ≡ decoded_id table max_managed_object_size fields

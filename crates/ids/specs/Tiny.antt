@@ -9,24 +9,24 @@ use Rattle.refusals.specs.Steps.{◌>>=◌}
 use Rattle.refusals.specs.declared.FormatError.{FormatError}
 use Rattle.fields.specs.declared.place.Place.{Place}
 
--- len bytes at start of the ID s
-abbrev pub tiny_in : List ℕ → ℕ → ℕ → Result Place FormatError
-tiny_in s start len = do
-  _ ← len_ensured s start len
+-- len bytes at start of the ID
+abbrev pub tiny_in : (id : List ℕ) (start len : ℕ) → Result Place FormatError
+tiny_in id start len = do
+  _ ← len_ensured id start len
   Ok (record { position = start; length = len })
 
 -- a length of 12 bits in two bytes; one is added
-abbrev pub extended_at : List ℕ → Result Place FormatError
-extended_at s = do
-  _ ← len_ensured s 0 2
-  tiny_in s 2 (slice_index s 0 % 16 * 256 + slice_index s 1 + 1)
+abbrev pub extended_at : (id : List ℕ) → Result Place FormatError
+extended_at id = do
+  _ ← len_ensured id 0 2
+  tiny_in id 2 (slice_index id 0 % 16 * 256 + slice_index id 1 + 1)
 
 -- a length of 4 bits in one byte; one is added
-abbrev pub normal_at : List ℕ → Result Place FormatError
-normal_at s = do
-  _ ← len_ensured s 0 1
-  tiny_in s 1 (slice_index s 0 % 16 + 1)
+abbrev pub normal_at : (id : List ℕ) → Result Place FormatError
+normal_at id = do
+  _ ← len_ensured id 0 1
+  tiny_in id 1 (slice_index id 0 % 16 + 1)
 
--- the tiny object in the ID s, where Heap ID Length is l: extended above 17, in the text above 18
-abbrev pub tiny_at : ℕ → List ℕ → Result Place FormatError
-tiny_at l s = if nat_lt 17 l then extended_at s else normal_at s
+-- the tiny object in an ID: extended where Heap ID Length is above 17, in the text above 18
+abbrev pub tiny_at : (heap_id_length : ℕ) (id : List ℕ) → Result Place FormatError
+tiny_at heap_id_length id = if nat_lt 17 heap_id_length then extended_at id else normal_at id

@@ -13,7 +13,7 @@ abbrev pub length_bytes : ℕ
 length_bytes = 2
 
 -- the bytes of an ID: Offset in as many as the heap's bits need, then Length
-abbrev pub managed_id : Table → (offset size : ℕ) → List ℕ
+abbrev pub managed_id : (table : Table) (offset size : ℕ) → List ℕ
 managed_id table offset size = le 1 0 ++ (le (offset_bytes table) offset ++ le length_bytes size)
 
 -- a header's numbers are those of the table

@@ -103,9 +103,9 @@ fn number_behind_type(id: &[u8]) -> u64
 }
 
 /// The heap offset and the length in a managed ID, by three numbers of the heap's header: the bits of a heap offset and
-/// the largest direct block, both in the table, and the largest size of a managed object. The offset is in the low bits of
-/// the number in the first eight bytes after byte 0, the length in the bits behind them, in as many bytes as the smaller
-/// of the two sizes needs. What an ID has behind these is not looked at, and of what it lacks the bits are 0.
+/// the largest direct block, both in the table, and the largest size of a managed object. The offset is in the low bits
+/// of the number in the first eight bytes after byte 0, the length in the bits behind them, in as many bytes as the
+/// smaller of the two sizes needs. What an ID has behind these is not looked at, and of what it lacks the bits are 0.
 ///
 /// An empty ID gives 1 with (1, 0), one of another type 6 with the type and 0.
 pub fn decode_managed_id(

@@ -32,7 +32,6 @@ first_held (suc counts) bytes x h l = elim (cases_lt x (2 ^ (8 * bytes))) [
     above fewer m many b = grind arith
 
 pub bytes-fewest : BytesAreFewest
-unfolding bytes_needed
 bytes-fewest x =
     let all : 0 + x ≡ x = omega arith in
     first_held x 0 x (rw all (held x)) (λ fewer m. omega arith)

@@ -1,4 +1,5 @@
--- 64-bit numbers: what stops at the largest one, and a number's size in bits; how many bytes any number needs.
+-- 64-bit numbers: what stops at the largest one, and a number's size in bits; how many bytes any
+-- number needs.
 use Rattle.std.specs.Prelude.{ℕ, zero, suc, ◌-◌, ◌*◌, ◌^◌, ◌≤◌, ◌<◌, min, true, false, nat_lt}
 use Rattle.std.specs.Int.Count.{count_leading_zeros}
 
@@ -22,7 +23,7 @@ bytes_from (suc counts) bytes x =
     elim (nat_lt x (2 ^ (8 * bytes))) [ true ↦ bytes | false ↦ bytes_from counts (suc bytes) x ]
 
 -- how many bytes a number needs: the first count of bytes, from 0 on, that holds it; x bytes hold x
-unfoldable pub bytes_needed : ℕ → ℕ
+abbrev pub bytes_needed : ℕ → ℕ
 bytes_needed x = bytes_from x 0 x
 
 -- so many bytes hold x, and no fewer do: the law of `bytes_needed`

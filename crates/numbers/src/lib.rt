@@ -1,5 +1,5 @@
-//! Products and shifts of 64-bit numbers that stop at 2^64 - 1, a number's exponent, and how many bytes it needs. Public
-//! for the crates above alone.
+//! Products and shifts of 64-bit numbers that stop at 2^64 - 1, a number's exponent, and how many
+//! bytes it needs. Public for the crates above alone.
 #![tactic(auto)]
 
 ghost use Rattle.std.specs.Prelude.{◌≡◌, ◌*◌, ◌^◌, ◌≤◌, ◌<◌};
@@ -24,7 +24,8 @@ pub fn saturating_mul(size: u64, width: u16) -> u64
     }
 }
 
-/// The product with 2^bits, or 2^64 - 1 where it is larger. The caller has tested that it is a shift.
+/// The product with 2^bits, or 2^64 - 1 where it is larger. The caller has tested that it is a
+/// shift.
 #[tactic(auto, using(crate::proofs::Saturating::shifts))]
 pub fn saturating_shl(size: u64, bits: u64) -> u64
     requires { bits < 64 }

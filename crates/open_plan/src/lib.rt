@@ -1,5 +1,5 @@
-//! A plan that stays open: it is advanced in place by one size at a time, and each object has its heap offset at once,
-//! so that whoever loads objects one after another need not keep their sizes.
+//! A plan that stays open: it is advanced in place by one size at a time, and each object has its
+//! heap offset at once, so that whoever loads objects one after another need not keep their sizes.
 #![tactic(auto)]
 
 ghost use Rattle.std.specs.Prelude.{◌≡◌, ℕ, ◌+◌, ◌≤◌, ◌↔◌, true, max, List, [], length, Ok, Err};
@@ -17,11 +17,11 @@ use planner::Planner;
 use refusals::FormatError;
 use table::block_sizes::max_managed_object;
 
-/// A plan that objects are added to one by one. As opening and additions leave it, it is the plan of the accepted
-/// sizes, in their order; its fields are public for C alone.
+/// A plan that objects are added to one by one. As opening and additions leave it, it is the plan
+/// of the accepted sizes, in their order; its fields are public for C alone.
 //
-// `planner` is the plan under way; its block's end stands for a cursor. The count is what the planner does not keep: it
-// is the index by which a refusal names the object.
+// `planner` is the plan under way; its block's end stands for a cursor. The count is what the
+// planner does not keep: it is the index by which a refusal names the object.
 #[derive(Drop)]
 #[repr(C)]
 pub struct OpenPlan {
@@ -32,7 +32,8 @@ pub struct OpenPlan {
 }
 
 impl OpenPlan {
-    /// The plan of no objects, for addresses of `offset_size` bytes; a size that is none is refused (2).
+    /// The plan of no objects, for addresses of `offset_size` bytes; a size that is none is refused
+    /// (2).
     pub fn new(offset_size: u8) -> Result<OpenPlan, FormatError>
         ensures legal { IsOk result ↔ (legal offset_size ≡ true) }
         ensures refused { OnErr result (result ≡ Err (FormatError.InvalidOffsetSize offset_size)) }
@@ -55,9 +56,9 @@ impl OpenPlan {
         }
     }
 
-    /// Adds an object of `size` bytes: its heap offset. A size above the largest gives 11, one that no slot is left for
-    /// gives 12, both with the number of accepted objects as the object's index; then nothing changes, and a smaller
-    /// size may follow.
+    /// Adds an object of `size` bytes: its heap offset. A size above the largest gives 11, one that
+    /// no slot is left for gives 12, both with the number of accepted objects as the object's
+    /// index; then nothing changes, and a smaller size may follow.
     pub fn add(&mut self, size: u64) -> Result<u64, FormatError>
         ensures accepted { IfOk result (λ offset.
             addition self.old.planner.offset_size self.old.planner.state self.old.objects size
@@ -109,8 +110,8 @@ impl OpenPlan {
     }
 }
 
-/// After any additions, refused ones between them, the plan and the heap offsets that were given are those of planning
-/// the accepted sizes in one list.
+/// After any additions, refused ones between them, the plan and the heap offsets that were given
+/// are those of planning the accepted sizes in one list.
 pub fn additions_are_planned()
     ensures { AdditionsPlanned }
 {}

@@ -12,16 +12,16 @@ abbrev pub planned_totals : (totals : List ℕ) (answer : Result ManagedPlan For
 planned_totals totals answer = put totals 0 (planned_values answer)
 
 -- how many numbers a plan has
-abbrev pub number_count : ℕ
-number_count = 8
+abbrev pub total_count : ℕ
+total_count = 8
 
 -- a list of totals that is too short for them gives 13 before all else
 abbrev pub plan_number : (totals : List ℕ) (answer : Result ManagedPlan FormatError) → ℕ
 plan_number totals answer =
-    if nat_lt (length totals) number_count
-    then (refusal (SliceTooShort number_count (length totals))).number
+    if nat_lt (length totals) total_count
+    then (refusal (SliceTooShort total_count (length totals))).number
     else planned_number answer
 
 abbrev pub plan_totals : (totals : List ℕ) (answer : Result ManagedPlan FormatError) → List ℕ
 plan_totals totals answer =
-    if nat_lt (length totals) number_count then totals else planned_totals totals answer
+    if nat_lt (length totals) total_count then totals else planned_totals totals answer

@@ -37,8 +37,9 @@ pub fn check_places(needed: usize, lent: usize) -> Result<(), FormatError>
     Ok(())
 }
 
-/// The tests of lists of `offsets` and `blocks` places and of the sizes: 13 for the offsets, 13 for the blocks, 11, in
-/// this order. Without objects there is still one block, so the list of blocks has one place at least.
+/// The tests of lists of `offsets` and `blocks` places and of the sizes: 13 for the offsets, 13 for
+/// the blocks, 11, in this order. Without objects there is still one block, so the list of blocks
+/// has one place at least.
 #[tactic(auto, using(fields::proofs::Widths::legal_width))]
 pub fn check_input(
     sizes: &[u64],

@@ -26,9 +26,11 @@ pub fn close(state: State, offset_size: u8) -> State
     state
 }
 
-/// The fewest root rows that reach `end`, the heap offset at which the last block ends; 0 where the root is that block.
+/// The fewest root rows that reach `end`, the heap offset at which the last block ends; 0 where the
+/// root is that block.
 //
-// The end alone tells: only the block of the starting size at 0 ends there (`RootFits` in specs/Plans.antt).
+// The end alone tells: only the block of the starting size at 0 ends there (`RootFits` in
+// specs/Plans.antt).
 pub fn root_rows(end: u64) -> u64
     ensures { result ≡ rows_of_root fixed end }
 {

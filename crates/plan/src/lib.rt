@@ -1,5 +1,6 @@
-//! Planning the managed blocks of a fractal heap: where each object goes, which blocks are placed, and what the heap
-//! header says of them. Functions with a `requires` serve our own crates and are no part of the interface.
+//! Planning the managed blocks of a fractal heap: where each object goes, which blocks are placed,
+//! and what the heap header says of them. Functions with a `requires` serve our own crates and are
+//! no part of the interface.
 #![tactic(auto)]
 
 pub mod checks;
@@ -23,14 +24,14 @@ use crate::ending::{close, root_rows};
 use fields::{Width, offset_width};
 use planner::{Counted, Planner, State, Written};
 use refusals::FormatError;
-pub use report::NUMBER_COUNT;
+pub use report::TOTAL_COUNT;
 use table::block_sizes::{direct_block_header, indirect_block_size};
 use table::capacities::{capacity_sum, rows_capacity};
 use table::{STARTING_BLOCK_SIZE, row_offset};
 
-/// What planning says of a heap, in bytes but for two counts, by the original's names; block count and root place are
-/// ours. The last four are fields of the heap header (HDF5 File Format Specification 3.0, III.G, 'Fractal Heap
-/// Header').
+/// What planning says of a heap, in bytes but for two counts, by the original's names; block count
+/// and root place are ours. The last four are fields of the heap header (HDF5 File Format
+/// Specification 3.0, III.G, 'Fractal Heap Header').
 #[derive(Clone, Copy, Debug, PartialEq, Eq)]
 pub struct ManagedPlan {
     /// How many direct blocks are placed.
@@ -80,8 +81,8 @@ fn totals(state: State, offset_size: u8) -> ManagedPlan
     }
 }
 
-/// The plan for lists of `offsets` and `blocks` places, or 13, 11 or 12, in this order; nothing is written, so that a
-/// refusal leaves the lists as they were. The writer calls it too.
+/// The plan for lists of `offsets` and `blocks` places, or 13, 11 or 12, in this order; nothing is
+/// written, so that a refusal leaves the lists as they were. The writer calls it too.
 #[tactic(auto, unfolding(crate::specs::Answer::planned_for))]
 pub fn planned_for(
     sizes: &[u64],
@@ -99,8 +100,8 @@ pub fn planned_for(
     }
 }
 
-/// Writes both lists of an accepted plan: the objects' heap offsets, and the blocks' starts. Without objects one block
-/// stands at 0.
+/// Writes both lists of an accepted plan: the objects' heap offsets, and the blocks' starts.
+/// Without objects one block stands at 0.
 pub fn write_lists(sizes: &[u64], offsets: &mut [u64], blocks: &mut [u64], offset_size: u8)
     requires small { Small (max_managed fixed offset_size) sizes.now }
     requires offsets_room { length sizes.now ≤ length offsets.old }
@@ -132,11 +133,12 @@ impl ManagedPlan {
         )
     }
 
-    /// Lays out objects of these sizes, in bytes, for addresses of `offset_size` bytes. Each object's heap offset and
-    /// each placed block's start go into the lent lists. A refusal, 2, 13 for `offsets`, 13 for `blocks`, 11 or 12,
-    /// the first that applies, leaves both as they were.
+    /// Lays out objects of these sizes, in bytes, for addresses of `offset_size` bytes. Each
+    /// object's heap offset and each placed block's start go into the lent lists. A refusal, 2, 13
+    /// for `offsets`, 13 for `blocks`, 11 or 12, the first that applies, leaves both as they were.
     //
-    // The sizes are planned twice: once without touching a list, which gives 12 or the totals, and then to write them.
+    // The sizes are planned twice: once without touching a list, which gives 12 or the totals, and
+    // then to write them.
     #[tactic(auto, unfolding(crate::specs::Answer::planned_for))]
     pub fn new(
         sizes: &[u64],

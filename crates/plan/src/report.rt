@@ -7,19 +7,19 @@ use crate::ManagedPlan;
 use refusals::{FormatError, Reported};
 
 /// How many numbers a plan has.
-pub const NUMBER_COUNT: usize = 8;
+pub const TOTAL_COUNT: usize = 8;
 
-/// The answer's number, 0 or the refusal's. The plan's numbers in the order of its fields, or the refusal's two
-/// values, go into the first places of `totals`.
+/// The answer's number, 0 or the refusal's. The plan's numbers in the order of its fields, or the
+/// refusal's two values, go into the first places of `totals`.
 #[tactic(auto, unfolding(fields::specs::LittleEndian::put))]
 pub fn put_planned(totals: &mut [u64], answer: Result<ManagedPlan, FormatError>) -> u32
-    requires { NUMBER_COUNT ≤ length totals.old }
+    requires { TOTAL_COUNT ≤ length totals.old }
     ensures number { result ≡ planned_number answer }
     ensures totals_after { totals.new ≡ planned_totals totals.old answer }
 {
     match answer {
         Ok(plan) => {
-            totals[..NUMBER_COUNT].copy_from_slice(&[
+            totals[..TOTAL_COUNT].copy_from_slice(&[
                 plan.block_count,
                 plan.region_size,
                 plan.root_rows,

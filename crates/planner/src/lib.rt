@@ -1,5 +1,5 @@
-//! A plan under way: where it stands, and the objects that are added to it. Functions with a `requires` serve our own
-//! crates and are no part of the interface.
+//! A plan under way: where it stands, and the objects that are added to it. Functions with a
+//! `requires` serve our own crates and are no part of the interface.
 #![tactic(auto)]
 
 pub mod search;
@@ -21,12 +21,12 @@ use table::MAX_DIRECT_BLOCK_SIZE;
 use table::block_sizes::direct_block_header;
 use table::slot_places::entered_blocks;
 
-/// Where planning stands, in bytes but for `count`: the current block's heap offset and size, and how far it is filled,
-/// its header counted; how many blocks are placed, and their sizes together; the objects' sizes together; the sizes of
-/// the indirect blocks below the root together.
+/// Where planning stands, in bytes but for `count`: the current block's heap offset and size, and
+/// how far it is filled, its header counted; how many blocks are placed, and their sizes together;
+/// the objects' sizes together; the sizes of the indirect blocks below the root together.
 //
-// There is no cursor: the next slot to be tried begins where the current block ends, since an object that finds no slot
-// changes nothing.
+// There is no cursor: the next slot to be tried begins where the current block ends, since an
+// object that finds no slot changes nothing.
 #[derive(Clone, Copy)]
 #[repr(C)]
 pub struct State {
@@ -39,9 +39,10 @@ pub struct State {
     pub indirect: u64,
 }
 
-/// A plan that objects are added to, one by one or many at once, for addresses of `offset_size` bytes. Its state is one
-/// that planning some list of sizes ends in (`reached`), and so within bounds (`bounded`): who makes or changes a plan
-/// proves both, and a function that takes one need not ask. Of a plan that C lends they are C's word.
+/// A plan that objects are added to, one by one or many at once, for addresses of `offset_size`
+/// bytes. Its state is one that planning some list of sizes ends in (`reached`), and so within
+/// bounds (`bounded`): who makes or changes a plan proves both, and a function that takes one need
+/// not ask. Of a plan that C lends they are C's word.
 #[derive(Drop)]
 #[repr(C)]
 pub struct Planner {
@@ -55,8 +56,8 @@ pub struct Planner {
 impl Planner {
     /// The plan of no objects: no block is placed.
     //
-    // The current block is one of no bytes, filled past its end by a header: so nothing fits, and the first object
-    // opens a block, be it empty.
+    // The current block is one of no bytes, filled past its end by a header: so nothing fits, and
+    // the first object opens a block, be it empty.
     pub fn new(offset_size: u8) -> Planner
         ensures width { result.offset_size ≡ offset_size }
         ensures state { result.state ≡ initial fixed offset_size }
@@ -75,7 +76,8 @@ impl Planner {
         }
     }
 
-    /// Adds an object of `size` bytes: its heap offset, or `None` where the heap space ends, and then nothing changes.
+    /// Adds an object of `size` bytes: its heap offset, or `None` where the heap space ends, and
+    /// then nothing changes.
     pub fn place(&mut self, size: u64) -> Option<u64>
         requires { size ≤ max_managed fixed self.old.offset_size }
         ensures width { self.new.offset_size ≡ self.old.offset_size }
@@ -96,11 +98,11 @@ impl Planner {
         Some(offset)
     }
 
-    /// Adds an object that the current block has no room for: it opens the next slot that is large enough. Its heap
-    /// offset, or `None` where the heap space ends, and then nothing changes.
+    /// Adds an object that the current block has no room for: it opens the next slot that is large
+    /// enough. Its heap offset, or `None` where the heap space ends, and then nothing changes.
     //
-    // Indirect blocks are counted as direct ones open: the new one brings those that hold it and begin at or after the
-    // end of the block before.
+    // Indirect blocks are counted as direct ones open: the new one brings those that hold it and
+    // begin at or after the end of the block before.
     pub fn open(&mut self, size: u64) -> Option<u64>
         requires fits_some_block { size ≤ max_managed fixed self.old.offset_size }
         requires no_room_here { self.old.state.size < self.old.state.fill + size }
@@ -127,8 +129,8 @@ impl Planner {
         Some(slot.start + header)
     }
 
-    /// Adds the objects from the index `from` on that fit into the current block, and lists their heap offsets: the
-    /// index of the next.
+    /// Adds the objects from the index `from` on that fit into the current block, and lists their
+    /// heap offsets: the index of the next.
     pub fn fill<L: Listing>(&mut self, sizes: &[u64], from: usize, offsets: &mut [u64]) -> usize
         requires from_inside { from ≤ length sizes.now }
         requires small { Small MAX_DIRECT_BLOCK_SIZE sizes.now }
@@ -155,12 +157,14 @@ impl Planner {
         next
     }
 
-    /// Adds objects, a block at a time: one that has no room opens a block, and those after it that fit go there too.
-    /// Their heap offsets and the starts of the blocks that they open are listed. `Err` is the index of the object at
-    /// which the heap space ends, which the original does not report; the plan is then that of the objects before it.
+    /// Adds objects, a block at a time: one that has no room opens a block, and those after it that
+    /// fit go there too. Their heap offsets and the starts of the blocks that they open are listed.
+    /// `Err` is the index of the object at which the heap space ends, which the original does not
+    /// report; the plan is then that of the objects before it.
     //
-    // A step for each object made lists of small ones take over four times the original's time. That planning goes on
-    // after the objects that fit as if they had been placed one by one is `fill` in proofs/FillingBlocks.antt.
+    // A step for each object made lists of small ones take over four times the original's time.
+    // That planning goes on after the objects that fit as if they had been placed one by one is
+    // `fill` in proofs/FillingBlocks.antt.
     pub fn extend<L: Listing>(
         &mut self,
         sizes: &[u64],

@@ -1,12 +1,13 @@
-//! What becomes of the offsets and block starts of a plan: they are only counted, or written into lists that are lent.
+//! What becomes of the offsets and block starts of a plan: they are only counted, or written into
+//! lists that are lent.
 
 ghost use Rattle.std.specs.Prelude.{◌≡◌, ℕ, ◌<◌, List, length, slice_set};
 
-/// What becomes of a number that belongs at an index of a lent list: a type parameter, so that one loop counts and
-/// writes.
+/// What becomes of a number that belongs at an index of a lent list: a type parameter, so that one
+/// loop counts and writes.
 //
-// A closure would do that, too, but what it writes to a lent list is not known after the call; nor is it where `zip` or
-// `try_fold` go over the list.
+// A closure would do that, too, but what it writes to a lent list is not known after the call; nor
+// is it where `zip` or `try_fold` go over the list.
 pub trait Listing {
     // The list after a number was listed at an index.
     ghost listed: { List ℕ → ℕ → ℕ → List ℕ };

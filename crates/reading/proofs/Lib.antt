@@ -1,4 +1,3 @@
 pub mod RowSizes
 pub mod Scanning
 pub mod Walking
-pub mod Inside

@@ -50,10 +50,14 @@ child_in_slots table block offset_size target (row ∷ rows) place start = do
   let behind = child_in_slots table block offset_size target rows (place + offset_size) end
   if found then Ok (Some (child_of table row address start)) else behind
 
+-- how many bytes Block Offset has: Maximum Heap Size divided by 8 and rounded up
+abbrev pub block_offset_size : (table : DoublingTable) → ℕ
+block_offset_size table = (table.max_heap_size + 7) / 8
+
 -- where the entries of an indirect block begin: after Signature, Version, Heap Header Address,
 -- Block Offset
 abbrev pub entries_place : (table : DoublingTable) (offset_size : ℕ) → ℕ
-entries_place table offset_size = 5 + offset_size + (table.max_heap_size + 7) / 8
+entries_place table offset_size = 5 + offset_size + block_offset_size table
 
 -- the child in an indirect block of so many rows, which these bytes begin with: Signature FHIB,
 -- then the entries; no other field is heeded

@@ -26,32 +26,55 @@ direct_at file address start target len = do
   _ ← len_ensured file (address + distance) len
   Ok (record { position = address + distance; length = len })
 
+-- how a walk takes the blocks that it comes to
+pub record Taking : Type 0 where
+  -- whether a child may be sought in the indirect block of so many rows at this address that begins
+  -- at heap offset start
+  pub opened : (address rows start : ℕ) → Result (Unit {0}) FormatError
+  -- the object in the direct block of this size at this address that begins at heap offset start
+  pub object : (address size start : ℕ) → Result Place FormatError
+
+-- every block as it stands
+abbrev pub as_they_stand : (file : List ℕ) (target len : ℕ) → Taking
+as_they_stand file target len = record {
+  opened = λ address rows start. Ok tt;
+  object = λ address size start. direct_at file address start target len;
+}
+
 -- what follows a child, or none
 abbrev pub by_child : (child : Option HeapChild)
-    (direct : (address start : ℕ) → Result Place FormatError)
+    (direct : (address size start : ℕ) → Result Place FormatError)
     (indirect : (address rows start : ℕ) → Result Place FormatError) (missing : FormatError)
     → Result Place FormatError
-by_child (Some (Direct address size start)) direct indirect missing = direct address start
+by_child (Some (Direct address size start)) direct indirect missing = direct address size start
 by_child (Some (Indirect address rows start)) direct indirect missing = indirect address rows start
 by_child None direct indirect missing = Err missing
 
 -- the object below an indirect block of so many rows at this address that begins at heap offset
--- start, with so many blocks to go
-unfoldable pub walk_from : (table : DoublingTable) (file : List ℕ)
+-- start, with so many blocks to go, each taken so
+unfoldable pub walk_by : (taking : Taking) (table : DoublingTable) (file : List ℕ)
     (offset_size target len to_go address rows start : ℕ) → Result Place FormatError
-walk_from table file offset_size target len zero address rows start = Err DepthExceeded
-walk_from table file offset_size target len (suc to_go) address rows start = do
+walk_by taking table file offset_size target len zero address rows start = Err DepthExceeded
+walk_by taking table file offset_size target len (suc to_go) address rows start = do
+  _ ← taking.opened address rows start
   child ← child_at table file address rows start target offset_size
-  by_child child (λ address start. direct_at file address start target len)
-      (λ address rows start. walk_from table file offset_size target len to_go address rows start)
+  by_child child taking.object
+      (λ address rows start.
+      walk_by taking table file offset_size target len to_go address rows start)
       (UnexpectedEof (saturated (target + len)) (length file))
 
--- the object, from the root block of so many rows at this address on: no rows mean that the root is
--- a direct block, at heap offset 0
-abbrev pub root_walk : (table : DoublingTable) (file : List ℕ)
+-- the object, from the root block of so many rows at this address on, each block taken so: no rows
+-- mean that the root is a direct block of the starting size, at heap offset 0
+abbrev pub root_by : (taking : Taking) (table : DoublingTable) (file : List ℕ)
     (address rows target len offset_size : ℕ) → Result Place FormatError
-root_walk table file address rows target len offset_size = do
+root_by taking table file address rows target len offset_size = do
   _ ← required (not (is_undefined_addr address offset_size)) (UnexpectedEof 1 0)
   if rows == 0
-      then direct_at file address 0 target len
-      else walk_from table file offset_size target len 64 address rows 0
+      then taking.object address table.starting_block_size 0
+      else walk_by taking table file offset_size target len 64 address rows 0
+
+-- the same, every block as it stands
+abbrev pub root_walk : (table : DoublingTable) (file : List ℕ)
+    (address rows target len offset_size : ℕ) → Result Place FormatError
+root_walk table file address rows target len offset_size =
+    root_by (as_they_stand file target len) table file address rows target len offset_size

@@ -1,6 +1,7 @@
 //! The child of an indirect block that holds a heap offset, sought row by row.
-ghost use Rattle.std.specs.Prelude.{◌≡◌};
-ghost use Rattle.reading.specs.Blocks.{holds_offset, child_of, slot_rows, child_in_slots, child_in, child_at};
+ghost use Rattle.std.specs.Prelude.{◌≡◌, ◌<◌, ◌^◌};
+ghost use Rattle.reading.specs.Blocks.{holds_offset, child_of, slot_rows, child_in_slots, child_in};
+ghost use Rattle.reading.specs.Blocks.{block_offset_size, entries_place, child_at};
 
 use crate::Search;
 use crate::rows::DoublingTable;
@@ -10,8 +11,8 @@ use fields::{ensure_len, is_width, read_offset};
 use numbers::saturating_mul;
 use refusals::FormatError;
 
-/// A child of an indirect block: its address, and the heap offset that it begins at. The size of a direct one is told
-/// as the original does, and read by nobody; `nrows`, at most 64, is what the original cuts to 16 bits.
+/// A child of an indirect block: its address, the size of a direct one or the rows of an indirect one, and the heap
+/// offset that it begins at. `nrows`, at most 64, is what the original cuts to 16 bits.
 #[derive(Clone, Copy, Debug, PartialEq, Eq)]
 pub enum HeapChild {
     Direct {
@@ -54,10 +55,32 @@ fn holds(addr: u64, offset_size: u8, start: u64, end: u64, target: u64) -> bool
     start <= target && target < end && !is_undefined_addr(addr, offset_size)
 }
 
+impl DoublingTable {
+    /// How many bytes the heap offset that a block stores has: the heap's bits divided by 8 and rounded up.
+    #[inline(always)]
+    pub fn block_offset_size(self) -> usize
+        ensures value { result ≡ block_offset_size self }
+        ensures bound { result < 2 ^ 14 }
+    {
+        (usize::from(self.max_heap_size) + 7) / 8
+    }
+
+    /// Where the entries of an indirect block begin, and in a direct block the checksum, if it has one: in bytes from
+    /// the block's start.
+    #[inline(always)]
+    pub fn entries_place(self, offset_size: u8) -> usize
+        ensures value { result ≡ entries_place self offset_size }
+        ensures bound { result < 2 ^ 15 }
+    {
+        5 + usize::from(offset_size) + self.block_offset_size()
+    }
+}
+
 impl Search<'_> {
     // The child that holds the target, of the rows whose entries begin at `at` of a block. A row that ends at or before
     // the target is passed at once, where all its entries are there; the definition, as the original, goes slot by
     // slot.
+    #[inline(always)]
     #[tactic(auto, using(crate::proofs::Scanning::scanning))]
     fn find_child_in_rows(
         &self,
@@ -98,6 +121,8 @@ impl Search<'_> {
     /// The child that holds the target, of the block whose bytes these begin with: `nrows` rows, the first slot at the
     /// heap offset `start`. Filtered heaps, whose entries are longer, were refused before, and are not tested for
     /// again.
+    // Inlined, as the other two here: with more than one kind of walk they would else be called, block by block.
+    #[inline(always)]
     pub fn find_child_for_offset(
         &self,
         block: &[u8],
@@ -111,12 +136,12 @@ impl Search<'_> {
         if !has_signature(block, 0, b"FHIB") {
             return Err(FormatError::InvalidFractalHeapSignature);
         }
-        let offset_bytes = (usize::from(self.table.max_heap_size) + 7) / 8;
-        let at = 5 + usize::from(self.offset_size) + offset_bytes;
+        let at = self.table.entries_place(self.offset_size);
         self.find_child_in_rows(block, at, nrows, start)
     }
 
     /// The same of the block at `addr` of the file.
+    #[inline(always)]
     #[tactic(auto, using(crate::proofs::Scanning::part_all))]
     pub fn find_child_at(
         &self,

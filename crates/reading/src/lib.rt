@@ -3,10 +3,12 @@
 
 pub mod children;
 pub mod rows;
+pub mod taking;
 pub mod walk;
 
 pub use children::HeapChild;
 pub use rows::DoublingTable;
+pub use taking::{AsTheyStand, BlockReader};
 
 /// What is sought below a heap's header, and where: the `len` bytes at the heap offset `target`, in a file whose
 /// addresses have `offset_size` bytes.

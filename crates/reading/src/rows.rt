@@ -2,7 +2,8 @@
 //! where the direct rows end, and what a nested block has and spans. A size that would pass 2^64 - 1
 //! counts as that number.
 ghost use Rattle.std.specs.Prelude.{◌≡◌, ◌≤◌, ◌<◌};
-ghost use Rattle.reading.specs.Rows.{block_size, direct_rows, size_to_rows, heap_size, slot_size, SpansDouble};
+ghost use Rattle.reading.specs.Rows.{block_size, direct_rows, size_to_rows, heap_size, slot_size};
+ghost use Rattle.reading.specs.Rows.{SpansDouble};
 
 use numbers::{log2_floor, saturating_mul, saturating_shl};
 

@@ -90,6 +90,10 @@ impl Reported for FormatError {
             FormatError::RegionAddressTooLarge { address, size } => (15, address, size),
             FormatError::HeapIdTooLarge { offset, length } => (16, offset, length),
             FormatError::HeaderFieldTooLarge { place, value } => (17, place, value),
+            FormatError::BlockChecksumMismatch { stored, computed } => {
+                (18, u64::from(stored), u64::from(computed))
+            }
+            FormatError::ForeignBlock { stored, wanted } => (19, stored, wanted),
             FormatError::OutsideHeap(number) => (20, number, 0),
         };
         Answer {

@@ -15,9 +15,9 @@ pub enum FormatError {
     InvalidOffsetSize(u8),
     #[error("the length size is {0}, not 2, 4 or 8")]
     InvalidLengthSize(u8),
-    #[error("no signature: FRHP has to begin the heap's header, FHIB an indirect block")]
+    #[error("no signature: FRHP has to begin the heap's header, FHIB an indirect block, FHDB a direct one")]
     InvalidFractalHeapSignature,
-    #[error("the header's version is {0}, not 0")]
+    #[error("the version of the header or block is {0}, not 0")]
     InvalidFractalHeapVersion(u8),
     #[error("the ID is of type {0}, not a managed object's, which is 0")]
     InvalidHeapIdType(u8),
@@ -45,6 +45,10 @@ pub enum FormatError {
     HeapIdTooLarge { offset: u64, length: u64 },
     #[error("the header's field at place {place}, counted from 0, is {value}, too large for its width")]
     HeaderFieldTooLarge { place: u64, value: u64 },
+    #[error("a block's checksum differs: {stored} is stored, {computed} computed")]
+    BlockChecksumMismatch { stored: u32, computed: u32 },
+    #[error("the block belongs to another heap or place: {stored} is stored in it, {wanted} wanted")]
+    ForeignBlock { stored: u64, wanted: u64 },
     #[error("{0} is outside the heap: no offset below its end, or no number of rows that a root has")]
     OutsideHeap(u64),
 }

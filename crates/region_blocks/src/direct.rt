@@ -27,8 +27,9 @@ fn write_unsummed(block: &mut [u8], offset: u64, objects: &[u8], site: Site)
     writer.fill(0, padding);
 }
 
-/// Writes a direct block over all of `block`: head, objects and zeros, then the checksum of it all, taken while its own
-/// field is zero. `offset` is the block's heap offset, `objects` the bytes of its objects.
+/// Writes a direct block over all of `block`: head, objects and zeros, then the checksum of it all,
+/// taken while its own field is zero. `offset` is the block's heap offset, `objects` the bytes of
+/// its objects.
 pub fn write_direct_block(block: &mut [u8], offset: u64, objects: &[u8], site: Site)
     requires narrow { site.offset_size ≤ 8 }
     requires room { direct_header fixed site.offset_size + length objects.now ≤ length block.old }

@@ -7,9 +7,9 @@ ghost use Rattle.region_blocks.specs.Entries.{entries_in};
 use crate::{Site, write_head};
 use checksum::jenkins_lookup3;
 
-/// Writes the head of an indirect block at the heap offset `offset`, whose entries stand in their place in `block`
-/// (the walk has stored them, and knows no sooner where the blocks in the slots stand), and behind them the checksum of
-/// head and entries.
+/// Writes the head of an indirect block at the heap offset `offset`, whose entries stand in their
+/// place in `block` (the walk has stored them, and knows no sooner where the blocks in the slots
+/// stand), and behind them the checksum of head and entries.
 #[tactic(auto, using(fields::proofs::Writing::le_four))]
 pub fn seal_indirect(block: &mut [u8], offset: u64, site: Site)
     requires narrow { site.offset_size ≤ 8 }

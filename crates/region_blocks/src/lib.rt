@@ -12,8 +12,9 @@ ghost use Rattle.region_blocks.specs.Blocks.{block_head, head_size};
 use fields::Writer;
 use table::BLOCK_OFFSET_BYTES;
 
-/// What all blocks of a region share: the width of addresses in bytes, and where the heap's header and the region
-/// stand in the file. It is the caller's, so the width is any byte; the writers of blocks ask that it is 8 at most.
+/// What all blocks of a region share: the width of addresses in bytes, and where the heap's header
+/// and the region stand in the file. It is the caller's, so the width is any byte; the writers of
+/// blocks ask that it is 8 at most.
 #[derive(Clone, Copy, Debug, PartialEq, Eq)]
 pub struct Site {
     pub offset_size: u8,
@@ -21,8 +22,8 @@ pub struct Site {
     pub region_address: u64,
 }
 
-/// The bytes of a block's head, with which both kinds begin: signature (4), version (1), heap header address, block
-/// offset.
+/// The bytes of a block's head, with which both kinds begin: signature (4), version (1), heap
+/// header address, block offset.
 pub fn head_size(offset_size: u8) -> u64
     ensures { result ≡ head_size fixed offset_size }
 {

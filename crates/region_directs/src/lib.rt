@@ -27,9 +27,9 @@ fn write_at(region: &mut [u8], at: usize, offset: u64, size: usize, objects: &[u
     write_direct_block(&mut region[at..at + size], offset, objects, site);
 }
 
-// The blocks of a list with objects: each object that finds no room opens a block, and those after it that fit go
-// there too. They are taken at once, so that each block is one copy, one fill and one checksum. What the state has
-// allocated and used says where a block and its objects stand.
+// The blocks of a list with objects: each object that finds no room opens a block, and those after
+// it that fit go there too. They are taken at once, so that each block is one copy, one fill and
+// one checksum. What the state has allocated and used says where a block and its objects stand.
 fn write_placed(sizes: &[u64], objects: &[u8], region: &mut [u8], place: usize, site: Site)
     requires narrow { site.offset_size ≤ 8 }
     requires small { Small (max_managed fixed site.offset_size) sizes.now }
@@ -60,8 +60,8 @@ fn write_placed(sizes: &[u64], objects: &[u8], region: &mut [u8], place: usize, 
     }
 }
 
-/// Writes the direct blocks of a plan of these sizes from `place` on; without objects there is one, at the heap
-/// offset 0. An empty object has an offset in its block, and no byte there.
+/// Writes the direct blocks of a plan of these sizes from `place` on; without objects there is one,
+/// at the heap offset 0. An empty object has an offset in its block, and no byte there.
 #[tactic(auto, using(crate::proofs::Lengths::one_or_all))]
 pub fn write_directs(sizes: &[u64], objects: &[u8], region: &mut [u8], place: usize, site: Site)
     requires narrow { site.offset_size ≤ 8 }

@@ -4,17 +4,21 @@ use Rattle.table.specs.Table.{fixed}
 use Rattle.region_indirects.specs.declared.cursor.Slots.{Slots}
 
 -- all slots of a block at a heap offset
-abbrev pub block_slots : ℕ → Slots
+abbrev pub block_slots : (offset : ℕ) → Slots
 block_slots offset = record { row = 0; left = 2 ^ fixed.width_bits; offset = offset }
 
 -- those of the rows behind the first one, which ends at a heap offset
-abbrev pub next_rows : Slots → ℕ → Slots
-next_rows s row_end = record { row = s.row + 1; left = 2 ^ fixed.width_bits; offset = row_end }
+abbrev pub next_rows : (slots : Slots) (row_end : ℕ) → Slots
+next_rows slots row_end = record {
+  row = slots.row + 1;
+  left = 2 ^ fixed.width_bits;
+  offset = row_end;
+}
 
 -- those behind the first one, which has `size` bytes
-abbrev pub next_slots : Slots → ℕ → Slots
-next_slots s size = record {
-  row = if s.left == 1 then s.row + 1 else s.row;
-  left = if s.left == 1 then 2 ^ fixed.width_bits else s.left - 1;
-  offset = s.offset + size;
+abbrev pub next_slots : (slots : Slots) (size : ℕ) → Slots
+next_slots slots size = record {
+  row = if slots.left == 1 then slots.row + 1 else slots.row;
+  left = if slots.left == 1 then 2 ^ fixed.width_bits else slots.left - 1;
+  offset = slots.offset + size;
 }

@@ -4,8 +4,8 @@ ghost use Rattle.region_indirects.specs.Walk.{begins_before};
 
 use table::{MAX_ROOT_ROWS, TABLE_WIDTH};
 
-/// The next placed direct block and its address, in the file and not from the region on, and the next free place in
-/// the region.
+/// The next placed direct block and its address, in the file and not from the region on, and the
+/// next free place in the region.
 #[derive(Clone, Copy)]
 pub struct Cursor {
     pub index: usize,
@@ -21,8 +21,8 @@ pub fn begins_before(starts: &[u64], index: usize, end: u64) -> bool
     starts.get(index).is_some_and(|start| *start < end)
 }
 
-/// The slots of an indirect block from one on: its row, how many slots the row has from it on, and the heap offset at
-/// which it begins.
+/// The slots of an indirect block from one on: its row, how many slots the row has from it on, and
+/// the heap offset at which it begins.
 #[derive(Clone, Copy)]
 pub struct Slots {
     pub row: u64,

@@ -1,13 +1,14 @@
-//! The indirect blocks of a region: a block walks its slots, and an indirect slot opens a block, which is written
-//! before the walk goes on. The entries of a block are written on the way back, when its place is known, so that no
-//! list of them is kept.
+//! The indirect blocks of a region: a block walks its slots, and an indirect slot opens a block,
+//! which is written before the walk goes on. The entries of a block are written on the way back,
+//! when its place is known, so that no list of them is kept.
 #![tactic(auto)]
 
 pub mod cursor;
 
 ghost use Rattle.std.specs.Prelude.{◌≡◌, ◌+◌, ◌^◌, ◌<◌, ◌≤◌, length};
 ghost use Rattle.table.specs.Table.{fixed, row_bits, row_offset};
-ghost use Rattle.region_indirects.specs.Requires.{entry_bytes, BlockFits, BlockWritten, SlotsFit, SlotsWritten};
+ghost use Rattle.region_indirects.specs.Requires.{entry_bytes, BlockFits, BlockWritten, SlotsFit};
+ghost use Rattle.region_indirects.specs.Requires.{SlotsWritten};
 ghost use Rattle.region_indirects.specs.Requires.{SlotFits, SlotWritten, span_left};
 
 use crate::cursor::{Cursor, Slots, begins_before};
@@ -16,7 +17,8 @@ use region_blocks::{Site, head_size};
 use table::block_sizes::indirect_block_size;
 use table::{MAX_HEAP_SPACE, MAX_ROOT_ROWS, TABLE_WIDTH, is_direct, row_block_size};
 
-/// What a walk goes by: where the placed direct blocks begin in the heap, and where all stands in the file.
+/// What a walk goes by: where the placed direct blocks begin in the heap, and where all stands in
+/// the file.
 #[derive(Clone, Copy)]
 pub struct Walk<'a> {
     pub starts: &'a [u64],
@@ -62,11 +64,11 @@ fn put_entry(slot: &mut [u8], entry: Option<u64>)
     }
 }
 
-// The rows fall from block to block, the slots that are left within one. At most 592 calls are open at once: four
-// slots of each row in blocks of 29, 26, 23, .., 8 rows.
+// The rows fall from block to block, the slots that are left within one. At most 592 calls are open
+// at once: four slots of each row in blocks of 29, 26, 23, .., 8 rows.
 impl Walk<'_> {
-    /// Writes a block of `rows` rows at a heap offset: the blocks in its slots, then the block itself, whose address
-    /// is given.
+    /// Writes a block of `rows` rows at a heap offset: the blocks in its slots, then the block
+    /// itself, whose address is given.
     #[cycle(walk)]
     pub fn block(&self, out: &mut Output<'_>, rows: u64, offset: u64) -> u64
         requires rows_of_root { rows ≤ MAX_ROOT_ROWS }
@@ -85,9 +87,10 @@ impl Walk<'_> {
         self.site.region_address + place as u64
     }
 
-    // The last slots of a block of `rows` rows. Their entries stand from `at` on in the block, whose place is known
-    // once the blocks of all of them are written. The slots of a row behind its last block are passed at once:
-    // without this a region of one object of 2,026 bytes took 945 ns, with it 805.
+    // The last slots of a block of `rows` rows. Their entries stand from `at` on in the block,
+    // whose place is known once the blocks of all of them are written. The slots of a row behind
+    // its last block are passed at once: without this a region of one object of 2,026 bytes took
+    // 945 ns, with it 805.
     #[cycle(walk)]
     fn slots(&self, out: &mut Output<'_>, rows: u64, slots: Slots, at: usize)
         requires rows_of_root { rows ≤ MAX_ROOT_ROWS }

@@ -22,70 +22,82 @@ use Rattle.region_write.specs.Planned.{IndirectPlanned, BareRegion}
 -- the region is as long as planned
 abbrev pub RegionsFill : Type 0
 RegionsFill =
-    (xs : List ℕ) (o b : ℕ) (site : Site) (p : ManagedPlan)
-    → planned_for xs o b site.offset_size ≡ Ok p → (js : List ℕ)
-    → length (region site p.root_rows xs js) ≡ p.region_size
+    (sizes : List ℕ) (offsets blocks : ℕ) (site : Site) (plan : ManagedPlan)
+    → planned_for sizes offsets blocks site.offset_size ≡ Ok plan → (joined : List ℕ)
+    → length (region site plan.root_rows sizes joined) ≡ plan.region_size
 
 -- the root's bytes begin at the planned place
 abbrev pub RootsStand : Type 0
 RootsStand =
-    (xs : List ℕ) (o b : ℕ) (site : Site) (p : ManagedPlan)
-    → planned_for xs o b site.offset_size ≡ Ok p → (js : List ℕ)
-    → let root = root_bytes site p.root_rows xs js in
-    take (length root) (drop p.root_place (region site p.root_rows xs js)) ≡ root
+    (sizes : List ℕ) (offsets blocks : ℕ) (site : Site) (plan : ManagedPlan)
+    → planned_for sizes offsets blocks site.offset_size ≡ Ok plan → (joined : List ℕ)
+    → let root = root_bytes site plan.root_rows sizes joined in
+    take (length root) (drop plan.root_place (region site plan.root_rows sizes joined)) ≡ root
 
 -- the indirect blocks are as long as planned, those before the root too, and lead to all direct
 -- blocks
 abbrev pub IndirectsPlanned : Type 0
 IndirectsPlanned =
-    (xs : List ℕ) (o b w : ℕ) (p : ManagedPlan) → planned_for xs o b w ≡ Ok p → 0 < p.root_rows
-    → (header first direct : ℕ) → IndirectPlanned w xs p header first direct
+    (sizes : List ℕ) (offsets blocks offset_size : ℕ) (plan : ManagedPlan)
+    → planned_for sizes offsets blocks offset_size ≡ Ok plan → 0 < plan.root_rows
+    → (header_address first directs : ℕ)
+    → IndirectPlanned offset_size sizes plan header_address first directs
 
 -- the planned size is that of the indirect blocks before the root, of the root, and of the direct
 -- blocks; or it is that of the one direct block
-pub record RegionSummed (w : ℕ) (xs : List ℕ) (p : ManagedPlan) : Type 0 where
-  pub rows : 0 < p.root_rows
-      → p.region_size ≡ p.root_place + indirect_size fixed w p.root_rows + p.allocated_space
-  pub bare : p.root_rows ≡ 0 → BareRegion w xs p
+pub record RegionSummed (offset_size : ℕ) (sizes : List ℕ) (plan : ManagedPlan) : Type 0 where
+  pub rows : 0 < plan.root_rows
+      → plan.region_size
+      ≡ plan.root_place + indirect_size fixed offset_size plan.root_rows + plan.allocated_space
+  pub bare : plan.root_rows ≡ 0 → BareRegion offset_size sizes plan
 
 abbrev pub RegionsSummed : Type 0
 RegionsSummed =
-    (xs : List ℕ) (o b w : ℕ) (p : ManagedPlan) → planned_for xs o b w ≡ Ok p → RegionSummed w xs p
+    (sizes : List ℕ) (offsets blocks offset_size : ℕ) (plan : ManagedPlan)
+    → planned_for sizes offsets blocks offset_size ≡ Ok plan → RegionSummed offset_size sizes plan
 
 -- ---- of a run that places all objects
 
 -- the direct blocks together are as long as their slots, without objects as the one block
 abbrev pub DirectsFill : Type 0
 DirectsFill =
-    (w header : ℕ) (xs js : List ℕ) (s : State) → w ≤ 255 → run fixed w xs ≡ Ok s
-    → length (directs fixed w header (plan_offsets fixed w xs) xs js (plan_starts fixed w xs))
-    ≡ (if s.count == 0 then 2 ^ fixed.start_bits else s.allocated)
+    (offset_size header_address : ℕ) (sizes joined : List ℕ) (state : State)
+    → offset_size ≤ 255 → run fixed offset_size sizes ≡ Ok state
+    → let offsets = plan_offsets fixed offset_size sizes in
+    let starts = plan_starts fixed offset_size sizes in
+    length (directs fixed offset_size header_address offsets sizes joined starts)
+    ≡ (if state.count == 0 then 2 ^ fixed.start_bits else state.allocated)
 
--- the direct slot of z bytes at c that holds the offset of an object has the object's bytes as far
--- from its start as the offset is; they are the part of the joined bytes that begins at the sum of
--- the sizes before it
+-- the direct slot of `size` bytes at `start` that holds the offset of an object has the object's
+-- bytes as far from its start as the offset is; they are the part of the joined bytes that begins
+-- at the sum of the sizes before it
 abbrev pub ObjectsLie : Type 0
 ObjectsLie =
-    (t : Table) → t.start_bits ≤ t.direct_bits → t.start_bits ≤ t.heap_bits
-    → (w header : ℕ) (xs js : List ℕ) (s : State) → length js ≡ sum xs → run t w xs ≡ Ok s
-    → (c z i : ℕ) → c < 2 ^ t.heap_bits → slot_at t c ≡ record { start = c; size = z }
-    → i < length xs → 0 < slice_index xs i
-    → let offsets = plan_offsets t w xs in
+    (table : Table) → table.start_bits ≤ table.direct_bits → table.start_bits ≤ table.heap_bits
+    → (offset_size header_address : ℕ) (sizes joined : List ℕ) (state : State)
+    → length joined ≡ sum sizes → run table offset_size sizes ≡ Ok state
+    → (start size i : ℕ) → start < 2 ^ table.heap_bits
+    → slot_at table start ≡ record { start = start; size = size }
+    → i < length sizes → 0 < slice_index sizes i
+    → let offsets = plan_offsets table offset_size sizes in
     let offset = slice_index offsets i in
-    let bytes = direct_block t w header c z (objects_in c z offsets xs js) in
-    c ≤ offset → offset < c + z
-    → take (slice_index xs i) (drop (offset - c) bytes)
-    ≡ take (slice_index xs i) (drop (sum (take i xs)) js)
+    let objects = objects_in start size offsets sizes joined in
+    let bytes = direct_block table offset_size header_address start size objects in
+    start ≤ offset → offset < start + size
+    → take (slice_index sizes i) (drop (offset - start) bytes)
+    ≡ take (slice_index sizes i) (drop (sum (take i sizes)) joined)
 
 -- ---- of a walk
 
--- k slots of a row before whose end no block begins may be passed at once: they are undefined
+-- so many slots of a row before whose end no block begins may be passed at once: they are undefined
 -- addresses
 abbrev pub RowsPassed : Type 0
 RowsPassed =
-    (t : Table) (w header : ℕ) (inner : ℕ → WalkedFrom) (k r : ℕ) (rs : List ℕ)
-    (at : ℕ) (ss : List ℕ) (pos next : ℕ)
-    → let end = at + k * 2 ^ row_bits t r in
-    begins_before ss end ≡ false
-    → slots t w header inner (replicate k r ++ rs) at ss pos next
-    ≡ both (unplaced (k * w) ss next) (slots t w header inner rs end ss pos next)
+    (table : Table) (offset_size header_address : ℕ) (inner : ℕ → WalkedFrom)
+    (count row : ℕ) (rows : List ℕ) (offset : ℕ) (starts : List ℕ) (address next : ℕ)
+    → let end = offset + count * 2 ^ row_bits table row in
+    let behind = slots table offset_size header_address inner rows end starts address next in
+    begins_before starts end ≡ false
+    → slots table offset_size header_address inner (replicate count row ++ rows)
+    offset starts address next
+    ≡ both (unplaced (count * offset_size) starts next) behind

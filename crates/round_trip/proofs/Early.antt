@@ -9,10 +9,10 @@ use Rattle.fields.proofs.LittleEndian.{put_front}
 use Rattle.planner.specs.Steps.{plan_offsets}
 use Rattle.plan.specs.declared.ManagedPlan.{ManagedPlan}
 use Rattle.plan.specs.Answer.{planned_for}
+use Rattle.plan.specs.Plans.{object_start}
 use Rattle.plan.proofs.Tally.{tallied}
 use Rattle.ids.specs.Written.{managed_id}
 use Rattle.ids.specs.Checks.{id_checked}
-use Rattle.heap_kept.specs.HeapKept.{offset_of}
 use Rattle.round_trip.specs.Early.{early_id}
 
 module _ (xs os : List ℕ) (o b w : ℕ) {left : List ℕ} {i : ℕ} {p : ManagedPlan} (e : planned_for xs o b w ≡ Ok p)
@@ -30,7 +30,7 @@ module _ (xs os : List ℕ) (o b w : ℕ) {left : List ℕ} {i : ℕ} {p : Manag
   pub placed : i < length left
   placed = omega (arith, l, many, ap length lists, length-append offsets (drop (length offsets) os))
 
-  offset-is : slice_index left i ≡ offset_of w xs i
+  offset-is : slice_index left i ≡ object_start w xs i
   offset-is =
       ap (λ (v : List ℕ). slice_index v i) lists
       ∙ get_or-append offsets (drop (length offsets) os) 0 i (omega (arith, l, many))

@@ -8,11 +8,12 @@ use Rattle.fields.proofs.LittleEndian.{put_front}
 use Rattle.planner.specs.Steps.{plan_offsets, plan_starts}
 use Rattle.plan.specs.declared.ManagedPlan.{ManagedPlan}
 use Rattle.plan.specs.Answer.{planned_for, list_after}
+use Rattle.plan.specs.Plans.{object_start}
 use Rattle.plan.proofs.Kept.{front-parts-fit}
 use Rattle.region_blocks.specs.declared.Site.{Site}
 use Rattle.fractal_heap.specs.declared.header.FractalHeapHeader.{FractalHeapHeader}
 use Rattle.ids.specs.Checks.{id_checked}
-use Rattle.heap_kept.specs.HeapKept.{Call, HoldsRegion, ObjectIsManaged, offset_of, object_id}
+use Rattle.heap_kept.specs.HeapKept.{Call, HoldsRegion, ObjectIsManaged, object_id}
 use Rattle.heap_kept.specs.Kept.{HoldsHeap, IsIdOf}
 use Rattle.heap_kept.proofs.FromRoot.{planned}
 use Rattle.heap_kept.proofs.Theorem.{early-id-holds}
@@ -77,7 +78,7 @@ module _ {xs js os bs F : List ℕ} {site : Site} {p : ManagedPlan} (A : Accepte
   its-id l m s d = record { index = l; front = m; not_empty = s; id_given = d }
 
   module _ {k i o b : ℕ} (D : Drawn xs os bs k i o b) where
-    accepted-id : id_checked fixed (offset_of w (take k xs) i) (slice_index (take k xs) i) 8 ≡ Ok tt
+    accepted-id : id_checked fixed (object_start w (take k xs) i) (slice_index (take k xs) i) 8 ≡ Ok tt
     accepted-id =
         ((early-id-holds call p (accepted A) (file_with site p xs js F) (holds-there (accepted A) F refl)
         (root_header site p) (header_is A) k i D.index

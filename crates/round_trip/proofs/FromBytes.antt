@@ -1,6 +1,7 @@
 -- A file with header and region of a heap holds both, and the object is found there.
-use Rattle.std.proofs.Common.{◌≡◌, ℕ, ◌+◌, ◌-◌, ◌^◌, ◌<◌, ◌≤◌, List, ◌++◌, length, take, drop, slice_index, Result, Ok, Err}
-use Rattle.std.proofs.Common.{OnOk, refl, sym, ap, ◌∙◌, arith, drop-drop}
+use Rattle.std.proofs.Common.{◌≡◌, ℕ, ◌+◌, ◌-◌, ◌^◌, ◌<◌, ◌≤◌, List, ◌++◌, length, take, drop, slice_index, Result}
+use Rattle.std.proofs.Common.{Ok, Err}
+use Rattle.std.proofs.Common.{true, OnOk, refl, sym, ap, ◌∙◌, arith, drop-drop}
 use Rattle.refusals.specs.declared.FormatError.{FormatError}
 use Rattle.fields.specs.LittleEndian.{put}
 use Rattle.fields.proofs.LittleEndian.{put-after, put-here}
@@ -11,6 +12,7 @@ use Rattle.fractal_heap.specs.declared.write.WrittenHeader.{WrittenHeader}
 use Rattle.fractal_heap.specs.Spelling.{header_spelled}
 use Rattle.fractal_heap.specs.Writing.{header_length, header_written}
 use Rattle.fractal_heap.proofs.Written.{length-header_spelled}
+use Rattle.checked_reading.specs.Blocks.{has_checksum}
 use Rattle.heap_kept.specs.HeapKept.{Call, ObjectIsManaged, part_of}
 use Rattle.heap_kept.specs.Kept.{HoldsHeap, IsIdOf, IsFetched}
 use Rattle.heap_kept.specs.FromBytes.{HoldsHeader}
@@ -28,6 +30,11 @@ pub header_put : (file new : List ℕ) (a k : ℕ) → a ≤ length file → k �
     → OnOk r (new ≡ put (take k (drop a file)) 0 bytes) → OnOk r (out ≡ put file a bytes)
 header_put file new a k l e out o (Ok w) bytes h = o ∙ part_put file new a a k (omega arith) e bytes h
 header_put file new a k l e out o (Err f) bytes h = h
+
+-- a plan's own header says that direct blocks have a checksum
+pub header-sums : (site : Site) (p : ManagedPlan) (n : ℕ) {h : FractalHeapHeader} → h ≡ planned_header site p n
+    → has_checksum h.flags ≡ true
+header-sums site p n is = ap (λ (x : FractalHeapHeader). has_checksum x.flags) is
 
 module _ {xs js os bs F : List ℕ} {site : Site} {p : ManagedPlan} (A : Accepted xs js os bs F site p)
     (few : length xs < 2 ^ 64) where

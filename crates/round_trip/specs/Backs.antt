@@ -1,6 +1,7 @@
--- The objects of a heap, read back one after another and compared with the bytes that they were written from: how many
--- come back.
-use Rattle.std.specs.Prelude.{ℕ, ◌+◌, ◌&&◌, Bool, false, List, [], ◌∷◌, take, drop, nat_lt, bytes_eq, Result, Ok, Err}
+-- The objects of a heap, read back one after another and compared with the bytes that they were
+-- written from: how many come back.
+use Rattle.std.specs.Prelude.{ℕ, ◌+◌, ◌&&◌, Bool, false, List, [], ◌∷◌, take, drop, nat_lt}
+use Rattle.std.specs.Prelude.{bytes_eq, Result, Ok, Err}
 use Rattle.numbers.specs.Sums.{bit}
 use Rattle.refusals.specs.declared.FormatError.{FormatError}
 use Rattle.fields.specs.declared.place.Place.{Place}

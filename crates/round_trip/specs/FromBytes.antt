@@ -7,7 +7,8 @@ use Rattle.fractal_heap.specs.Spelling.{header_spelled}
 use Rattle.heap_kept.specs.OwnHeader.{planned_header}
 use Rattle.round_trip.specs.InFile.{file_with}
 
--- the file with the region of the plan in it, and then the plan's own header at its address, lengths of eight bytes
+-- the file with the region of the plan in it, and then the plan's own header at its address,
+-- lengths of eight bytes
 abbrev pub file_with_both : Site → ManagedPlan → List ℕ → List ℕ → List ℕ → List ℕ
 file_with_both site plan sizes objects file =
     put (file_with site plan sizes objects file) site.heap_header_address

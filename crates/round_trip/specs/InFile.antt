@@ -1,4 +1,5 @@
--- A region written into a file: the file's bytes from the region's address on are lent to the writer.
+-- A region written into a file: the file's bytes from the region's address on are lent to the
+-- writer.
 use Rattle.std.specs.Prelude.{List, ℕ, ◌≡◌, drop, Result}
 use Rattle.refusals.specs.declared.FormatError.{FormatError}
 use Rattle.fields.specs.LittleEndian.{put}
@@ -26,7 +27,8 @@ abbrev pub file_with : Site → ManagedPlan → List ℕ → List ℕ → List �
 file_with site plan sizes objects file =
     put file site.region_address (region site plan.root_rows sizes objects)
 
--- both lists have the plan in front, the objects' offsets and the blocks' starts, and behind it what they had
+-- both lists have the plan in front, the objects' offsets and the blocks' starts, and behind it
+-- what they had
 pub record ListsHavePlan (offset_size : ℕ)
     (sizes old_offsets offsets old_blocks blocks : List ℕ) : Type 0 where
   pub offsets_listed : offsets ≡ put old_offsets 0 (plan_offsets fixed offset_size sizes)

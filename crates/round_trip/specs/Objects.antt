@@ -12,8 +12,8 @@ use Rattle.fractal_heap.specs.Read.{managed_at}
 use Rattle.ids.specs.Written.{managed_id}
 use Rattle.ids.specs.Checks.{id_length, id_checked}
 
--- the header of an unfiltered heap with the fixed geometry, with its root, the root's rows and the largest object that
--- a block holds at this offset size; no reader heeds the other fields
+-- the header of an unfiltered heap with the fixed geometry, with its root, the root's rows and the
+-- largest object that a block holds at this offset size; no reader heeds the other fields
 abbrev pub fixed_header : (offset_size root_address root_rows : ℕ) → FractalHeapHeader
 fixed_header offset_size root_address root_rows = record {
   heap_id_length = 4097;
@@ -51,8 +51,8 @@ abbrev pub root_header : Site → ManagedPlan → FractalHeapHeader
 root_header site plan =
     fixed_header site.offset_size (site.region_address + plan.root_place) plan.root_rows
 
--- what the file answers for the object of `size` bytes at the heap offset `offset`, by its ID; in eight bytes an ID is
--- refused by 16 alone
+-- what the file answers for the object of `size` bytes at the heap offset `offset`, by its ID; in
+-- eight bytes an ID is refused by 16 alone
 abbrev pub object_at : FractalHeapHeader → List ℕ → ℕ → ℕ → ℕ → Result Place FormatError
 object_at header file offset_size offset size = do
   _ ← id_checked fixed offset size (id_length fixed)

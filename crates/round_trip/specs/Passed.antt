@@ -11,8 +11,8 @@ use Rattle.heap_kept.specs.Kept.{fetched}
 use Rattle.round_trip.specs.Objects.{root_header}
 use Rattle.round_trip.specs.Backs.{returned_count}
 
--- what the file answers for the i-th object, by the ID that it is given when there are the first objects alone, `early`
--- of them
+-- what the file answers for the i-th object, by the ID that it is given when there are the first
+-- objects alone, `early` of them
 abbrev pub object_in : Site → ManagedPlan → List ℕ → ℕ → ℕ → List ℕ → Result Place FormatError
 object_in site plan sizes early i file =
     managed_at (root_header site plan) file (object_id site.offset_size (take early sizes) i)

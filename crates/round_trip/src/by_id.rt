@@ -91,7 +91,7 @@ pub fn early_id(
     Ok(id)
 }
 
-/// Writes the ID of the object of `size` bytes at the heap offset `offset`, and reads by it.
+/// Writes the ID of the object of `size` bytes at the heap offset `offset`, and reads by it, no block tested.
 pub fn read_object(
     file: &[u8],
     header: &FractalHeapHeader,
@@ -104,5 +104,5 @@ pub fn read_object(
 {
     let mut id = [0u8; 8];
     write_managed_id(offset, size, &mut id)?;
-    header.read_managed_object(file, &id, offset_size)
+    header.read_managed_object_unchecked(file, &id, offset_size)
 }

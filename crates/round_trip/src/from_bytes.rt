@@ -1,5 +1,5 @@
 //! The whole way from bytes: a heap's header and its region are written into a file, each at its place, and an object is
-//! fetched from the file, by the header's place and the object's ID alone.
+//! fetched from the file, by the header's place and the object's ID alone, every block on the way tested.
 ghost use Rattle.std.specs.Prelude.{◌≡◌, ◌+◌, ◌^◌, ◌<◌, ◌≤◌, ◌++◌, true, length, drop, slice_index};
 ghost use Rattle.std.specs.Prelude.{IfOk, OnOk, OnErr};
 ghost use Rattle.fields.specs.LittleEndian.{put};
@@ -121,5 +121,13 @@ pub fn write_and_fetch_at(
     write_header_at(header, site, file)?;
     let id = early_id(&sizes[..early], i, site.offset_size, offsets, blocks)?;
     let at = site.heap_header_address as usize;
-    fetch_at(file, at, site.offset_size, 8, &id, found)
+    fetch_at(
+        file,
+        at,
+        site.offset_size,
+        8,
+        site.heap_header_address,
+        &id,
+        found,
+    )
 }

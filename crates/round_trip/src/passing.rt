@@ -12,7 +12,7 @@ ghost use Rattle.round_trip.specs.Passed.{object_in, fetched_in, counted_in};
 use crate::by_id::{early_id, root_header};
 use crate::objects::read_back;
 use crate::region::serialize_at;
-use heap_kept::object_bytes::fetch;
+use heap_kept::object_bytes::unchecked::fetch_unchecked;
 use plan::ManagedPlan;
 use refusals::FormatError;
 use region_blocks::Site;
@@ -104,7 +104,7 @@ pub fn fetch_after<P: Passing>(
     // The early objects are planned alone, as when there were no others. Their plan goes over the front of the whole's
     // in the lists, where it is the same.
     let id = early_id(&sizes[..early], i, site.offset_size, offsets, blocks)?;
-    fetch(&root_header(site, plan), file, &id, site.offset_size, found)
+    fetch_unchecked(&root_header(site, plan), file, &id, site.offset_size, found)
 }
 
 /// Writes the region of the objects into `file`, lets the file pass, and counts the nonempty objects that come back

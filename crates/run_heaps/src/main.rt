@@ -1,12 +1,12 @@
-//! Plans the worked heaps, lists at every width, lists that are refused and pseudo-random ones, and prints a line for
-//! each: its width and sizes, then the eight totals or the refusal, then what the two lists hold. The file stdout
-//! beside src/ holds what the original answers.
+//! Plans the worked heaps, lists at every width, lists that are refused and pseudo-random ones, and
+//! prints a line for each: its width and sizes, then the eight totals or the refusal, then what the
+//! two lists hold. The file stdout beside src/ holds what the original answers.
 #![tactic(auto)]
 
 ghost use Rattle.std.specs.Prelude.{◌<◌, ◌≤◌};
 
-use plan::ManagedPlan;
 use plan::report::put_planned;
+use plan::{ManagedPlan, TOTAL_COUNT};
 use run_report::worked::{FIRST_BLOCK, HEADER_BYTES, LARGEST_BLOCK, Listed, NO_WIDTH, WORKED};
 use run_report::{Answered, Heading, List, Lists, following};
 use std::io;
@@ -47,23 +47,43 @@ impl<'a> Case<'a> {
             ..self
         }
     }
+}
+
+// Where the cases are printed, and the two lists that a call is lent.
+#[derive(Drop)]
+struct Runner<'a, R: Print> {
+    rt: &'a R,
+    offsets: [u64; PLACES],
+    blocks: [u64; PLACES],
+}
+
+impl<'a, R: Print> Runner<'a, R> {
+    fn new(rt: &'a R) -> Self {
+        Runner {
+            rt,
+            offsets: [MARK; PLACES],
+            blocks: [MARK; PLACES],
+        }
+    }
 
     // Plans in lists of marks, and prints what is given, the answer, and what the lists hold then.
-    fn run(&self, rt: &impl Print) -> io::Result<()> {
+    fn run(&mut self, case: &Case<'_>) -> io::Result<()> {
+        self.offsets.fill(MARK);
+        self.blocks.fill(MARK);
+        let rt = self.rt;
         let heading = Heading {
-            sizes: self.sizes,
-            width: self.width,
+            sizes: case.sizes,
+            width: case.width,
         };
-        let mut offsets = [MARK; PLACES];
-        let mut blocks = [MARK; PLACES];
-        let offsets = &mut offsets[..self.offset_places.min(PLACES)];
-        let blocks = &mut blocks[..self.block_places.min(PLACES)];
-        let planned = ManagedPlan::new(self.sizes, offsets, blocks, self.width);
+        let (offsets, blocks) = (&mut self.offsets[..], &mut self.blocks[..]);
+        let offsets = &mut offsets[..case.offset_places.min(PLACES)];
+        let blocks = &mut blocks[..case.block_places.min(PLACES)];
+        let planned = ManagedPlan::new(case.sizes, offsets, blocks, case.width);
         let (objects, placed) = match &planned {
-            Ok(plan) => (self.sizes.len(), plan.block_count as usize),
+            Ok(plan) => (case.sizes.len(), plan.block_count as usize),
             Err(_) => (0, 0),
         };
-        let mut numbers = [0u64; 8];
+        let mut numbers = [0u64; TOTAL_COUNT];
         let refusal = put_planned(&mut numbers, planned);
         let answered = Answered {
             refusal,
@@ -79,28 +99,68 @@ impl<'a> Case<'a> {
                 known: placed,
             },
         };
-        println!(rt; "{}: {heading}{answered}{lists}", self.name)
+        println!(rt; "{}: {heading}{answered}{lists}", case.name)
     }
-}
 
-// Too few places for offsets, for blocks, or for both; then places enough, and a size that is too large. Without
-// objects one block is needed.
-fn short_lists(rt: &impl Print) -> io::Result<()> {
-    let sizes = [10, LARGEST_BLOCK, 30];
-    let cases = [
-        Case::new("short offsets", &sizes, 8).with_places(2, 3),
-        Case::new("no places", &sizes, 2).with_places(0, 3),
-        Case::new("short blocks", &sizes, 8).with_places(3, 1),
-        Case::new("both short", &sizes, 4).with_places(2, 1),
-        Case::new("width and both short", &sizes, 16).with_places(2, 1),
-        Case::new("exact, too large", &sizes, 8).with_places(3, 3),
-        Case::new("no block", &[], 8).with_places(1, 0),
-        Case::new("one block", &[], 8).with_places(0, 1),
-    ];
-    for case in cases {
-        case.run(rt)?;
+    fn run_all(&mut self, cases: &[Case<'_>]) -> io::Result<()> {
+        for case in cases {
+            self.run(case)?;
+        }
+        Ok(())
     }
-    Ok(())
+
+    fn run_lists(&mut self, lists: &[Listed]) -> io::Result<()> {
+        for (name, sizes, width) in lists {
+            self.run(&Case::new(name, sizes, *width))?;
+        }
+        Ok(())
+    }
+
+    // Too few places for offsets, for blocks, or for both; then places enough, and a size that is
+    // too large. Without objects one block is needed.
+    fn run_short(&mut self) -> io::Result<()> {
+        let sizes = [10, LARGEST_BLOCK, 30];
+        self.run_all(&[
+            Case::new("short offsets", &sizes, 8).with_places(2, 3),
+            Case::new("no places", &sizes, 2).with_places(0, 3),
+            Case::new("short blocks", &sizes, 8).with_places(3, 1),
+            Case::new("both short", &sizes, 4).with_places(2, 1),
+            Case::new("width and both short", &sizes, 16).with_places(2, 1),
+            Case::new("exact, too large", &sizes, 8).with_places(3, 3),
+            Case::new("no block", &[], 8).with_places(1, 0),
+            Case::new("one block", &[], 8).with_places(0, 1),
+        ])
+    }
+
+    // Sizes of one kind, by the pseudo-random sequence from 1 on.
+    fn run_random(
+        &mut self,
+        name: &str,
+        sizes: &mut [u64],
+        kind: Kind,
+        width: u8,
+    ) -> io::Result<()> {
+        let mut x: u32 = 1;
+        for size in sizes.iter_mut() {
+            x = following(x);
+            *size = drawn(x, kind, width);
+        }
+        self.run(&Case::new(name, sizes, width))
+    }
+
+    // Long lists: of each kind, and objects that fill the largest block.
+    fn run_long(&mut self, width: u8) -> io::Result<()> {
+        let mut few = [0; 40];
+        self.run_random("40 small", &mut few, Kind::Small, width)?;
+        self.run_random("40 mixed", &mut few, Kind::Mixed, width)?;
+        self.run_random("40 edges", &mut few, Kind::Edges, width)?;
+        let mut many = [0; 256];
+        self.run_random("256 small", &mut many, Kind::Small, width)?;
+        self.run_random("256 mixed", &mut many, Kind::Mixed, width)?;
+        self.run_random("256 edges", &mut many, Kind::Edges, width)?;
+        let largest = [LARGEST_BLOCK - HEADER_BYTES - u64::from(width); 250];
+        self.run(&Case::new("250 largest", &largest, width))
+    }
 }
 
 // A block of 1,024, .., 65,536 bytes.
@@ -147,46 +207,16 @@ fn drawn(x: u32, kind: Kind, width: u8) -> u64 {
     }
 }
 
-// Sizes of one kind, by the pseudo-random sequence from 1 on.
-fn random(rt: &impl Print, name: &str, sizes: &mut [u64], kind: Kind, width: u8) -> io::Result<()> {
-    let mut x: u32 = 1;
-    for size in sizes.iter_mut() {
-        x = following(x);
-        *size = drawn(x, kind, width);
-    }
-    Case::new(name, sizes, width).run(rt)
-}
-
-fn long(rt: &impl Print, width: u8) -> io::Result<()> {
-    let mut few = [0; 40];
-    random(rt, "40 small", &mut few, Kind::Small, width)?;
-    random(rt, "40 mixed", &mut few, Kind::Mixed, width)?;
-    random(rt, "40 edges", &mut few, Kind::Edges, width)?;
-    let mut many = [0; 256];
-    random(rt, "256 small", &mut many, Kind::Small, width)?;
-    random(rt, "256 mixed", &mut many, Kind::Mixed, width)?;
-    random(rt, "256 edges", &mut many, Kind::Edges, width)?;
-    let largest = [LARGEST_BLOCK - HEADER_BYTES - u64::from(width); 250];
-    Case::new("250 largest", &largest, width).run(rt)
-}
-
-fn lists(rt: &impl Print, lists: &[Listed]) -> io::Result<()> {
-    for (name, sizes, width) in lists {
-        Case::new(name, sizes, *width).run(rt)?;
-    }
-    Ok(())
-}
-
 fn main(rt: HostRuntime) -> io::Result<()> {
-    let rt = &rt;
     println!(rt;
-        "The original Rust's answers (refusals 2, 11 and 13: by the scope's table), from compare/run --record"
+        "The original Rust's answers (refusals 2, 11 and 13: by the rules' table), from compare/run --record"
     )?;
-    lists(rt, &WORKED)?;
-    lists(rt, &NO_WIDTH)?;
-    short_lists(rt)?;
+    let mut runner = Runner::new(&rt);
+    runner.run_lists(&WORKED)?;
+    runner.run_lists(&NO_WIDTH)?;
+    runner.run_short()?;
     for width in [2, 4, 8] {
-        long(rt, width)?;
+        runner.run_long(width)?;
     }
     Ok(())
 }

@@ -140,7 +140,7 @@ impl<'a> Case<'a> {
         ensures { result ≡ object_of self.now.head.now self.now.file.now self.now.id.now }
     {
         self.header()?
-            .read_managed_object(self.file, self.id, self.head[READ_SIZE])
+            .read_managed_object_unchecked(self.file, self.id, self.head[READ_SIZE])
     }
 
     // Whether this answer is the recorded one.

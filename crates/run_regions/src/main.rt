@@ -1,13 +1,14 @@
 //! Writes the regions of the worked heaps, of lists at every width and of one with nested indirect
-//! blocks, and makes calls that are refused. It prints for each what is given, the eight totals or the refusal,
-//! what the two lists hold, and the lookup3 of the lent bytes that are not written; then of a region its lookup3,
-//! its first bytes and its root. The file stdout beside src/ holds what the original answers.
+//! blocks, and makes calls that are refused. It prints for each what is given, the eight totals or
+//! the refusal, what the two lists hold, and the lookup3 of the lent bytes that are not written;
+//! then of a region its lookup3, its first bytes and its root. The file stdout beside src/ holds
+//! what the original answers.
 #![tactic(auto)]
 
 use checksum::jenkins_lookup3;
 use fractal_heap_write::serialize;
-use plan::ManagedPlan;
 use plan::report::put_planned;
+use plan::{ManagedPlan, TOTAL_COUNT};
 use refusals::FormatError;
 use region_blocks::Site;
 use run_report::worked::{Listed, NO_WIDTH, WORKED};
@@ -15,7 +16,8 @@ use run_report::{Answered, Heading, Hex, List, Lists, fill, following, joined};
 use std::alloc::{AllocError, Global};
 use std::{fmt, io};
 
-// What a place of a lent list, and a byte of a lent region, holds before a call, so that it shows what is not written.
+// What a place of a lent list, and a byte of a lent region, holds before a call, so that it shows
+// what is not written.
 const MARK: u64 = 42_405;
 
 const MARKED_BYTE: u8 = 0xA5;
@@ -33,8 +35,9 @@ const UNDEFINED: u64 = 0xFFFF_FFFF_FFFF_FFFF;
 // A name, a width, a region's address and a heap header's.
 type Addressed = (&'static str, u8, u64, u64);
 
-// Around the undefined address of each width, at which a region of 2,062 bytes and five addresses may end; the region's
-// end in the last call at width 8 would wrap. Then addresses that are 0 in as many bytes as the width has.
+// Around the undefined address of each width, at which a region of 2,062 bytes and five addresses
+// may end; the region's end in the last call at width 8 would wrap. Then addresses that are 0 in as
+// many bytes as the width has.
 const ADDRESSES: [Addressed; 19] = [
     ("last region address", 2, 0xF7E7, 0),
     ("region past the end", 2, 0xF7E8, 0),
@@ -81,8 +84,8 @@ struct Case<'a> {
 }
 
 impl<'a> Case<'a> {
-    // All the bytes that the sizes ask for, more places and region bytes than are needed, and addresses whose bytes
-    // differ, as much of them as the width holds.
+    // All the bytes that the sizes ask for, more places and region bytes than are needed, and
+    // addresses whose bytes differ, as much of them as the width holds.
     fn new(name: &'a str, sizes: &'a [u64], width: u8) -> Self {
         Case {
             name,
@@ -163,7 +166,7 @@ struct Outcome<'a> {
 
 impl<'a> fmt::Display for Outcome<'a> {
     fn fmt<W: fmt::Write>(&self, f: &mut fmt::Formatter<W>) -> fmt::Result {
-        let mut numbers = [0u64; 8];
+        let mut numbers = [0u64; TOTAL_COUNT];
         let refusal = put_planned(&mut numbers, self.planned);
         let answered = Answered {
             refusal,
@@ -205,7 +208,8 @@ struct Region<'a> {
 }
 
 impl<'a> Region<'a> {
-    // The bytes of a root that is an indirect block. It is the last of these, and the direct blocks follow it.
+    // The bytes of a root that is an indirect block. It is the last of these, and the direct blocks
+    // follow it.
     fn root(&self) -> &'a [u8] {
         let indirect_bytes = self
             .plan
@@ -232,8 +236,8 @@ impl<'a> fmt::Display for Region<'a> {
     }
 }
 
-// Where the cases are printed, and what they are lent: the objects' bytes, and the two lists and the region that a call
-// writes in.
+// Where the cases are printed, and what they are lent: the objects' bytes, and the two lists and
+// the region that a call writes in.
 #[derive(Drop)]
 struct Runner<'a, R: Print> {
     rt: &'a R,
@@ -256,7 +260,8 @@ impl<'a, R: Print> Runner<'a, R> {
         })
     }
 
-    // Marks what is lent, lends as much of it as the case says, writes, and prints what is given and what comes of it.
+    // Marks what is lent, lends as much of it as the case says, writes, and prints what is given
+    // and what comes of it.
     fn run(&mut self, case: &Case<'_>) -> io::Result<()> {
         self.offsets.fill(MARK);
         self.blocks.fill(MARK);
@@ -293,8 +298,8 @@ impl<'a, R: Print> Runner<'a, R> {
         Ok(())
     }
 
-    // Of 40 sizes at width 8: four that fill row 7, then small ones, which an indirect block of row 8 takes, and
-    // one at the end for which only that of row 9 has room.
+    // Of 40 sizes at width 8: four that fill row 7, then small ones, which an indirect block of row
+    // 8 takes, and one at the end for which only that of row 9 has room.
     fn run_nested(&mut self) -> io::Result<()> {
         let mut sizes = [0u64; 40];
         let mut x: u32 = 1;
@@ -309,7 +314,8 @@ impl<'a, R: Print> Runner<'a, R> {
         self.run(&Case::new("40 nested", &sizes, 8))
     }
 
-    // Lists that are too short, and lists that just hold the plan. Without objects one block is needed.
+    // Lists that are too short, and lists that just hold the plan. Without objects one block is
+    // needed.
     fn run_places(&mut self) -> io::Result<()> {
         let three = Case::new("three", &[10, 20, 30], 8);
         let none = Case::new("none", &[], 8);
@@ -396,7 +402,7 @@ impl<'a, R: Print> Runner<'a, R> {
 
 fn main(rt: HostRuntime) -> io::Result<()> {
     println!(rt;
-        "The original Rust's answers (refusals: by the scope's table), from compare/run --record"
+        "The original Rust's answers (refusals: by the rules' table), from compare/run --record"
     )?;
     let mut runner = Runner::new(rt.alloc(), &rt)?;
     runner.run_lists(&WORKED)?;

@@ -1,6 +1,6 @@
-//! What the programs print, as values that write themselves: bytes, lists and answers; and what several of them work
-//! on, lists of sizes and pseudo-random bytes. It serves the programs alone: what is printed is held to a recorded
-//! file.
+//! What the programs print, as values that write themselves: bytes, lists and answers; and what
+//! several of them work on, lists of sizes and pseudo-random bytes. It serves the programs alone:
+//! what is printed is held to a recorded file.
 #![tactic(auto)]
 
 pub mod worked;
@@ -40,7 +40,8 @@ impl<'a> fmt::Display for Spaced<'a> {
     }
 }
 
-/// A list of which the first `known` numbers are written, at most six, and then the sum of all its places.
+/// A list of which the first `known` numbers are written, at most six, and then the sum of all its
+/// places.
 #[derive(Clone, Copy)]
 pub struct List<'a> {
     pub numbers: &'a [u64],

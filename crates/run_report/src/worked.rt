@@ -1,10 +1,11 @@
-//! The lists that planning and writing both go through: a name, the objects' sizes and the offset size.
+//! The lists that planning and writing both go through: a name, the objects' sizes and the offset
+//! size.
 //!
-//! A block of 1,024 bytes holds 1,002 bytes of objects at width 8, 1,006 at width 4 and 1,008 at width 2; one of
-//! 65,536, the largest, holds 65,514, 65,518 and 65,520.
+//! A block of 1,024 bytes holds 1,002 bytes of objects at width 8, 1,006 at width 4 and 1,008 at
+//! width 2; one of 65,536, the largest, holds 65,514, 65,518 and 65,520.
 
-/// Bytes of the first blocks and of the largest, and of a block's header without the address in it: by the rules, and
-/// not by the code that the programs run.
+/// Bytes of the first blocks and of the largest, and of a block's header without the address in it:
+/// by the rules, and not by the code that the programs run.
 pub const FIRST_BLOCK: u64 = 1_024;
 
 pub const LARGEST_BLOCK: u64 = 65_536;
@@ -14,8 +15,8 @@ pub const HEADER_BYTES: u64 = 14;
 /// A name, the objects' sizes and the offset size.
 pub type Listed = (&'static str, &'static [u64], u8);
 
-/// The worked heaps 1 to 7 and one whose small object would fit a slot that is passed; then at widths 2 and 4 the same
-/// kinds, and lists around what the largest block holds.
+/// The worked heaps 1 to 7 and one whose small object would fit a slot that is passed; then at
+/// widths 2 and 4 the same kinds, and lists around what the largest block holds.
 pub const WORKED: [Listed; 31] = [
     ("heap 1", &[], 8),
     ("heap 2", &[1_002], 8),

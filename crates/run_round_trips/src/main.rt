@@ -292,7 +292,7 @@ fn report_refusal(rt: &impl Print, refusal: FormatError) -> io::Result<()> {
 
 fn main(rt: HostRuntime) -> io::Result<()> {
     println!(rt;
-        "The original Rust's answers (IDs and refusals of writing: by the scope's words), from compare/run --record"
+        "The original Rust's answers (IDs and refusals of writing: by the rules' words), from compare/run --record"
     )?;
     let mut objects = vec![in rt.alloc(); 0u8; OBJECTS]?;
     fill(&mut objects);

@@ -1,7 +1,7 @@
-//! Runs the published vectors of lookup3.c and the recorded answers of the original Rust: checksums of
-//! every length from 0 to 200 and of some long ones, the mixes of states and the inverses behind and before
-//! them, the published texts' states walked back to the first, fields read and stored at every kind of place
-//! and width. The file stdout beside src/ holds what the original answers.
+//! Runs the published vectors of lookup3.c and the recorded answers of the original Rust: checksums
+//! of every length from 0 to 200 and of some long ones, the mixes of states and the inverses behind
+//! and before them, the published texts' states walked back to the first, fields read and stored at
+//! every kind of place and width. The file stdout beside src/ holds what the original answers.
 #![tactic(auto)]
 
 use checksum::jenkins_lookup3;
@@ -12,6 +12,7 @@ use fields::stores::{write_offset, write_undef_offset};
 use fields::{read_length, read_offset};
 use refusals::{Answer, Reported};
 use run_report::{Hex, fill};
+use std::alloc::{AllocError, Global};
 use std::{fmt, io};
 
 const WIDTHS: [u8; 10] = [0, 1, 2, 3, 4, 5, 8, 9, 128, 255];
@@ -37,6 +38,11 @@ const ADDRESSES: [u64; 7] = [
     0xFFFF_FFFF_FFFF_FFFE,
     0xFFFF_FFFF_FFFF_FFFF,
 ];
+
+// The bytes that fields are read from and stored in, and what each holds before a store.
+const FIELD_BYTES: usize = 18;
+
+const MARKED_BYTE: u8 = 0xA5;
 
 const LONG: [usize; 6] = [255, 1000, 4096, 10_007, 65_535, 65_536];
 
@@ -99,25 +105,6 @@ impl fmt::Display for Words {
     }
 }
 
-// A state's mix and final mix, and twice the state itself of each: by the inverse behind it, and before it.
-fn undone(rt: &impl Print, s: State) -> io::Result<()> {
-    let (mixed, ended) = (mix(s), final_mix(s));
-    println!(rt;
-        "mix of {} {} undone {} {}",
-        Words(s),
-        Words(mixed),
-        Words(unmix(mixed)),
-        Words(mix(unmix(s)))
-    )?;
-    println!(rt;
-        "final mix of {} {} undone {} {}",
-        Words(s),
-        Words(ended),
-        Words(unfinal_mix(ended)),
-        Words(final_mix(unfinal_mix(s)))
-    )
-}
-
 // The i-th 12 bytes, or those that are left, as three words.
 fn words_at(bytes: &[u8], i: usize) -> State {
     let mut group = [0u8; 12];
@@ -148,116 +135,161 @@ fn take(s: State, t: State) -> State {
     }
 }
 
-// The states of a text's run, from its last back to its first.
-fn walked_back(rt: &impl Print, text: &str) -> io::Result<()> {
-    let bytes = text.as_bytes();
-    let first = 0xDEAD_BEEFu32.wrapping_add((bytes.len() as u64 % 0x1_0000_0000) as u32);
-    let mut s = State {
-        a: first,
-        b: first,
-        c: first,
-    };
-    if bytes.is_empty() {
-        return println!(rt; "back {text:?} {}", Words(s));
+// Where the answers are printed, and the bytes that they are of.
+#[derive(Drop)]
+struct Runner<'a, R: Print> {
+    rt: &'a R,
+    bytes: Vec<u8>,
+}
+
+impl<'a, R: Print> Runner<'a, R> {
+    fn new(alloc: Global, rt: &'a R) -> Result<Self, AllocError> {
+        let mut bytes = vec![in alloc; 0u8; 65_536]?;
+        fill(&mut bytes);
+        Ok(Runner { rt, bytes })
     }
-    let groups = (bytes.len() - 1) / 12;
-    for i in 0..groups {
-        s = mix(add(s, words_at(bytes, i)));
+
+    fn run_published(&self) -> io::Result<()> {
+        let rt = self.rt;
+        for text in PUBLISHED {
+            println!(rt; "lookup3 {text:?} {:08x}", jenkins_lookup3(text.as_bytes()))?;
+        }
+        Ok(())
     }
-    s = final_mix(add(s, words_at(bytes, groups)));
-    println!(rt; "back {text:?} {}", Words(s))?;
-    s = take(unfinal_mix(s), words_at(bytes, groups));
-    println!(rt; "back {text:?} {}", Words(s))?;
-    for i in 0..groups {
-        s = take(unmix(s), words_at(bytes, groups - 1 - i));
+
+    // The checksum of the first `n` bytes.
+    fn run_front(&self, n: usize) -> io::Result<()> {
+        let rt = self.rt;
+        match self.bytes.get(..n) {
+            Some(front) => println!(rt; "lookup3 {n} {:08x}", jenkins_lookup3(front)),
+            None => Ok(()),
+        }
+    }
+
+    fn run_fronts(&self) -> io::Result<()> {
+        for n in 0..=200 {
+            self.run_front(n)?;
+        }
+        for n in LONG {
+            self.run_front(n)?;
+        }
+        Ok(())
+    }
+
+    // Of each state its mix and final mix, and twice the state itself of each: by the inverse
+    // behind it, and before it.
+    fn run_states(&self) -> io::Result<()> {
+        let rt = self.rt;
+        for s in STATES {
+            let (mixed, ended) = (mix(s), final_mix(s));
+            println!(rt;
+                "mix of {} {} undone {} {}",
+                Words(s),
+                Words(mixed),
+                Words(unmix(mixed)),
+                Words(mix(unmix(s)))
+            )?;
+            println!(rt;
+                "final mix of {} {} undone {} {}",
+                Words(s),
+                Words(ended),
+                Words(unfinal_mix(ended)),
+                Words(final_mix(unfinal_mix(s)))
+            )?;
+        }
+        Ok(())
+    }
+
+    // The states of a text, from its last back to its first.
+    fn run_back(&self, text: &str) -> io::Result<()> {
+        let rt = self.rt;
+        let bytes = text.as_bytes();
+        let first = 0xDEAD_BEEFu32.wrapping_add((bytes.len() as u64 % 0x1_0000_0000) as u32);
+        let mut s = State {
+            a: first,
+            b: first,
+            c: first,
+        };
+        if bytes.is_empty() {
+            return println!(rt; "back {text:?} {}", Words(s));
+        }
+        let groups = (bytes.len() - 1) / 12;
+        for i in 0..groups {
+            s = mix(add(s, words_at(bytes, i)));
+        }
+        s = final_mix(add(s, words_at(bytes, groups)));
         println!(rt; "back {text:?} {}", Words(s))?;
-    }
-    Ok(())
-}
-
-fn published(rt: &impl Print) -> io::Result<()> {
-    for text in PUBLISHED {
-        println!(rt; "lookup3 {text:?} {:08x}", jenkins_lookup3(text.as_bytes()))?;
-    }
-    Ok(())
-}
-
-// The checksum of the first `n` bytes.
-fn recorded(rt: &impl Print, bytes: &[u8], n: usize) -> io::Result<()> {
-    match bytes.get(..n) {
-        Some(front) => println!(rt; "lookup3 {n} {:08x}", jenkins_lookup3(front)),
-        None => Ok(()),
-    }
-}
-
-fn read(rt: &impl Print, bytes: &[u8], pos: u64, width: u8) -> io::Result<()> {
-    let at = pos as usize;
-    let offset = InHex(read_offset(bytes, at, width).answer());
-    let length = InHex(read_length(bytes, at, width).answer());
-    println!(rt; "offset {pos:x} {width} {offset}\nlength {pos:x} {width} {length}")
-}
-
-// Stores into bytes that are marked.
-fn store(rt: &impl Print, pos: u64, width: u8) -> io::Result<()> {
-    let mut bytes = [0xA5u8; 18];
-    let stored = write_offset(&mut bytes, pos as usize, 0x0123_4567_89AB_CDEF, width);
-    println!(rt;
-        "store {pos:x} {width} {} {}",
-        InHex(stored.answer()),
-        Hex { bytes: &bytes }
-    )?;
-    let mut bytes = [0xA5u8; 18];
-    let stored = write_undef_offset(&mut bytes, pos as usize, width);
-    println!(rt;
-        "undefined {pos:x} {width} {} {}",
-        InHex(stored.answer()),
-        Hex { bytes: &bytes }
-    )
-}
-
-// Fields in these bytes.
-fn fields(rt: &impl Print, bytes: &[u8]) -> io::Result<()> {
-    for pos in PLACES {
-        for width in WIDTHS {
-            read(rt, bytes, pos, width)?;
-            store(rt, pos, width)?;
+        s = take(unfinal_mix(s), words_at(bytes, groups));
+        println!(rt; "back {text:?} {}", Words(s))?;
+        for i in 0..groups {
+            s = take(unmix(s), words_at(bytes, groups - 1 - i));
+            println!(rt; "back {text:?} {}", Words(s))?;
         }
+        Ok(())
     }
-    Ok(())
-}
 
-fn undefined(rt: &impl Print) -> io::Result<()> {
-    for addr in ADDRESSES {
-        for width in WIDTHS {
-            let said = u32::from(is_undefined_addr(addr, width));
-            println!(rt; "is undefined {addr:x} {width} {said}")?;
-        }
+    fn run_read(&self, bytes: &[u8], pos: u64, width: u8) -> io::Result<()> {
+        let rt = self.rt;
+        let at = pos as usize;
+        let offset = InHex(read_offset(bytes, at, width).answer());
+        let length = InHex(read_length(bytes, at, width).answer());
+        println!(rt; "offset {pos:x} {width} {offset}\nlength {pos:x} {width} {length}")
     }
-    Ok(())
+
+    // Stores into bytes that are marked.
+    fn run_store(&self, pos: u64, width: u8) -> io::Result<()> {
+        let rt = self.rt;
+        let mut bytes = [MARKED_BYTE; FIELD_BYTES];
+        let stored = write_offset(&mut bytes, pos as usize, 0x0123_4567_89AB_CDEF, width);
+        println!(rt;
+            "store {pos:x} {width} {} {}",
+            InHex(stored.answer()),
+            Hex { bytes: &bytes }
+        )?;
+        let mut bytes = [MARKED_BYTE; FIELD_BYTES];
+        let stored = write_undef_offset(&mut bytes, pos as usize, width);
+        println!(rt;
+            "undefined {pos:x} {width} {} {}",
+            InHex(stored.answer()),
+            Hex { bytes: &bytes }
+        )
+    }
+
+    // Fields in the first bytes.
+    fn run_fields(&self) -> io::Result<()> {
+        let front = &self.bytes[..FIELD_BYTES.min(self.bytes.len())];
+        for pos in PLACES {
+            for width in WIDTHS {
+                self.run_read(front, pos, width)?;
+                self.run_store(pos, width)?;
+            }
+        }
+        Ok(())
+    }
+
+    fn run_undefined(&self) -> io::Result<()> {
+        let rt = self.rt;
+        for addr in ADDRESSES {
+            for width in WIDTHS {
+                let said = u32::from(is_undefined_addr(addr, width));
+                println!(rt; "is undefined {addr:x} {width} {said}")?;
+            }
+        }
+        Ok(())
+    }
 }
 
 fn main(rt: HostRuntime) -> io::Result<()> {
-    let rt = &rt;
     println!(rt;
         "The original Rust's answers (stores: by the facts of docs/DECISIONS.md), from compare/run --record"
     )?;
-    published(rt)?;
-    let mut bytes = vec![in rt.alloc(); 0u8; 65_536]?;
-    fill(&mut bytes);
-    for n in 0..=200 {
-        recorded(rt, &bytes, n)?;
-    }
-    for n in LONG {
-        recorded(rt, &bytes, n)?;
-    }
-    for s in STATES {
-        undone(rt, s)?;
-    }
+    let runner = Runner::new(rt.alloc(), &rt)?;
+    runner.run_published()?;
+    runner.run_fronts()?;
+    runner.run_states()?;
     for text in PUBLISHED {
-        walked_back(rt, text)?;
+        runner.run_back(text)?;
     }
-    if let Some(front) = bytes.get(..18) {
-        fields(rt, front)?;
-    }
-    undefined(rt)
+    runner.run_fields()?;
+    runner.run_undefined()
 }

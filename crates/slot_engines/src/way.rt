@@ -1,7 +1,7 @@
 //! The indirect blocks on the way to a slot.
-ghost use Rattle.std.specs.Prelude.{◌≡◌};
+ghost use Rattle.std.specs.Prelude.{◌≡◌, ◌≤◌, IfOk, OnOk, None};
 ghost use Rattle.table.specs.Table.{fixed};
-ghost use Rattle.slot_engines.specs.Way.{entered_in};
+ghost use Rattle.slot_engines.specs.Way.{entered_in, WayLeads, WaysLead};
 
 use refusals::FormatError;
 use table::slot_places::table_slot;
@@ -17,9 +17,12 @@ pub struct EnteredBlock {
 }
 
 /// The indirect block that is entered at a place, counted from 0, on the way from the root to the slot of a heap
-/// offset; none where the way is shorter. An offset at or above 2^40 is refused by `OutsideHeap`.
+/// offset; none where the way is shorter. By the format each lies inside the one before, the last has the slot in one of
+/// its direct rows, and there are at most seven. An offset at or above 2^40 is refused by `OutsideHeap`.
 pub fn entered(offset: u64, place: u64) -> Result<Option<EnteredBlock>, FormatError>
-    ensures { result ≡ entered_in fixed offset place }
+    ensures value { result ≡ entered_in fixed offset place }
+    ensures leads { OnOk result (WayLeads fixed offset) }
+    ensures most { 7 ≤ place → IfOk result (λ block. block ≡ None) }
 {
     if offset >= MAX_HEAP_SPACE {
         return Err(FormatError::OutsideHeap(offset));
@@ -44,3 +47,8 @@ pub fn entered(offset: u64, place: u64) -> Result<Option<EnteredBlock>, FormatEr
         left -= 1;
     }
 }
+
+/// A law: at any table the way to an offset's slot is the format's.
+pub fn ways_lead_to_their_slots()
+    ensures { WaysLead }
+{}

@@ -6,53 +6,44 @@ use Rattle.std.proofs.lemmas.Bool.{cases_eq, cases_lt}
 use Rattle.std.proofs.lemmas.Bool.Decides.{nat_tests}
 use Rattle.std.specs.Prelude.{nat_eq, nat_le, nat_lt, slice_index, if◌then◌else◌}
 use Rattle.numbers.specs.Sums.{sum}
-use Rattle.table.specs.Table.{Table, row_bits, row_offset}
+use Rattle.table.specs.Table.{Table, row_offset}
 use Rattle.table.specs.Slots.{Direct, own, inner}
-use Rattle.table.specs.declared.Slot.{Slot}
 use Rattle.table_laws.specs.Laws.{IsTable}
 use Rattle.table_laws.specs.Count.{count}
 use Rattle.table_laws.proofs.Counting.{count-ext, count_none, count-or, count-interval}
-use Rattle.slot_walk.specs.Walk.{sizes, slots_from, of_size, of_sizes, bytes_of}
-use Rattle.slot_walk.specs.Counting.{tally}
-use Rattle.slot_walk.specs.Laws.{OfSize, SlotsCounted, CountsFill}
+use Rattle.slot_walk.specs.Walk.{sizes, of_size, of_sizes, bytes_of}
+use Rattle.slot_walk.specs.Laws.{SlotsOfSize, SlotsCounted, CountsFill}
 use Rattle.slot_walk.proofs.Rows.{pow-same}
 use Rattle.slot_walk.proofs.Sums.{sizes-sum}
 use Rattle.slot_walk.proofs.Listing.{Among, now, after, among-direct, direct-is-among, some-each}
 
-pub tally-append : (z : ℕ) (xs ys : List ℕ) → tally z (xs ++ ys) ≡ tally z xs + tally z ys
-unfolding tally
-tally-append z [] ys = omega arith
-tally-append z (x ∷ xs) ys = grind (arith, nat_tests, tally-append z xs ys)
+pub of-size-append : (z : ℕ) (xs ys : List ℕ) → of_size z (xs ++ ys) ≡ of_size z xs + of_size z ys
+unfolding of_size
+of-size-append z [] ys = omega arith
+of-size-append z (x ∷ xs) ys = grind (arith, nat_tests, of-size-append z xs ys)
 
-pub tally-one : (y z : ℕ) → y ≡ z → tally z (y ∷ []) ≡ 1
-unfolding tally
-tally-one y z e = grind (arith, nat_tests)
+pub of-size-one : (y z : ℕ) → y ≡ z → of_size z (y ∷ []) ≡ 1
+unfolding of_size
+of-size-one y z e = grind (arith, nat_tests)
 
-pub tally-none : (y z : ℕ) → (y ≡ z → ⊥) → tally z (y ∷ []) ≡ 0
-unfolding tally
-tally-none y z e = grind (arith, nat_tests)
+pub of-size-none : (y z : ℕ) → (y ≡ z → ⊥) → of_size z (y ∷ []) ≡ 0
+unfolding of_size
+of-size-none y z e = grind (arith, nat_tests)
 
 -- slots of z bytes take at least as many bytes as there are slots
-pub tally-le : (z : ℕ) (xs : List ℕ) → 0 < z → tally z xs ≤ sum xs
-unfolding tally sum
-tally-le z [] p = zero-le
-tally-le z (x ∷ xs) p = grind (arith, nat_tests, tally-le z xs p)
-
--- counted over slots, or over sizes
-pub of-size-is : (z a : ℕ) (ys : List ℕ) → of_size z (slots_from a ys) ≡ tally z ys
-unfolding of_size slots_from tally
-of-size-is z a [] = refl
-of-size-is z a (y ∷ ys) =
-    ap (λ (n : ℕ). if nat_eq y z then suc n else n) (of-size-is z (a + y) ys)
+pub of-size-le : (z : ℕ) (xs : List ℕ) → 0 < z → of_size z xs ≤ sum xs
+unfolding of_size sum
+of-size-le z [] p = zero-le
+of-size-le z (x ∷ xs) p = grind (arith, nat_tests, of-size-le z xs p)
 
 -- ---- the list of counts
 
-pub of-sizes-length : (b k : ℕ) (ss : List Slot) → length (of_sizes b k ss) ≡ k
+pub of-sizes-length : (b k : ℕ) (ss : List ℕ) → length (of_sizes b k ss) ≡ k
 unfolding of_sizes
 of-sizes-length b zero ss = refl
 of-sizes-length b (suc k) ss = ap suc (of-sizes-length (suc b) k ss)
 
-pub of-sizes-at : (b k i : ℕ) (ss : List Slot) → i < k → slice_index (of_sizes b k ss) i ≡ of_size (2 ^ (b + i)) ss
+pub of-sizes-at : (b k i : ℕ) (ss : List ℕ) → i < k → slice_index (of_sizes b k ss) i ≡ of_size (2 ^ (b + i)) ss
 unfolding of_sizes
 of-sizes-at b zero i ss l = absurd (omega arith)
 of-sizes-at b (suc k) zero ss l = ap (λ (y : ℕ). of_size (2 ^ y) ss) (sym (add-zero b))
@@ -62,17 +53,17 @@ of-sizes-at b (suc k) (suc i) ss l =
 
 -- ---- counts times sizes
 
-module _ (s : Slot) (ss : List Slot) where
-  other-size : (b j : ℕ) → s.size ≡ 2 ^ j → (j ≡ b → ⊥) → of_size (2 ^ b) (s ∷ ss) ≡ of_size (2 ^ b) ss
+module _ (s : ℕ) (ss : List ℕ) where
+  other-size : (b j : ℕ) → s ≡ 2 ^ j → (j ≡ b → ⊥) → of_size (2 ^ b) (s ∷ ss) ≡ of_size (2 ^ b) ss
   unfolding of_size
-  other-size b j e n = let m : s.size ≡ 2 ^ b → ⊥ = λ q. n (pow-same j b (sym e ∙ q)) in grind (arith, nat_tests)
+  other-size b j e n = let m : s ≡ 2 ^ b → ⊥ = λ q. n (pow-same j b (sym e ∙ q)) in grind (arith, nat_tests)
 
-  same_size : (b : ℕ) → s.size ≡ 2 ^ b → of_size (2 ^ b) (s ∷ ss) ≡ suc (of_size (2 ^ b) ss)
+  same_size : (b : ℕ) → s ≡ 2 ^ b → of_size (2 ^ b) (s ∷ ss) ≡ suc (of_size (2 ^ b) ss)
   unfolding of_size
   same_size b e = grind (arith, nat_tests)
 
   -- a slot smaller than all the sizes counts in none
-  bytes_small : (b k j : ℕ) → s.size ≡ 2 ^ j → j < b → bytes_of b (of_sizes b k (s ∷ ss)) ≡ bytes_of b (of_sizes b k ss)
+  bytes_small : (b k j : ℕ) → s ≡ 2 ^ j → j < b → bytes_of b (of_sizes b k (s ∷ ss)) ≡ bytes_of b (of_sizes b k ss)
   unfolding bytes_of of_sizes
   bytes_small b zero j e l = refl
   bytes_small b (suc k) j e l =
@@ -80,8 +71,8 @@ module _ (s : Slot) (ss : List Slot) where
       omega (arith, bytes_small (suc b) k j e (omega arith))
 
   -- one of the sizes counts once
-  bytes_one : (b k j : ℕ) → s.size ≡ 2 ^ j → b ≤ j → j < b + k
-      → bytes_of b (of_sizes b k (s ∷ ss)) ≡ s.size + bytes_of b (of_sizes b k ss)
+  bytes_one : (b k j : ℕ) → s ≡ 2 ^ j → b ≤ j → j < b + k
+      → bytes_of b (of_sizes b k (s ∷ ss)) ≡ s + bytes_of b (of_sizes b k ss)
   unfolding bytes_of of_sizes
   bytes_one b zero j e l u = absurd (omega arith)
   bytes_one b (suc k) j e l u =
@@ -90,7 +81,7 @@ module _ (s : Slot) (ss : List Slot) where
             let d = ap (λ (y : ℕ). y * 2 ^ b) (other-size b j e (λ q. omega arith)) in
             omega (arith, bytes_one (suc b) k j e m (omega arith))
         | inr m ↦
-            let p : s.size ≡ 2 ^ b = e ∙ ap (λ (y : ℕ). 2 ^ y) (let q : j ≡ b = omega arith in q) in
+            let p : s ≡ 2 ^ b = e ∙ ap (λ (y : ℕ). 2 ^ y) (let q : j ≡ b = omega arith in q) in
             let d = ap (λ (y : ℕ). y * 2 ^ b) (same_size b p) in
             omega (arith, bytes_small (suc b) k j e (omega arith))
       ]
@@ -108,12 +99,12 @@ bytes-none b zero = refl
 bytes-none b (suc k) = omega (arith, bytes-none (suc b) k)
 
 bytes-all : (b k a : ℕ) (ys : List ℕ) → ((s z : ℕ) → Among s z a ys → Sized b k z)
-    → bytes_of b (of_sizes b k (slots_from a ys)) ≡ sum ys
-unfolding slots_from sum
+    → bytes_of b (of_sizes b k ys) ≡ sum ys
+unfolding sum
 bytes-all b k a [] h = bytes-none b k
 bytes-all b k a (y ∷ ys) h =
     let S = h a y (now refl refl) in
-    bytes_one (record { start = a; size = y }) (slots_from (a + y) ys) b k S.bits S.is S.lo S.hi
+    bytes_one y ys b k S.bits S.is S.lo S.hi
     ∙ ap (λ (v : ℕ). y + v) (bytes-all b k (a + y) ys (λ s z m. h s z (after m)))
 
 direct-sized : (t : Table) (k : ℕ) {n s z : ℕ} → t.direct_bits < t.start_bits + k → Direct t n s z
@@ -169,8 +160,8 @@ first-count z a y n p l =
     ]
 
 starts-count : (z a : ℕ) (ys : List ℕ) → ((s v : ℕ) → Among s v a ys → 0 < v)
-    → count (starts z a ys) (a + sum ys) ≡ tally z ys
-unfolding starts tally sum
+    → count (starts z a ys) (a + sum ys) ≡ of_size z ys
+unfolding starts of_size sum
 starts-count z a [] h = count_none (starts z a []) (a + 0) (λ x u. refl)
 starts-count z a (y ∷ ys) h =
     let p = h a y (now refl refl) in
@@ -191,7 +182,7 @@ module _ (t : Table) (T : IsTable t) (n z : ℕ) where
   back : (s : ℕ) → Direct t n s z → starts z 0 (sizes t n) s ≡ true
   back s D = among-starts 0 (sizes t n) (direct-is-among t T.start_in_direct T.row_in_indirect D)
 
-  of-format : OfSize t n z
+  of-format : SlotsOfSize t n z (of_size z (sizes t n))
   of-format = record {
     test = starts z 0 (sizes t n);
     passes = λ s. (there s, back s);
@@ -200,8 +191,7 @@ module _ (t : Table) (T : IsTable t) (n z : ℕ) where
         count-ext q (starts z 0 (sizes t n)) (row_offset t n)
         (λ x l. same-test (q x) (starts z 0 (sizes t n) x) (λ e. back x ((Q x).0 e)) (λ e. (Q x).1 (there x e)))
         ∙ ap (count (starts z 0 (sizes t n))) (let e : row_offset t n ≡ 0 + sum (sizes t n) = omega arith in e)
-        ∙ starts-count z 0 (sizes t n) (some-each t T.start_in_direct T.row_in_indirect n)
-        ∙ sym (of-size-is z 0 (sizes t n));
+        ∙ starts-count z 0 (sizes t n) (some-each t T.start_in_direct T.row_in_indirect n);
   }
 
 pub slots-counted : SlotsCounted

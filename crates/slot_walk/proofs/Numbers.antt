@@ -1,12 +1,12 @@
 -- What the numbers of a permitted table give.
 use Rattle.std.proofs.Common.{ℕ, ◌≡◌, refl, ◌^◌, ◌≤◌, ◌<◌, arith, pow_mono}
 use Rattle.std.specs.Int.Count.{count_leading_zeros}
-use Rattle.numbers.specs.Numbers.{log2}
 use Rattle.table.specs.Table.{fixed}
-use Rattle.slot_walk.specs.Geometry.{table_of, Permitted}
+use Rattle.table_laws.specs.Laws.{IsTable}
+use Rattle.slot_walk.specs.Geometry.{table_of, IsPermitted}
 use Rattle.slot_walk.specs.declared.geometry.Geometry.{Geometry}
 
-module _ {g : Geometry} (p : Permitted g) where
+module _ {g : Geometry} (p : IsPermitted g) where
   -- a size beside the largest direct block's
   pub deep : (size : ℕ) → g.largest_block < size → 2 ^ (table_of g).direct_bits < size
   deep size l = omega (arith, p.largest)
@@ -25,7 +25,10 @@ pub fixed_table : table_of given ≡ fixed
 unfolding count_leading_zeros
 fixed_table = refl
 
-pub fixed_permitted : Permitted given
+pub fixed-is-table : IsTable fixed
+fixed-is-table = record { start_in_direct = omega arith; row_in_heap = omega arith; row_in_indirect = omega arith }
+
+pub fixed_permitted : IsPermitted given
 unfolding count_leading_zeros
 fixed_permitted = record {
   width = refl;
@@ -33,5 +36,5 @@ fixed_permitted = record {
   largest = refl;
   heap = omega arith;
   most = omega arith;
-  table = record { start_in_direct = omega arith; row_in_heap = omega arith; row_in_indirect = omega arith };
+  table = fixed-is-table;
 }

@@ -1,9 +1,11 @@
 -- Counting along the list of slots, a slot at a time: what is left gives the answer.
 use Rattle.std.proofs.Common.{ℕ, suc, ◌+◌, ◌-◌, ◌^◌, ◌≤◌, ◌<◌, ◌≡◌, refl, sym, ap, ◌∙◌, subst}
-use Rattle.std.proofs.Common.{Bool, true, false, List, [], ◌∷◌, ◌++◌, inl, inr, arith}
+use Rattle.std.proofs.Common.{List, [], ◌∷◌, ◌++◌, inl, inr, arith}
+use Rattle.std.proofs.Math.Nat.{add-zero}
 use Rattle.std.proofs.lemmas.Bool.{cases_lt, lt-ltb, le-ltb}
 use Rattle.std.proofs.lemmas.Bool.Decides.{nat_tests}
-use Rattle.std.specs.Prelude.{Result, Ok, Err, nat_lt, if◌then◌else◌}
+use Rattle.std.specs.Prelude.{Option, Some, None, Result, Ok, Err, IfOk}
+use Rattle.std.specs.Option.{ok_or}
 use Rattle.refusals.specs.declared.FormatError.{FormatError}
 use Rattle.refusals.specs.declared.FormatError.TheVariants.{OutsideHeap}
 use Rattle.numbers.specs.Sums.{sum}
@@ -13,50 +15,31 @@ use Rattle.table.proofs.Rows.{slot-rows}
 use Rattle.table_laws.specs.Laws.{IsTable}
 use Rattle.table_laws.proofs.Format.{heap-span}
 use Rattle.slot_walk.specs.Walk.{slot_sizes, sizes, slots_from}
-use Rattle.slot_walk.specs.Blocks.{Nested, Block}
-use Rattle.slot_walk.specs.Search.{first_past, counted_in, Holds, search, BlockPassed, SlotPassed}
-use Rattle.slot_walk.specs.declared.finding.Step.{Step}
-use Rattle.slot_walk.specs.declared.finding.Step.TheVariants.{Found, Past}
+use Rattle.slot_walk.specs.Blocks.{IsNested, Block}
+use Rattle.slot_walk.specs.Search.{first_past, counted_slot, Holds, BlockSearched, SlotSearched}
 use Rattle.slot_walk.proofs.Sums.{slot-own, slot-block, slot-sum, sizes-sum}
 use Rattle.slot_walk.proofs.Listing.{Among, now, after, among-direct}
-use Rattle.slot_walk.proofs.Walking.{AtRow, InRow, rows_are, walk_end, slot_next, slot_done, direct-bits, deep-bits}
+use Rattle.slot_walk.proofs.Walking.{AtRow, InRow, rows_are, walk_end, slot_next, after_slot, slot_done, direct-bits, deep-bits}
 
 -- ---- the search over a list in two parts
 
 module _ (x : ℕ) (ys : List ℕ) where
-  search-found : (a : ℕ) (xs : List ℕ) (s : Slot) → search x a xs ≡ Found s → search x a (xs ++ ys) ≡ Found s
-  unfolding search
-  search-found a [] s h = absurd cc
-  search-found a (z ∷ zs) s h = grind (arith, nat_tests, search-found (a + z) zs s)
+  first-found : (a : ℕ) (xs : List ℕ) (s : Slot) → first_past x (slots_from a xs) ≡ Some s
+      → first_past x (slots_from a (xs ++ ys)) ≡ Some s
+  unfolding first_past slots_from
+  first-found a [] s h = absurd cc
+  first-found a (z ∷ zs) s h = grind (arith, nat_tests, first-found (a + z) zs s)
 
-  search-past : (a : ℕ) (xs : List ℕ) (e : ℕ) → search x a xs ≡ Past e → search x a (xs ++ ys) ≡ search x e ys
-  unfolding search
-  search-past a [] e h = let z : a ≡ e = cc in ap (λ (k : ℕ). search x k ys) z
-  search-past a (z ∷ zs) e h = grind (arith, nat_tests, search-past (a + z) zs e)
-
-search-end : (x a : ℕ) (xs : List ℕ) (e : ℕ) → search x a xs ≡ Past e → e ≡ a + sum xs
-unfolding search sum
-search-end x a [] e h = let z : a ≡ e = cc in omega arith
-search-end x a (z ∷ zs) e h = grind (arith, nat_tests, search-end x (a + z) zs e)
-
--- the list of sizes gives what the list of slots does
-unfoldable step_slot : ℕ → Step → Result Slot FormatError
-step_slot x (Found s) = Ok s
-step_slot x (Past e) = Err (OutsideHeap x)
-
-first-is : (x a : ℕ) (ys : List ℕ) → first_past x (slots_from a ys) ≡ step_slot x (search x a ys)
-unfolding first_past slots_from search step_slot
-first-is x a [] = refl
-first-is x a (y ∷ ys) = go (nat_lt x (a + y)) (first-is x (a + y) ys)
-  where
-    go : (b : Bool) → first_past x (slots_from (a + y) ys) ≡ step_slot x (search x (a + y) ys)
-        → (if b then Ok (record { start = a; size = y }) else first_past x (slots_from (a + y) ys))
-        ≡ step_slot x (if b then Found (record { start = a; size = y }) else search x (a + y) ys)
-    go true h = refl
-    go false h = h
+  first-passed : (a : ℕ) (xs : List ℕ) → first_past x (slots_from a xs) ≡ None
+      → first_past x (slots_from a (xs ++ ys)) ≡ first_past x (slots_from (a + sum xs) ys)
+  unfolding first_past slots_from sum
+  first-passed a [] h = ap (λ (k : ℕ). first_past x (slots_from k ys)) (sym (add-zero a))
+  first-passed a (z ∷ zs) h =
+      let e : a + (z + sum zs) ≡ a + z + sum zs = omega arith in
+      grind (arith, nat_tests, first-passed (a + z) zs)
 
 -- past the last slot there is none
-none-past : (x a : ℕ) (ys : List ℕ) → a + sum ys ≤ x → first_past x (slots_from a ys) ≡ Err (OutsideHeap x)
+none-past : (x a : ℕ) (ys : List ℕ) → a + sum ys ≤ x → first_past x (slots_from a ys) ≡ None
 unfolding first_past slots_from sum
 none-past x a [] l = refl
 none-past x a (y ∷ ys) l = grind (arith, nat_tests, none-past x (a + y) ys)
@@ -64,7 +47,7 @@ none-past x a (y ∷ ys) l = grind (arith, nat_tests, none-past x (a + y) ys)
 -- an offset that the list reaches is found, in one of its slots
 pub record Hit (x a : ℕ) (zs : List ℕ) : Type 0 where
   pub slot : Slot
-  pub found : first_past x (slots_from a zs) ≡ Ok slot
+  pub found : first_past x (slots_from a zs) ≡ Some slot
   pub among : Among slot.start slot.size a zs
   pub from : slot.start ≤ x
   pub to : x < slot.start + slot.size
@@ -95,38 +78,45 @@ hit x a (z ∷ zs) l u =
 -- ---- what the loops keep: from here on the rest gives the same
 
 pub record Sought (x a here : ℕ) (whole left : List ℕ) : Type 0 where
-  pub same : search x a whole ≡ search x here left
+  pub same : first_past x (slots_from a whole) ≡ first_past x (slots_from here left)
 
 pub sought-all : (x a : ℕ) (whole : List ℕ) → Sought x a a whole whole
 sought-all x a whole = record { same = refl }
 
 module _ {t : Table} {x levels a e : ℕ} where
   -- the block's answer, whatever number of rows fills it
-  passed-by : (B : Block t levels a e) (r : Step) → search x a (sizes t B.rows) ≡ r → BlockPassed t x a e r
-  passed-by B r h = record { is = λ n f. sym h ∙ ap (λ (k : ℕ). search x a (sizes t k)) (rows_are B n f) }
+  searched-by : (B : Block t levels a e) (r : Option Slot) → first_past x (slots_from a (sizes t B.rows)) ≡ r
+      → BlockSearched t x a e r
+  searched-by B r h =
+      record { is = λ n f. sym h ∙ ap (λ (k : ℕ). first_past x (slots_from a (sizes t k))) (rows_are B n f) }
 
   pub all-passed : {here size next : ℕ} → AtRow t (Sought x a here) levels a e here size next → e ≤ here
-      → BlockPassed t x a e (Past here)
-  unfolding search
-  all-passed {here} I l = passed-by I.block (Past here) (walk_end I l).same
+      → BlockSearched t x a e None
+  unfolding first_past slots_from
+  all-passed {here} I l = searched-by I.block None (walk_end I l).same
 
   module _ (g : t.start_bits ≤ t.direct_bits) (w : t.width_bits + t.start_bits ≤ suc t.direct_bits) where
     module _ {from here size next cols : ℕ} (I : InRow t (Sought x a here) levels a e from here size next cols)
-        (some : 0 < cols) {r : Step} (O : SlotPassed t x here size r) where
-      this : r ≡ search x here (slot_sizes t (sizes t) I.row)
+        (some : 0 < cols) {r : Option Slot} (O : SlotSearched t x here size r) where
+      this : r ≡ first_past x (slots_from here (slot_sizes t (sizes t) I.row))
       this = O.is I.row I.size_is
 
-      pub found_here : {s : Slot} → r ≡ Found s → BlockPassed t x a e (Found s)
+      pub found_here : {s : Slot} → r ≡ Some s → BlockSearched t x a e (Some s)
       found_here {s} f =
-          passed-by I.block (Found s)
-          ((slot_next I some).same ∙ search-found x _ here (slot_sizes t (sizes t) I.row) s (sym this ∙ f))
+          searched-by I.block (Some s)
+          ((slot_next I some).same ∙ first-found x (after_slot I some) here (slot_sizes t (sizes t) I.row) s (sym this ∙ f))
 
-      pub passed_here : {y : ℕ} → r ≡ Past y → InRow t (Sought x a y) levels a e from y size next (cols - 1)
-      passed_here {y} f =
-          let q : search x here (slot_sizes t (sizes t) I.row) ≡ Past y = sym this ∙ f in
-          let ye = search-end x here (slot_sizes t (sizes t) I.row) y q in
-          slot_done I some (Sought x a y) y (omega (arith, slot-sum t g w I.row, I.size_is))
-          (λ left S. record { same = S.same ∙ search-past x left here (slot_sizes t (sizes t) I.row) y q })
+      pub passed_here : r ≡ None
+          → InRow t (Sought x a (here + size)) levels a e from (here + size) size next (cols - 1)
+      passed_here f =
+          let fills : here + sum (slot_sizes t (sizes t) I.row) ≡ here + size =
+          omega (arith, slot-sum t g w I.row, I.size_is) in
+          slot_done I some (Sought x a (here + size)) (here + size) refl
+          (λ left S. record {
+            same = S.same
+                ∙ first-passed x left here (slot_sizes t (sizes t) I.row) (sym this ∙ f)
+                ∙ ap (λ (k : ℕ). first_past x (slots_from k left)) fills;
+          })
 
 -- ---- one slot
 
@@ -134,21 +124,27 @@ own-is : (t : Table) (z : ℕ) → z ≤ 2 ^ t.direct_bits → (n : ℕ) → z �
     → slot_sizes t (sizes t) n ≡ z ∷ []
 own-is t z l n e = slot-own t n (direct-bits t z n e l) ∙ sym (ap (λ (k : ℕ). k ∷ []) e)
 
+abbrev past_from : (x a : ℕ) → List ℕ → Option Slot
+past_from x a ys = first_past x (slots_from a ys)
+
 module _ {t : Table} {x a z : ℕ} where
-  pub direct-found : z ≤ 2 ^ t.direct_bits → x < a + z → SlotPassed t x a z (Found (record { start = a; size = z }))
-  unfolding search
-  direct-found l u = record { is = λ n e. sym (ap (search x a) (own-is t z l n e) ∙ rw (lt-ltb x (a + z) u, search)) }
+  pub direct-found : z ≤ 2 ^ t.direct_bits → x < a + z
+      → SlotSearched t x a z (Some (record { start = a; size = z }))
+  unfolding first_past slots_from
+  direct-found l u =
+      record { is = λ n e. sym (ap (past_from x a) (own-is t z l n e) ∙ rw (lt-ltb x (a + z) u, first_past)) }
 
-  pub direct-passed : z ≤ 2 ^ t.direct_bits → a + z ≤ x → SlotPassed t x a z (Past (a + z))
-  unfolding search
-  direct-passed l u = record { is = λ n e. sym (ap (search x a) (own-is t z l n e) ∙ rw (le-ltb x (a + z) u, search)) }
+  pub direct-passed : z ≤ 2 ^ t.direct_bits → a + z ≤ x → SlotSearched t x a z None
+  unfolding first_past slots_from
+  direct-passed l u =
+      record { is = λ n e. sym (ap (past_from x a) (own-is t z l n e) ∙ rw (le-ltb x (a + z) u, first_past)) }
 
-  pub block-passed : t.start_bits ≤ t.direct_bits → t.width_bits + t.start_bits ≤ suc t.direct_bits
-      → 2 ^ t.direct_bits < z → {r : Step} → BlockPassed t x a (a + z) r → SlotPassed t x a z r
-  block-passed g w d P = record {
+  pub block-searched : t.start_bits ≤ t.direct_bits → t.width_bits + t.start_bits ≤ suc t.direct_bits
+      → 2 ^ t.direct_bits < z → {r : Option Slot} → BlockSearched t x a (a + z) r → SlotSearched t x a z r
+  block-searched g w d P = record {
     is = λ n e.
         let b = deep-bits t z n e d in
-        P.is (n - t.width_bits) (omega (arith, slot-rows t n g w b)) ∙ sym (ap (search x a) (slot-block t n b));
+        P.is (n - t.width_bits) (omega (arith, slot-rows t n g w b)) ∙ sym (ap (past_from x a) (slot-block t n b));
   }
 
 -- ---- the whole heap
@@ -156,7 +152,7 @@ module _ {t : Table} {x a z : ℕ} where
 -- an offset in the heap is found, in a slot of the format
 pub record Counted (t : Table) (x : ℕ) : Type 0 where
   pub slot : Slot
-  pub counted : counted_in t x ≡ Ok slot
+  pub counted : counted_slot t x ≡ Ok slot
   pub holds : Holds t x slot
 
 module _ {t : Table} (T : IsTable t) where
@@ -168,34 +164,30 @@ module _ {t : Table} (T : IsTable t) where
       let h = hit x 0 (sizes t (max_rows t)) (omega arith) (omega (arith, heap-sum)) in
       record {
         slot = h.slot;
-        counted = h.found;
+        counted = ap (λ (r : Option Slot). ok_or r (OutsideHeap x)) h.found;
         holds = record { direct = among-direct t T.start_in_direct T.row_in_indirect (max_rows t) h.among; from = h.from; to = h.to };
       }
 
-  pub outside : (x : ℕ) → 2 ^ t.heap_bits ≤ x → counted_in t x ≡ Err (OutsideHeap x)
-  outside x l = none-past x 0 (sizes t (max_rows t)) (omega (arith, heap-sum))
+  pub outside : (x : ℕ) → 2 ^ t.heap_bits ≤ x → counted_slot t x ≡ Err (OutsideHeap x)
+  outside x l =
+      ap (λ (r : Option Slot). ok_or r (OutsideHeap x)) (none-past x 0 (sizes t (max_rows t)) (omega (arith, heap-sum)))
 
   module _ {e : ℕ} (q : e ≡ 2 ^ t.heap_bits) where
     -- the whole heap is a block
-    pub heap-block : {levels : ℕ} → Nested t levels (max_rows t) → Block t levels 0 e
-    heap-block N = record { rows = max_rows t; ends = omega (arith, heap-span t T.row_in_heap); top = omega arith; nested = N }
+    pub heap-block : {levels : ℕ} → IsNested t levels (max_rows t) → Block t levels 0 e
+    heap-block N = record { rows = max_rows t; ends = omega (arith, heap-span t T.row_in_heap); in_heap = omega arith; nested = N }
 
-    pub heap-found : {x : ℕ} {r : Step} → BlockPassed t x 0 e r → {s : Slot} → r ≡ Found s → Ok s ≡ counted_in t x
-    unfolding step_slot
-    heap-found {x} P {s} f =
+    pub heap-searched : {x : ℕ} {r : Option Slot} → BlockSearched t x 0 e r
+        → ok_or r (OutsideHeap x) ≡ counted_slot t x
+    heap-searched {x} P =
         let z : e ≡ 0 + row_offset t (max_rows t) = omega (arith, heap-span t T.row_in_heap) in
-        sym (first-is x 0 (sizes t (max_rows t)) ∙ ap (step_slot x) (sym (P.is (max_rows t) z) ∙ f))
-
-    pub heap-passed : {x : ℕ} {r : Step} → BlockPassed t x 0 e r → {y : ℕ} → r ≡ Past y
-        → Err (OutsideHeap x) ≡ counted_in t x
-    unfolding step_slot
-    heap-passed {x} P {y} f =
-        let z : e ≡ 0 + row_offset t (max_rows t) = omega (arith, heap-span t T.row_in_heap) in
-        sym (first-is x 0 (sizes t (max_rows t)) ∙ ap (step_slot x) (sym (P.is (max_rows t) z) ∙ f))
+        ap (λ (r : Option Slot). ok_or r (OutsideHeap x)) (P.is (max_rows t) z)
 
   -- the slot that is counted to holds the offset
-  pub holds-it : {x : ℕ} → x < 2 ^ t.heap_bits → {s : Slot} → Ok s ≡ counted_in t x → Holds t x s
-  holds-it {x} l {s} e =
+  pub holds-it : {x : ℕ} → x < 2 ^ t.heap_bits → (r : Result Slot FormatError) → r ≡ counted_slot t x
+      → IfOk r (Holds t x)
+  holds-it {x} l (Ok s) e =
       let C = inside x l in
       let same : C.slot ≡ s = (let c = C.counted in cc) in
       subst (Holds t x) same C.holds
+  holds-it l (Err f) e = tt

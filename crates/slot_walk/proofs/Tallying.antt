@@ -6,68 +6,80 @@ use Rattle.std.proofs.Math.Pow.{pow_mono}
 use Rattle.std.proofs.Math.ListN.{get_or-eq_default}
 use Rattle.std.proofs.lemmas.Bool.{cases_lt}
 use Rattle.std.proofs.lemmas.Bool.Decides.{nat_tests}
-use Rattle.std.proofs.lemmas.List.{get_or-set_same, get_or-set_other, get_or-replicate, length-replicate, ext_get_or}
+use Rattle.std.proofs.lemmas.List.{set-set, set-get_or, get_or-set_same, get_or-set_other, get_or-replicate, length-replicate, ext_get_or}
 use Rattle.std.proofs.lemmas.Nat.{pow_pos}
-use Rattle.std.specs.Prelude.{slice_index, IfOk, Result, Ok, Err, Some, None}
-use Rattle.refusals.specs.declared.FormatError.{FormatError}
+use Rattle.std.specs.Prelude.{slice_index, Ok, Err, Some, None}
 use Rattle.refusals.specs.declared.FormatError.TheVariants.{OutsideHeap}
 use Rattle.numbers.specs.Sums.{sum}
-use Rattle.table.specs.Table.{Table, fixed, row_bits, row_offset, max_rows}
+use Rattle.table.specs.Table.{Table, row_bits, row_offset, max_rows}
 use Rattle.table.proofs.Rows.{row, row-mono, slot-rows}
 use Rattle.table_laws.specs.Laws.{IsTable}
 use Rattle.table_laws.proofs.Format.{heap-span}
-use Rattle.slot_walk.specs.Walk.{slot_sizes, sizes, slots, of_sizes, bytes_of}
-use Rattle.slot_walk.specs.Blocks.{Nested}
-use Rattle.slot_walk.specs.Counting.{tally, Tallied, CountBlock, BlockCounted, CountSlot, SlotCounted, counts_in}
+use Rattle.slot_walk.specs.Walk.{slot_sizes, sizes, of_size, of_sizes, bytes_of}
+use Rattle.slot_walk.specs.Blocks.{IsNested, RowSlot}
+use Rattle.slot_walk.specs.Counting.{Tallied, CountBlock, BlockCounted, slot_counts}
 use Rattle.slot_walk.specs.Counting.{heap_rows_end}
+use Rattle.slot_walk.specs.Laws.{SlotsOfSize, FormatCounts}
 use Rattle.slot_walk.proofs.Rows.{pow-upto, pow-same, row-strict, double}
 use Rattle.slot_walk.proofs.Levels.{nested-fewer}
 use Rattle.slot_walk.proofs.Sums.{slot-own, slot-block, slot-sum}
-use Rattle.slot_walk.proofs.Counts.{tally-append, tally-one, tally-none, tally-le, of-size-is, of-sizes-length}
-use Rattle.slot_walk.proofs.Counts.{of-sizes-at, counts-fill}
-use Rattle.slot_walk.proofs.Walking.{AtRow, InRow, rows_are, walk_start, walk_end, row_start, row-end, next_small}
-use Rattle.slot_walk.proofs.Walking.{slot_in, slot_falls, weight, slot_next, slot_done, direct-bits, deep-bits}
+use Rattle.slot_walk.proofs.Counts.{of-size-append, of-size-one, of-size-none, of-size-le, of-sizes-length}
+use Rattle.slot_walk.proofs.Counts.{of-sizes-at, counts-fill, slots-counted}
+use Rattle.slot_walk.proofs.Walking.{AtRow, InRow, rows_are, walk_start, walk_end, row_start, row-end, row_in, next_small}
+use Rattle.slot_walk.proofs.Walking.{slot_in, slot_next, slot_done, direct-bits, deep-bits}
 use Rattle.slot_walk.proofs.Walking.{slot-is-block}
+
+-- a slot of the k-th size, likewise
+pub record CountSlot (table : Table) (levels at size k : ℕ) (counts : List ℕ) : Type 0 where
+  pub slot : RowSlot table levels at size
+  pub nth : size ≡ 2 ^ (table.start_bits + k)
+  pub places : table.direct_bits - table.start_bits < length counts
+  pub up_to_bytes : (k : ℕ) → slice_index counts k ≤ at
+
+-- its slots counted in, whatever row it is of
+pub record SlotCounted (table : Table) (size : ℕ) (before after : List ℕ) : Type 0 where
+  pub is : (row : ℕ) → size ≡ 2 ^ row_bits table row
+      → Tallied table (slot_sizes table (sizes table) row) before after
 
 -- what the loops keep, l being the counts at the block's start and c those now
 pub record Kept (t : Table) (l c : List ℕ) (here : ℕ) (whole left : List ℕ) : Type 0 where
   pub places : length c ≡ length l
-  pub low : (k : ℕ) → slice_index c k ≤ here
+  pub up_to_bytes : (k : ℕ) → slice_index c k ≤ here
   pub each : (k : ℕ) → k < length l
-      → slice_index l k + tally (2 ^ (t.start_bits + k)) whole ≡ slice_index c k + tally (2 ^ (t.start_bits + k)) left
+      → slice_index l k + of_size (2 ^ (t.start_bits + k)) whole ≡ slice_index c k + of_size (2 ^ (t.start_bits + k)) left
 
 module _ {t : Table} where
   kept-all : {l : List ℕ} {a : ℕ} → ((k : ℕ) → slice_index l k ≤ a) → (whole : List ℕ) → Kept t l l a whole whole
-  kept-all h whole = record { places = refl; low = h; each = λ k u. refl }
+  kept-all h whole = record { places = refl; up_to_bytes = h; each = λ k u. refl }
 
   kept_slot : (l c r xs whole left : List ℕ) (here size : ℕ) → Kept t l c here whole (xs ++ left) → Tallied t xs c r
       → sum xs ≡ size → Kept t l r (here + size) whole left
   kept_slot l c r xs whole left here size K T e = record {
     places = T.places ∙ K.places;
-    low = low;
+    up_to_bytes = still;
     each = λ k u.
-        let d = tally-append (2 ^ (t.start_bits + k)) xs left in
+        let d = of-size-append (2 ^ (t.start_bits + k)) xs left in
         omega (arith, K.places, K.each k u, T.each k (omega (arith, K.places)));
   }
     where
-      low : (k : ℕ) → slice_index r k ≤ here + size
-      low k =
+      still : (k : ℕ) → slice_index r k ≤ here + size
+      still k =
           elim (cases_lt k (length c)) [
             | inl u ↦
-                omega (arith, T.each k u, K.low k, tally-le (2 ^ (t.start_bits + k)) xs (pow_pos (t.start_bits + k)))
+                omega (arith, T.each k u, K.up_to_bytes k, of-size-le (2 ^ (t.start_bits + k)) xs (pow_pos (t.start_bits + k)))
             | inr u ↦
                 let z : slice_index r k ≡ 0 = get_or-eq_default r 0 {n = k} (omega (arith, T.places)) in
                 omega arith
           ]
 
   kept-end : {l c whole : List ℕ} {here : ℕ} → Kept t l c here whole [] → Tallied t whole l c
-  unfolding tally
+  unfolding of_size
   kept-end K = record { places = K.places; each = λ k u. omega (arith, K.each k u) }
 
 -- before a row, with the size's place among the sizes
 pub record Rows (t : Table) (l c : List ℕ) (levels a e here size next place next_place : ℕ) : Type 0 where
   pub at : AtRow t (Kept t l c here) levels a e here size next
-  pub room : t.direct_bits - t.start_bits < length c
+  pub places : t.direct_bits - t.start_bits < length c
   pub nth : size ≡ 2 ^ (t.start_bits + place)
   pub next-nth : next ≡ 2 ^ (t.start_bits + next_place)
 
@@ -80,8 +92,8 @@ module _ {t : Table} {levels a e : ℕ} where
   pub rows_start : {l : List ℕ} {start : ℕ} → start ≡ 2 ^ t.start_bits → CountBlock t levels a e l
       → Rows t l l levels a e a start start 0 0
   rows_start {l} {start} s B = record {
-    at = walk_start start s B.block (kept-all B.low);
-    room = B.room;
+    at = walk_start start s B.block (kept-all B.up_to_bytes);
+    places = B.places;
     nth = s ∙ ap (λ (k : ℕ). 2 ^ k) (sym (add-zero t.start_bits));
     next-nth = s ∙ ap (λ (k : ℕ). 2 ^ k) (sym (add-zero t.start_bits));
   }
@@ -115,7 +127,7 @@ module _ {t : Table} {levels a e : ℕ} where
         let v : 2 ^ (t.start_bits + (next_place + 1)) ≡ 2 ^ suc k = ap (λ (y : ℕ). 2 ^ y) (omega arith) in (
           record {
             at = r.0;
-            room = omega (arith, same, B.room);
+            places = omega (arith, same, B.places);
             nth = B.next-nth;
             next-nth = omega (arith, B.next-nth);
           },
@@ -128,13 +140,9 @@ module _ {t : Table} {levels a e : ℕ} where
       slot_asked = record {
         slot = slot_in inside some;
         nth = B.nth;
-        room = omega (arith, same, B.room);
-        low = (slot_next inside some).low;
+        places = omega (arith, same, B.places);
+        up_to_bytes = (slot_next inside some).up_to_bytes;
       }
-
-      pub slot_lighter : t.start_bits ≤ t.direct_bits → (largest : ℕ) → largest ≡ 2 ^ t.direct_bits
-          → weight largest size < 2 * (e - a)
-      slot_lighter g largest q = slot_falls inside some g largest q
 
   pub rows_done : {l c : List ℕ} {here size next place next_place : ℕ}
       → Rows t l c levels a e here size next place next_place → e ≤ here → BlockCounted t a e l c
@@ -172,16 +180,16 @@ module _ {t : Table} where
         → (0 < levels) × CountBlock t (levels - 1) a (a + z) l
     block-asked d S =
         let B = slot-is-block g w d S.slot in
-        (B.0, record { block = B.1; room = S.room; low = S.low })
+        (B.0, record { block = B.1; places = S.places; up_to_bytes = S.up_to_bytes })
 
   module _ {levels a z p : ℕ} {l : List ℕ} (d : z ≤ 2 ^ t.direct_bits) (S : CountSlot t levels a z p l) where
-    pub place-bits : t.start_bits + p ≤ t.direct_bits
+    place-bits : t.start_bits + p ≤ t.direct_bits
     place-bits = pow-upto (omega (arith, S.nth))
 
-    pub place-small : p < length l
-    place-small = omega (arith, place-bits, S.room)
+    place-small : p < length l
+    place-small = omega (arith, place-bits, S.places)
 
-    pub direct-counted : SlotCounted t z l (set l p (slice_index l p + 1))
+    direct-counted : SlotCounted t z l (set l p (slice_index l p + 1))
     direct-counted = record {
       is = λ n e.
           subst (λ (y : List ℕ). Tallied t y l (set l p (slice_index l p + 1)))
@@ -190,16 +198,16 @@ module _ {t : Table} where
     }
       where
         other : (k : ℕ) → (k ≡ p → ⊥)
-            → slice_index (set l p (slice_index l p + 1)) k ≡ slice_index l k + tally (2 ^ (t.start_bits + k)) (z ∷ [])
+            → slice_index (set l p (slice_index l p + 1)) k ≡ slice_index l k + of_size (2 ^ (t.start_bits + k)) (z ∷ [])
         other k h =
-            let c = tally-none z (2 ^ (t.start_bits + k))
+            let c = of-size-none z (2 ^ (t.start_bits + k))
             (λ q. h (omega (arith, pow-same (t.start_bits + k) (t.start_bits + p) (sym q ∙ S.nth)))) in
             let s : slice_index (set l p (slice_index l p + 1)) k ≡ slice_index l k =
             get_or-set_other l p k (slice_index l p + 1) 0 h in
             omega arith
 
         each : (k : ℕ) → k < length l
-            → slice_index (set l p (slice_index l p + 1)) k ≡ slice_index l k + tally (2 ^ (t.start_bits + k)) (z ∷ [])
+            → slice_index (set l p (slice_index l p + 1)) k ≡ slice_index l k + of_size (2 ^ (t.start_bits + k)) (z ∷ [])
         each k v =
             elim (cases_lt k p) [
               | inl h ↦ other k (λ q. omega arith)
@@ -208,13 +216,63 @@ module _ {t : Table} where
                 | inr y ↦
                     subst
                     (λ (j : ℕ). slice_index (set l p (slice_index l p + 1)) j
-                    ≡ slice_index l j + tally (2 ^ (t.start_bits + j)) (z ∷ []))
+                    ≡ slice_index l j + of_size (2 ^ (t.start_bits + j)) (z ∷ []))
                     (let q : p ≡ k = omega arith in q)
                     (let s : slice_index (set l p (slice_index l p + 1)) p ≡ slice_index l p + 1 =
                     get_or-set_same l p (slice_index l p + 1) 0 place-small in
-                    omega (arith, tally-one z (2 ^ (t.start_bits + p)) S.nth))
+                    omega (arith, of-size-one z (2 ^ (t.start_bits + p)) S.nth))
               ]
             ]
+
+-- ---- the slots of a direct row: so many of them are counted in at its end
+
+abbrev pub with-slots : List ℕ → ℕ → ℕ → List ℕ
+with-slots c p n = set c p (slice_index c p + n)
+
+with-none : (c : List ℕ) (p : ℕ) → c ≡ with-slots c p 0
+with-none c p = sym (ap (set c p) (add-zero (slice_index c p)) ∙ set-get_or c p 0)
+
+with-one : (c : List ℕ) (p n : ℕ) → p < length c
+    → with-slots (with-slots c p n) p 1 ≡ with-slots c p (n + 1)
+with-one c p n l =
+    let s : slice_index (with-slots c p n) p ≡ slice_index c p + n = get_or-set_same c p (slice_index c p + n) 0 l in
+    set-set c p (slice_index c p + n) (slice_index (with-slots c p n) p + 1) ∙ ap (set c p) (omega arith)
+
+module _ {t : Table} {levels a e : ℕ} where
+  pub direct_start : {c : List ℕ} {here size next width : ℕ} (p : ℕ) → width ≡ 2 ^ t.width_bits → here < e
+      → Cols t c (with-slots c p 0) levels a e here here size next width
+  direct_start {c} {here} {size} {next} {width} p v u =
+      subst (λ (y : List ℕ). Cols t c y levels a e here here size next width) (with-none c p) (cols_start v u)
+
+  module _ {l c : List ℕ} {from size next place next_place : ℕ}
+      (B : Rows t l c levels a e from size next place next_place) (d : size ≤ 2 ^ t.direct_bits) where
+    pub row-bits : t.start_bits + place ≤ t.direct_bits
+    row-bits = pow-upto (omega (arith, B.nth))
+
+    pub row-place : place < length c
+    row-place = omega (arith, row-bits, B.places)
+
+    module _ {here cols : ℕ} (n : ℕ) (I : Cols t c (with-slots c place n) levels a e from here size next cols) where
+      -- no more slots than bytes
+      pub slots-fit : slice_index c place + n ≤ 2 ^ t.heap_bits
+      slots-fit =
+          let i = inside B I in
+          let s : slice_index (with-slots c place n) place ≡ slice_index c place + n =
+          get_or-set_same c place (slice_index c place + n) 0 row-place in
+          omega (arith, i.rest.up_to_bytes place, row_in i, i.here-is, i.block.in_heap)
+
+      pub one-slot : 0 < cols → SlotCounted t size (with-slots c place n) (with-slots c place (n + 1))
+      one-slot some =
+          subst (SlotCounted t size (with-slots c place n)) (with-one c place n row-place)
+          (direct-counted d (slot_asked B I some))
+
+  -- a row of which no slot is left
+  pub cols_over : {c₀ c c' : List ℕ} {from here size next cols h : ℕ} → Cols t c₀ c levels a e from here size next cols
+      → cols ≤ 0 → c' ≡ c → h ≡ here → Cols t c₀ c' levels a e from h size next 0
+  cols_over {c₀} {c} {c'} {from} {here} {size} {next} {cols} {h} I z f g =
+      subst (λ (y : List ℕ). Cols t c₀ y levels a e from h size next 0) (sym f)
+      (subst (λ (k : ℕ). Cols t c₀ c levels a e from k size next 0) (sym g)
+      (subst (Cols t c₀ c levels a e from here size next) (let q : cols ≡ 0 = omega arith in q) I))
 
 -- ---- what so many rows span, row by row
 
@@ -313,7 +371,7 @@ module _ {t : Table} (T : IsTable t) (rows : ℕ) where
     of-rows : Rooted t rows end
     of-rows = rooted t rows end e
 
-    pub count-from_0 : (levels places : ℕ) → Nested t levels (max_rows t) → t.direct_bits - t.start_bits < places
+    pub count-from_0 : (levels places : ℕ) → IsNested t levels (max_rows t) → t.direct_bits - t.start_bits < places
         → CountBlock t levels 0 end (replicate places 0)
     count-from_0 levels places N p =
         let R = of-rows in
@@ -321,54 +379,51 @@ module _ {t : Table} (T : IsTable t) (rows : ℕ) where
           block = record {
             rows = rows;
             ends = omega (arith, R.end_is);
-            top = omega (arith, R.end_is, row-mono t rows (max_rows t) R.most, heap-span t T.row_in_heap);
+            in_heap = omega (arith, R.end_is, row-mono t rows (max_rows t) R.most, heap-span t T.row_in_heap);
             nested = nested-fewer t levels rows (max_rows t) R.most N;
           };
-          room = omega (arith, length-replicate {A = ℕ} places 0);
-          low = zeros places;
+          places = omega (arith, length-replicate {A = ℕ} places 0);
+          up_to_bytes = zeros places;
         }
 
     counts-are : (places : ℕ) (r : List ℕ) → Tallied t (sizes t rows) (replicate places 0) r
-        → r ≡ of_sizes t.start_bits places (slots t rows)
+        → r ≡ of_sizes t.start_bits places (sizes t rows)
     counts-are places r Y =
         let n : length (replicate {A = ℕ} places 0) ≡ places = length-replicate places 0 in
-        ext_get_or 0 r (of_sizes t.start_bits places (slots t rows))
-        (omega (arith, Y.places, of-sizes-length t.start_bits places (slots t rows)))
+        ext_get_or 0 r (of_sizes t.start_bits places (sizes t rows))
+        (omega (arith, Y.places, of-sizes-length t.start_bits places (sizes t rows)))
         (λ i u.
         let v : i < places = omega (arith, Y.places) in
         let z : slice_index (replicate {A = ℕ} places 0) i ≡ 0 = get_or-replicate places i 0 0 v in
-        let c : slice_index r i ≡ tally (2 ^ (t.start_bits + i)) (sizes t rows) =
+        let c : slice_index r i ≡ of_size (2 ^ (t.start_bits + i)) (sizes t rows) =
         omega (arith, Y.each i (omega arith)) in
-        c
-        ∙ sym (of-size-is (2 ^ (t.start_bits + i)) 0 (sizes t rows))
-        ∙ sym (of-sizes-at t.start_bits places i (slots t rows) v))
+        c ∙ sym (of-sizes-at t.start_bits places i (sizes t rows) v))
 
     pub counted : (places : ℕ) {r : List ℕ} → BlockCounted t 0 end (replicate places 0) r
-        → Ok r ≡ counts_in t places rows
+        → Ok r ≡ slot_counts t places rows
     counted places {r} B =
         let R = of-rows in
         let s = R.some in
         let m = R.most in
-        let is : Ok (of_sizes t.start_bits places (slots t rows)) ≡ counts_in t places rows =
+        let is : Ok (of_sizes t.start_bits places (sizes t rows)) ≡ slot_counts t places rows =
         grind (arith, nat_tests) in
         ap Ok (counts-are places r (B.is rows (omega (arith, R.end_is)))) ∙ is
 
-  pub not-counted : (places : ℕ) → None ≡ heap_rows_end t rows → Err (OutsideHeap rows) ≡ counts_in t places rows
+  pub not-counted : (places : ℕ) → None ≡ heap_rows_end t rows → Err (OutsideHeap rows) ≡ slot_counts t places rows
   not-counted places e = grind (arith, nat_tests)
 
-  -- what is counted fills the rows
-  pub counts-span : (places : ℕ) → t.direct_bits < t.start_bits + places → (r : List ℕ) → Ok r ≡ counts_in t places rows
-      → bytes_of t.start_bits r ≡ row_offset t rows
-  counts-span places p r e =
-      let is : r ≡ of_sizes t.start_bits places (slots t rows) = grind (arith, nat_tests) in
-      ap (bytes_of t.start_bits) is ∙ counts-fill t T places rows p
+  module _ (places : ℕ) {r : List ℕ} (e : Ok r ≡ slot_counts t places rows) where
+    counts_is : r ≡ of_sizes t.start_bits places (sizes t rows)
+    counts_is = grind (arith, nat_tests)
 
--- ---- the fixed table
+    -- what is counted fills the rows
+    pub counts-span : t.direct_bits < t.start_bits + places → bytes_of t.start_bits r ≡ row_offset t rows
+    counts-span p = ap (bytes_of t.start_bits) counts_is ∙ counts-fill t T places rows p
 
-pub fixed-fill : (rows : ℕ) (r : Result (List ℕ) FormatError) → r ≡ counts_in fixed 7 rows
-    → IfOk r (λ counts. bytes_of fixed.start_bits counts ≡ row_offset fixed rows)
-fixed-fill rows (Ok counts) e =
-    counts-span {t = fixed}
-    (record { start_in_direct = omega arith; row_in_heap = omega arith; row_in_indirect = omega arith })
-    rows 7 (omega arith) counts e
-fixed-fill rows (Err x) e = tt
+    -- and of each size there are as many as the format has
+    pub counts-format : FormatCounts t places rows r
+    counts-format k l =
+        subst (SlotsOfSize t rows (2 ^ (t.start_bits + k)))
+        (sym (ap (λ (counts : List ℕ). slice_index counts k) counts_is
+        ∙ of-sizes-at t.start_bits places k (sizes t rows) l))
+        (slots-counted t T rows (2 ^ (t.start_bits + k)))

@@ -4,9 +4,6 @@ use Rattle.std.proofs.Common.{ℕ, zero, suc, ◌+◌, ◌-◌, ◌*◌, ◌^◌
 use Rattle.std.proofs.Common.{List, [], ◌++◌, append_assoc, arith}
 use Rattle.std.proofs.Math.Nat.{add-zero, zero-add, mul-le-mul_right}
 use Rattle.std.proofs.Math.Pow.{pow_mono}
-use Rattle.std.proofs.lemmas.Bool.Decides.{nat_tests}
-use Rattle.std.proofs.lemmas.Nat.{pow_pos}
-use Rattle.std.specs.Prelude.{nat_le, if◌then◌else◌}
 use Rattle.table.specs.Table.{Table, row_bits, row_offset}
 use Rattle.table.proofs.Rows.{row, row-mono, slot-rows}
 use Rattle.slot_walk.specs.Walk.{copies, slot_sizes, row_sizes, sizes}
@@ -37,14 +34,6 @@ pub record InRow (t : Table) (R : List ℕ → List ℕ → Type 0) (levels a e 
   pub size_is : size ≡ 2 ^ row_bits t row
   pub next-is : next ≡ 2 ^ row_bits t (suc row)
   pub rest : R (sizes t block.rows) (copies cols (slot_sizes t (sizes t) row) ++ row_sizes t (sizes t) (suc row) left)
-
--- what a slot weighs in the measure of the calls; a block weighs twice its bytes
-unfoldable pub weight : ℕ → ℕ → ℕ
-weight largest size = if nat_le size largest then 0 else 2 * size + 1
-
-pub weight-deep : (largest size : ℕ) → largest < size → weight largest size ≡ 2 * size + 1
-unfolding weight
-weight-deep largest size l = grind (arith, nat_tests)
 
 -- a block is filled by one number of rows
 pub rows_are : {t : Table} {levels a e : ℕ} (B : Block t levels a e) (n : ℕ) → e ≡ a + row_offset t n → B.rows ≡ n
@@ -101,14 +90,14 @@ module _ {t : Table} {R : List ℕ → List ℕ → Type 0} {levels a e : ℕ} w
 
   module _ {from here size next cols : ℕ} (I : InRow t R levels a e from here size next cols) where
     -- the row's end is in the block
-    row_in : a + row_offset t (suc I.row) ≤ e
+    pub row_in : a + row_offset t (suc I.row) ≤ e
     row_in = omega (arith, I.block.ends, row-mono t (suc I.row) I.block.rows (omega (arith, I.all)))
 
     pub next_small : next ≤ 2 ^ t.heap_bits
     next_small =
         let m : 2 ^ (t.start_bits + (suc I.row - 1)) ≤ 2 ^ (t.start_bits + t.width_bits + I.row) =
         pow_mono (omega arith) in
-        omega (arith, row_in, I.block.top, I.next-is)
+        omega (arith, row_in, I.block.in_heap, I.next-is)
 
     pub row-end : cols ≡ 0 → (AtRow t R levels a e here next (next + next)) × (from < here) × (here ≤ e)
     unfolding copies
@@ -141,22 +130,9 @@ module _ {t : Table} {R : List ℕ → List ℕ → Type 0} {levels a e : ℕ} w
           record {
             row = I.row;
             size_is = I.size_is;
-            top = omega (arith, row_in, I.block.top, I.here-is);
+            in_heap = omega (arith, row_in, I.block.in_heap, I.here-is);
             nested = nested-inside t levels I.block.rows I.row I.block.nested (omega (arith, I.all));
           }
-
-      -- and an indirect one has at most half the block's bytes, also where a row has one slot
-      pub slot_falls : t.start_bits ≤ t.direct_bits → (largest : ℕ) → largest ≡ 2 ^ t.direct_bits
-          → weight largest size < 2 * (e - a)
-      unfolding weight
-      slot_falls g largest q =
-          let b = row_bits t I.row in
-          let R = row t I.row in
-          let one : 1 * 2 ^ b ≤ 2 ^ t.width_bits * 2 ^ b = mul-le-mul_right (2 ^ b) (pow_pos t.width_bits) in
-          let later : largest < size → 2 ^ t.width_bits * 2 ^ b ≤ R.m * 2 ^ b = λ l.
-          let d : t.direct_bits < b = pow-below (omega (arith, I.size_is)) in
-          mul-le-mul_right (2 ^ b) (omega (arith, (R.tops 0 (pow_pos t.width_bits)).hi (omega arith))) in
-          grind (arith, nat_tests, later, R.begins, R.ends, row_in, pow_pos b, I.size_is)
 
       -- what comes after the slot at hand
       abbrev pub after_slot : List ℕ
@@ -212,7 +188,7 @@ module _ {t : Table} (g : t.start_bits ≤ t.direct_bits) (w : t.width_bits + t.
         record {
           rows = S.row - t.width_bits;
           ends = omega (arith, slot-rows t S.row g w b);
-          top = S.top;
+          in_heap = S.in_heap;
           nested = N.1;
         },
       )

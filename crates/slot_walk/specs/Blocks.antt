@@ -3,23 +3,23 @@ use Rattle.std.specs.Prelude.{ℕ, zero, suc, ◌+◌, ◌-◌, ◌^◌, ◌≤�
 use Rattle.table.specs.Table.{Table, row_bits, row_offset, heap_space}
 
 -- the indirect blocks in a block of so many rows stand no more than so many levels in one another, itself the first
-unfoldable pub Nested : (table : Table) (levels rows : ℕ) → Type 0
-Nested table zero rows = rows ≡ 0
-Nested table (suc levels) rows =
+unfoldable pub IsNested : (table : Table) (levels rows : ℕ) → Type 0
+IsNested table zero rows = rows ≡ 0
+IsNested table (suc levels) rows =
     (row : ℕ) → row < rows → table.direct_bits < row_bits table row
-    → Nested table levels (row - table.width_bits)
+    → IsNested table levels (row - table.width_bits)
 
 -- a block from one heap offset to another: whole rows, in the heap, so many levels at most
 pub record Block (table : Table) (levels at end : ℕ) : Type 0 where
   pub rows : ℕ
   pub ends : end ≡ at + row_offset table rows
-  pub top : end ≤ heap_space table
-  pub nested : Nested table levels rows
+  pub in_heap : end ≤ heap_space table
+  pub nested : IsNested table levels rows
 
 -- a slot at a heap offset in a block of so many levels at most: of a row's size, in the heap
 pub record RowSlot (table : Table) (levels at size : ℕ) : Type 0 where
   pub row : ℕ
   pub size_is : size ≡ 2 ^ row_bits table row
-  pub top : at + size ≤ heap_space table
+  pub in_heap : at + size ≤ heap_space table
   pub nested : table.direct_bits < row_bits table row
-      → (0 < levels) × Nested table (levels - 1) (row - table.width_bits)
+      → (0 < levels) × IsNested table (levels - 1) (row - table.width_bits)

@@ -15,7 +15,7 @@ table_of geometry = record {
 }
 
 -- what the engine asks of a table; 64 bits hold every sum where heap offsets have no more than 48
-pub record Permitted (geometry : Geometry) : Type 0 where
+pub record IsPermitted (geometry : Geometry) : Type 0 where
   pub width : geometry.width ≡ 2 ^ (table_of geometry).width_bits
   pub start : geometry.starting_block ≡ 2 ^ (table_of geometry).start_bits
   pub largest : geometry.largest_block ≡ 2 ^ (table_of geometry).direct_bits

@@ -53,16 +53,15 @@ pub data Chain : (start : ℕ) (slots : List Slot) (end : ℕ) → Type 0 where
   more : {start end : ℕ} {slot : Slot} {slots : List Slot} → slot.start ≡ start → 0 < slot.size
       → Chain (slot.start + slot.size) slots end → Chain start (slot ∷ slots) end
 
--- how many of the slots have so many bytes
-unfoldable pub of_size : (size : ℕ) (slots : List Slot) → ℕ
+-- how many of the sizes are this one
+unfoldable pub of_size : (size : ℕ) (sizes : List ℕ) → ℕ
 of_size size [] = 0
-of_size size (slot ∷ slots) =
-    if nat_eq slot.size size then suc (of_size size slots) else of_size size slots
+of_size size (one ∷ sizes) = if nat_eq one size then suc (of_size size sizes) else of_size size sizes
 
--- and of each of so many sizes, the first 2 ^ bits bytes, each later one twice the one before
-unfoldable pub of_sizes : (bits places : ℕ) (slots : List Slot) → List ℕ
-of_sizes bits zero slots = []
-of_sizes bits (suc places) slots = of_size (2 ^ bits) slots ∷ of_sizes (suc bits) places slots
+-- and of each of so many, the first of 2 ^ bits bytes, each later one twice the one before
+unfoldable pub of_sizes : (bits places : ℕ) (sizes : List ℕ) → List ℕ
+of_sizes bits zero sizes = []
+of_sizes bits (suc places) sizes = of_size (2 ^ bits) sizes ∷ of_sizes (suc bits) places sizes
 
 -- the bytes of so many slots of each size
 unfoldable pub bytes_of : (bits : ℕ) (counts : List ℕ) → ℕ

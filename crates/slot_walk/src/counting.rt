@@ -2,10 +2,11 @@
 //! interface.
 ghost use Rattle.std.specs.Prelude.{◌≡◌, ◌-◌, ◌<◌, IfOk};
 ghost use Rattle.table.specs.Table.{fixed, row_offset, max_rows};
-ghost use Rattle.slot_walk.specs.Geometry.{table_of, Permitted};
+ghost use Rattle.slot_walk.specs.Geometry.{table_of, IsPermitted};
 ghost use Rattle.slot_walk.specs.Walk.{bytes_of};
-ghost use Rattle.slot_walk.specs.Blocks.{Nested};
-ghost use Rattle.slot_walk.specs.Counting.{counts_in, heap_rows_end, CountBlock, BlockCounted, CountSlot, SlotCounted};
+ghost use Rattle.slot_walk.specs.Laws.{FormatCounts};
+ghost use Rattle.slot_walk.specs.Blocks.{IsNested};
+ghost use Rattle.slot_walk.specs.Counting.{slot_counts, heap_rows_end, CountBlock, BlockCounted};
 
 use crate::MOST_LEVELS;
 use crate::geometry::Geometry;
@@ -14,10 +15,10 @@ use refusals::FormatError;
 /// The sizes of direct slots in the fixed table: 1,024 bytes, doubled six times, are 65,536.
 pub const SIZES: usize = 7;
 
-// Walks the block from `at` to `end` and counts each direct slot, at the place of its size.
-#[cycle(count)]
+// Walks the block from `at` to `end` and counts each direct slot, at the place of its size. The slots of a row are all
+// indirect, and each is opened, with one level fewer left; or all are direct.
 fn count_block(geometry: &Geometry, levels: u64, at: u64, end: u64, counts: &mut [u64])
-    requires table { Permitted geometry.now }
+    requires table { IsPermitted geometry.now }
     requires block { CountBlock (table_of geometry.now) levels at end counts.old }
     ensures { BlockCounted (table_of geometry.now) at end counts.old counts.new }
 {
@@ -26,12 +27,22 @@ fn count_block(geometry: &Geometry, levels: u64, at: u64, end: u64, counts: &mut
     let mut next = size;
     let mut place: usize = 0;
     let mut next_place: usize = 0;
-    while here < end {
+    'rows: while here < end {
         let mut left = geometry.width;
-        while left > 0 {
-            count_slot(geometry, levels, here, size, place, counts);
-            here += size;
-            left -= 1;
+        if size > geometry.largest_block {
+            'indirect: while left > 0 {
+                count_block(geometry, levels - 1, here, here + size, counts);
+                here += size;
+                left -= 1;
+            }
+        } else {
+            let mut slots = 0;
+            'direct: while left > 0 {
+                slots += 1;
+                here += size;
+                left -= 1;
+            }
+            counts[place] += slots;
         }
         size = next;
         next += next;
@@ -40,30 +51,9 @@ fn count_block(geometry: &Geometry, levels: u64, at: u64, end: u64, counts: &mut
     }
 }
 
-// Counts a slot: an indirect one is opened, with one level fewer left; `place` is that of a direct one's size.
-#[cycle(count)]
-fn count_slot(
-    geometry: &Geometry,
-    levels: u64,
-    at: u64,
-    size: u64,
-    place: usize,
-    counts: &mut [u64],
-)
-    requires table { Permitted geometry.now }
-    requires slot { CountSlot (table_of geometry.now) levels at size place counts.old }
-    ensures { SlotCounted (table_of geometry.now) size counts.old counts.new }
-{
-    if geometry.largest_block < size {
-        count_block(geometry, levels - 1, at, at + size, counts);
-    } else {
-        counts[place] += 1;
-    }
-}
-
 // What so many rows span, row by row, if a heap has as many.
 fn heap_rows_end(geometry: &Geometry, rows: u64) -> Option<u64>
-    requires { Permitted geometry.now }
+    requires { IsPermitted geometry.now }
     ensures { result ≡ heap_rows_end (table_of geometry.now) rows }
 {
     if rows == 0 {
@@ -91,10 +81,13 @@ pub fn count_slots_in<const N: usize>(
     levels: u64,
     rows: u64,
 ) -> Result<[u64; N], FormatError>
-    requires table { Permitted geometry.now }
-    requires levels { Nested (table_of geometry.now) levels (max_rows (table_of geometry.now)) }
-    requires room { (table_of geometry.now).direct_bits - (table_of geometry.now).start_bits < N }
-    ensures { result ≡ counts_in (table_of geometry.now) N rows }
+    requires table { IsPermitted geometry.now }
+    requires levels { IsNested (table_of geometry.now) levels (max_rows (table_of geometry.now)) }
+    requires places { (table_of geometry.now).direct_bits - (table_of geometry.now).start_bits < N }
+    ensures value { result ≡ slot_counts (table_of geometry.now) N rows }
+    ensures formats { IfOk result (λ counts. FormatCounts (table_of geometry.now) N rows counts) }
+    ensures fill { IfOk result (λ counts. bytes_of (table_of geometry.now).start_bits counts
+        ≡ row_offset (table_of geometry.now) rows) }
 {
     let Some(end) = heap_rows_end(geometry, rows) else {
         return Err(FormatError::OutsideHeap(rows));
@@ -105,10 +98,14 @@ pub fn count_slots_in<const N: usize>(
 }
 
 /// How many direct slots a heap of so many rows has of each size, smallest first, counted out. 0 rows, and more than
-/// a root has, are refused by `OutsideHeap`.
+/// a root has, are refused by `OutsideHeap`. Each count is the number of the format's slots of its size, and together
+/// they fill the managed space; no more indirect blocks are open at once than there are levels.
 pub fn count_slots(rows: u64) -> Result<[u64; SIZES], FormatError>
-    ensures value { result ≡ counts_in fixed SIZES rows }
+    ensures value { result ≡ slot_counts fixed SIZES rows }
+    ensures formats { IfOk result (λ counts. FormatCounts fixed SIZES rows counts) }
     ensures fill { IfOk result (λ counts. bytes_of fixed.start_bits counts ≡ row_offset fixed rows) }
+    ensures levels { IsNested fixed MOST_LEVELS (max_rows fixed) }
+    ensures eight_levels { MOST_LEVELS ≡ 8 }
 {
     count_slots_in(&Geometry::fixed(), MOST_LEVELS, rows)
 }

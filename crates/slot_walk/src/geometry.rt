@@ -1,7 +1,7 @@
 //! A table by its four numbers.
 ghost use Rattle.std.specs.Prelude.{◌≡◌, ◌^◌};
 ghost use Rattle.table.specs.Table.{fixed, heap_space};
-ghost use Rattle.slot_walk.specs.Geometry.{table_of, Permitted};
+ghost use Rattle.slot_walk.specs.Geometry.{table_of, IsPermitted};
 
 use table::{MAX_DIRECT_BLOCK_SIZE, MAX_HEAP_SIZE_BITS, STARTING_BLOCK_SIZE, TABLE_WIDTH};
 
@@ -19,7 +19,7 @@ impl Geometry {
     #[tactic(auto, using(crate::proofs::Numbers::fixed_table, crate::proofs::Numbers::fixed_permitted))]
     pub fn fixed() -> Geometry
         ensures table { table_of result ≡ fixed }
-        ensures permitted { Permitted result }
+        ensures permitted { IsPermitted result }
     {
         Geometry {
             width: TABLE_WIDTH,
@@ -31,7 +31,7 @@ impl Geometry {
 
     /// Bytes of the heap space: 1, doubled as often as a heap offset has bits.
     pub fn heap_end(&self) -> u64
-        requires { Permitted self.now }
+        requires { IsPermitted self.now }
         ensures { result ≡ heap_space (table_of self.now) }
     {
         let mut end = 1;

@@ -1,6 +1,6 @@
-//! The doubling table of a fractal heap at the fixed geometry: width 4, starting block 1,024, largest
-//! direct block 65,536, heap space 2^40. The definitions in specs/ have the table as a parameter.
-//! Functions with a `requires` serve our own crates and are no part of the interface.
+//! The doubling table of a fractal heap at the fixed geometry: width 4, starting block 1,024,
+//! largest direct block 65,536, heap space 2^40. The definitions in specs/ have the table as a
+//! parameter. Functions with a `requires` serve our own crates and are no part of the interface.
 #![tactic(auto)]
 
 pub mod block_sizes;
@@ -11,18 +11,19 @@ pub mod slot_places;
 ghost use Rattle.std.specs.Prelude.{◌≡◌, ◌^◌, ◌<◌, ◌≤◌, nat_le};
 ghost use Rattle.table.specs.Table.{fixed, row_bits, row_offset, row_of, place_of};
 
-/// Slots of a row (`H5O_FHEAP_MAN_WIDTH`). This and the next three numbers are those of every heap that HDF5 writes for
-/// attributes; two of those for links differ. All others here follow from them.
+/// Slots of a row (`H5O_FHEAP_MAN_WIDTH`). This and the next three numbers are those of every heap
+/// that HDF5 writes for attributes; two of those for links differ. All others here follow from
+/// them.
 //
-// The original's `START_ROOT_ROWS` is not here: it is the header's Starting # of Rows in Root Indirect Block, which no
-// reader goes by, and no block of ours depends on.
+// The original's `START_ROOT_ROWS` is not here: it is the header's Starting # of Rows in Root
+// Indirect Block, which no reader goes by, and no block of ours depends on.
 pub const TABLE_WIDTH: u64 = 4;
 
 /// Bytes of a block of the first two rows (`H5O_FHEAP_MAN_START_BLOCK_SIZE`).
 pub const STARTING_BLOCK_SIZE: u64 = 1024;
 
-/// Bytes of the largest direct block (`H5O_FHEAP_MAN_MAX_DIRECT_SIZE`). Rows whose blocks would be larger hold
-/// indirect blocks: so from there on a heap grows by levels, and not by larger blocks.
+/// Bytes of the largest direct block (`H5O_FHEAP_MAN_MAX_DIRECT_SIZE`). Rows whose blocks would be
+/// larger hold indirect blocks: so from there on a heap grows by levels, and not by larger blocks.
 pub const MAX_DIRECT_BLOCK_SIZE: u64 = 65_536;
 
 /// Bits of a heap offset (`H5O_FHEAP_MAN_MAX_INDEX`), the header's Maximum Heap Size.
@@ -31,7 +32,8 @@ pub const MAX_HEAP_SIZE_BITS: u32 = 40;
 /// Bytes that a heap offset takes in blocks and IDs: as many as its bits need.
 pub const BLOCK_OFFSET_BYTES: u64 = (MAX_HEAP_SIZE_BITS as u64 + 7) / 8;
 
-/// The logarithm of `STARTING_BLOCK_SIZE`. Rows are told by logarithms, since each is twice the one before.
+/// The logarithm of `STARTING_BLOCK_SIZE`. Rows are told by logarithms, since each is twice the one
+/// before.
 const START_BITS: u32 = 10;
 
 /// The logarithm of `TABLE_WIDTH`.
@@ -52,8 +54,8 @@ const FIRST_ROW_BITS: u32 = START_BITS + WIDTH_BITS;
 /// Bytes that the first row spans: where the second begins.
 const FIRST_ROW_SIZE: u64 = STARTING_BLOCK_SIZE * TABLE_WIDTH;
 
-/// The rows before this one hold direct blocks, it and all behind it indirect ones: the first two have the starting
-/// size, and each later one doubles it (`H5HF__dtable_init`).
+/// The rows before this one hold direct blocks, it and all behind it indirect ones: the first two
+/// have the starting size, and each later one doubles it (`H5HF__dtable_init`).
 pub const MAX_DIRECT_ROWS: u64 = (MAX_DIRECT_BITS - START_BITS + 2) as u64;
 
 /// As many rows span the heap space, so no root has more (`H5HF_dtable_t::max_root_rows`).
@@ -62,8 +64,8 @@ pub const MAX_ROOT_ROWS: usize = (MAX_HEAP_SIZE_BITS - FIRST_ROW_BITS + 1) as us
 /// Bytes of the heap space: all heap offsets lie below it.
 pub const MAX_HEAP_SPACE: u64 = 1u64 << MAX_HEAP_SIZE_BITS;
 
-/// Row and column of a slot. Rows are `u64` here, not `usize`: they are shifted by and compared, and index an array
-/// only where capacities are reckoned.
+/// Row and column of a slot. Rows are `u64` here, not `usize`: they are shifted by and compared,
+/// and index an array only where capacities are reckoned.
 #[derive(Clone, Copy)]
 pub struct RowCol {
     pub row: u64,
@@ -77,8 +79,8 @@ pub struct Slot {
     pub size: u64,
 }
 
-/// A slot of one indirect block's table: its row, where it begins, in bytes from the block's own offset on, and its
-/// bytes.
+/// A slot of one indirect block's table: its row, where it begins, in bytes from the block's own
+/// offset on, and its bytes.
 #[derive(Clone, Copy)]
 pub struct TableSlot {
     pub row: u64,
@@ -99,16 +101,16 @@ pub fn row_block_size(row: u64) -> u64
     }
 }
 
-/// Whether a row's slots are direct blocks; those of later rows are indirect. It is the one place where the direct rows
-/// end.
+/// Whether a row's slots are direct blocks; those of later rows are indirect. It is the one place
+/// where the direct rows end.
 pub fn is_direct(row: u64) -> bool
     ensures { result ≡ nat_le (row_bits fixed row) fixed.direct_bits }
 {
     row < MAX_DIRECT_ROWS
 }
 
-/// Where a row begins, in bytes from its indirect block's own offset on (`H5HF_dtable_t::row_block_off`); which is what
-/// the rows before it span.
+/// Where a row begins, in bytes from its indirect block's own offset on
+/// (`H5HF_dtable_t::row_block_off`); which is what the rows before it span.
 #[tactic(auto, using(crate::proofs::Rows::start_of_later_row))]
 pub fn row_offset(row: u64) -> u64
     requires { row ≤ MAX_ROOT_ROWS }

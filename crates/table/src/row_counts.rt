@@ -1,12 +1,12 @@
-//! How many rows an indirect block has that spans so many bytes, and how many a root needs to reach so far. Functions
-//! with a `requires` serve our own crates and are no part of the interface.
+//! How many rows an indirect block has that spans so many bytes, and how many a root needs to reach
+//! so far. Functions with a `requires` serve our own crates and are no part of the interface.
 ghost use Rattle.std.specs.Prelude.{◌≡◌, ◌^◌, ◌≤◌};
 ghost use Rattle.table.specs.Table.{fixed, row_of, covering};
 
 use crate::{MAX_HEAP_SPACE, MAX_ROOT_ROWS, row_of};
 
-/// The rows of an indirect block that spans `size` bytes (`H5HF__dtable_size_to_rows`): the row that would begin where
-/// it ends.
+/// The rows of an indirect block that spans `size` bytes (`H5HF__dtable_size_to_rows`): the row
+/// that would begin where it ends.
 pub fn size_to_rows(size: u64) -> u64
     requires { size ≤ MAX_HEAP_SPACE }
     ensures rows { result ≡ row_of fixed size }

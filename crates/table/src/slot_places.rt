@@ -1,5 +1,6 @@
-//! The slots of the table: the one that holds an offset, and the indirect blocks that a direct block opens.
-//! The functions have a `requires`; they serve our own crates and are no part of the interface.
+//! The slots of the table: the one that holds an offset, and the indirect blocks that a direct
+//! block opens. The functions have a `requires`; they serve our own crates and are no part of the
+//! interface.
 ghost use Rattle.std.specs.Prelude.{◌≡◌, ◌^◌, ◌<◌, ◌≤◌, nat_le, if◌then◌else◌};
 ghost use Rattle.table.specs.Table.{fixed, row_of};
 ghost use Rattle.table.specs.Sizes.{indirect_size};
@@ -9,7 +10,8 @@ use crate::block_sizes::indirect_block_size;
 use crate::row_counts::size_to_rows;
 use crate::{MAX_HEAP_SPACE, Slot, TableSlot, is_direct, lookup, row_block_size, row_offset};
 
-/// The table's own slot that holds an offset, direct or indirect: what `locate` and `entered_blocks` do at each level.
+/// The table's own slot that holds an offset, direct or indirect: what `locate` and
+/// `entered_blocks` do at each level.
 pub fn table_slot(offset: u64) -> TableSlot
     requires { offset < MAX_HEAP_SPACE }
     ensures slot { result ≡ table_slot fixed offset }
@@ -25,8 +27,8 @@ pub fn table_slot(offset: u64) -> TableSlot
     }
 }
 
-/// The direct slot that holds an offset. It goes down through indirect slots, so that planning can go through the
-/// direct ones in order although the table is a tree.
+/// The direct slot that holds an offset. It goes down through indirect slots, so that planning can
+/// go through the direct ones in order although the table is a tree.
 pub fn locate(offset: u64) -> Slot
     requires { offset < MAX_HEAP_SPACE }
     ensures { result ≡ slot_at fixed offset }
@@ -46,8 +48,8 @@ pub fn locate(offset: u64) -> Slot
     }
 }
 
-// The bytes of an indirect block in a slot of `size` bytes that begins at `start`, or 0 where the block
-// before, which ended at `end`, lies in it too.
+// The bytes of an indirect block in a slot of `size` bytes that begins at `start`, or 0 where the
+// block before, which ended at `end`, lies in it too.
 fn entered_here(end: u64, start: u64, size: u64, offset_size: u8) -> u64
     requires { size ≤ MAX_HEAP_SPACE }
     ensures { result
@@ -60,8 +62,8 @@ fn entered_here(end: u64, start: u64, size: u64, offset_size: u8) -> u64
     }
 }
 
-/// The bytes of the indirect blocks that a direct block at `start` opens, where the one before ended at `end`: of those
-/// in whose slots it lies, but not the one before.
+/// The bytes of the indirect blocks that a direct block at `start` opens, where the one before
+/// ended at `end`: of those in whose slots it lies, but not the one before.
 pub fn entered_blocks(end: u64, start: u64, offset_size: u8) -> u64
     requires { start < MAX_HEAP_SPACE }
     ensures { result ≡ entered_bytes fixed offset_size end start }

@@ -27,7 +27,6 @@ module _ (t : Table) (h : ℕ) (g : t.start_bits ≤ t.direct_bits) where
   module _ {q b : ℕ} (y : ℕ) (T : Top t q b) (l : y < 2 ^ b) (s : q * 2 ^ b + y < 2 ^ t.heap_bits) where
     -- in a direct block the body begins h bytes on
     body_direct : b ≤ t.direct_bits → in_body t h (q * 2 ^ b + y) ≡ nat_le h y
-    unfolding in_body
     body_direct d =
         let x = q * 2 ^ b + y in
         let e : slot_bits t x ≡ b = sym (slotted-unique t (top q b y T d l refl) x _ refl (slot-bits-is t x g s)) in
@@ -35,7 +34,6 @@ module _ (t : Table) (h : ℕ) (g : t.start_bits ≤ t.direct_bits) where
 
     -- in an indirect one the bodies are those of its own table
     body-indirect : t.direct_bits < b → in_body t h (q * 2 ^ b + y) ≡ in_body t h y
-    unfolding in_body
     body-indirect d =
         let x = q * 2 ^ b + y in
         let r = slot-bits-is t y g (omega arith) in

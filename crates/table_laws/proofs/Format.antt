@@ -36,7 +36,7 @@ pub record SlotOf (t : Table) (s z : ℕ) : Type 0 where
   pub size_is : z ≡ (slot_at t s).size
 
 -- x lies past the header of h bytes of the slot that holds it
-unfoldable pub in_body : Table → ℕ → ℕ → Bool
+abbrev pub in_body : Table → ℕ → ℕ → Bool
 in_body t h x = nat_le h (x % 2 ^ slot_bits t x)
 
 module _ (t : Table) (g : t.start_bits ≤ t.direct_bits) where
@@ -54,7 +54,6 @@ module _ (t : Table) (g : t.start_bits ≤ t.direct_bits) where
   -- past the header of a slot is in a body
   pub slot-body : (h x : ℕ) {s z : ℕ} → t.start_bits ≤ t.heap_bits → SlotOf t s z → s + h ≤ x → x < s + z
       → in_body t h x ≡ true
-  unfolding in_body
   slot-body h x {s} {z} k S lo hi =
       let B = S.starts in
       let i = S.inside in
@@ -182,7 +181,6 @@ module _ (t : Table) (g : t.start_bits ≤ t.direct_bits) (w : t.width_bits + t.
   -- the test `in_body` passes the bodies of the slots of n rows, and below their end nothing else
   pub body-in : (h n x : ℕ) → row_offset t (suc n) ≤ 2 ^ t.heap_bits → InBody t h (suc n) x
       → (x < row_offset t (suc n)) × (in_body t h x ≡ true)
-  unfolding in_body
   body-in h n x u B =
       let L = direct-local B.slot in
       let from = B.past_header in
@@ -194,7 +192,6 @@ module _ (t : Table) (g : t.start_bits ≤ t.direct_bits) (w : t.width_bits + t.
 
   pub body-out : (h n x : ℕ) → row_offset t (suc n) ≤ 2 ^ t.heap_bits → x < row_offset t (suc n) → in_body t h x ≡ true
       → InBody t h (suc n) x
-  unfolding in_body
   body-out h n x u l e =
       let c = slot_bits t x in
       let s = slot-bits-is t x g (omega arith) in

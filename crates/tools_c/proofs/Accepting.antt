@@ -10,7 +10,7 @@ use Rattle.refusals.specs.declared.FormatError.TheVariants.{UnsupportedFilteredH
 use Rattle.refusals.specs.declared.FormatError.TheVariants.{ObjectTooLarge, HeapSpaceExhausted, SliceTooShort}
 use Rattle.refusals.specs.declared.FormatError.TheVariants.{ObjectBytesMismatch, HeaderAddressTooLarge}
 use Rattle.refusals.specs.declared.FormatError.TheVariants.{RegionAddressTooLarge, HeapIdTooLarge, HeaderFieldTooLarge}
-use Rattle.refusals.specs.declared.FormatError.TheVariants.{OutsideHeap}
+use Rattle.refusals.specs.declared.FormatError.TheVariants.{BlockChecksumMismatch, ForeignBlock, OutsideHeap}
 use Rattle.plan.specs.declared.ManagedPlan.{ManagedPlan}
 use Rattle.plan.specs.Answer.{planned_number}
 
@@ -33,6 +33,8 @@ none (HeaderAddressTooLarge address) h = cc
 none (RegionAddressTooLarge address size) h = cc
 none (HeapIdTooLarge offset size) h = cc
 none (HeaderFieldTooLarge place value) h = cc
+none (BlockChecksumMismatch stored computed) h = cc
+none (ForeignBlock stored wanted) h = cc
 none (OutsideHeap number) h = cc
 
 -- what holds of an accepted plan, where the number is 0

@@ -1,14 +1,17 @@
 -- What the C functions over objects for tests and tools hand back beyond an answer in its slot.
 use Rattle.std.specs.Prelude.{ℕ, ◌*◌, ◌/◌, Bool, List, ◌++◌, length, drop, nat_lt, if◌then◌else◌}
 use Rattle.std.specs.Prelude.{Result, Ok, Err}
-use Rattle.refusals.specs.Refusals.{answer, report_of, slice_too_short}
+use Rattle.refusals.specs.Refusals.{slice_too_short, test_report}
 use Rattle.refusals.specs.declared.FormatError.{FormatError}
+use Rattle.table.specs.Table.{fixed}
+use Rattle.fields.specs.declared.place.Place.{Place}
+use Rattle.ids.specs.Checks.{id_length}
 use Rattle.fractal_heap.specs.declared.header.FractalHeapHeader.{FractalHeapHeader}
-use Rattle.tools_c.specs.ObjectNumbers.{id_size, answer_places, answers_from}
+use Rattle.tools_c.specs.ObjectNumbers.{answer_places, answers_from}
 
 -- how many IDs the list holds
 abbrev pub id_count : (ids : List ℕ) → ℕ
-id_count ids = length ids / id_size
+id_count ids = length ids / id_length fixed
 
 -- whether the list is too short for all answers
 abbrev pub too_few : (found ids : List ℕ) → Bool
@@ -19,18 +22,20 @@ abbrev pub each_number : (found ids : List ℕ) (parsed : Result FractalHeapHead
 each_number found ids parsed =
     if too_few found ids
     then slice_too_short
-    else (report_of (λ _. answer 0 0 0) parsed).number
+    else (test_report parsed).number
 
--- the answers in the first places
-abbrev pub each_by : (found ids file : List ℕ) (offset_size : ℕ)
+-- the answers in the first places, each answered so by the header and the ID
+abbrev pub each_by : (found ids : List ℕ)
+    (answered : (header : FractalHeapHeader) (id : List ℕ) → Result Place FormatError)
     (parsed : Result FractalHeapHeader FormatError) → List ℕ
-each_by found ids file offset_size (Ok header) =
-    answers_from header file offset_size (id_count ids) ids
+each_by found ids answered (Ok header) =
+    answers_from (answered header) (id_count ids) ids
     ++ drop (answer_places * id_count ids) found
-each_by found ids file offset_size (Err refused) = found
+each_by found ids answered (Err refused) = found
 
 -- a list that is too short is as it was
-abbrev pub each_list : (found ids file : List ℕ) (offset_size : ℕ)
+abbrev pub each_list : (found ids : List ℕ)
+    (answered : (header : FractalHeapHeader) (id : List ℕ) → Result Place FormatError)
     (parsed : Result FractalHeapHeader FormatError) → List ℕ
-each_list found ids file offset_size parsed =
-    if too_few found ids then found else each_by found ids file offset_size parsed
+each_list found ids answered parsed =
+    if too_few found ids then found else each_by found ids answered parsed

@@ -4,7 +4,8 @@ ghost use Rattle.std.specs.Prelude.{◌≡◌, if◌then◌else◌};
 ghost use Rattle.fields.specs.Undefined.{is_undefined_addr};
 ghost use Rattle.fields.specs.Fields.{len_ensured, offset_at, length_at};
 ghost use Rattle.fields.specs.Slot.{slot_number, slot_bytes};
-ghost use Rattle.tools_c.specs.Reports.{test_report, number_report};
+ghost use Rattle.refusals.specs.Refusals.{test_report};
+ghost use Rattle.tools_c.specs.Reports.{number_report};
 
 use fields::convert::{is_undefined_addr, to_usize};
 use fields::slot::put_answer;

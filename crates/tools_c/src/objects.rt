@@ -1,17 +1,18 @@
 //! IDs and objects.
 mod id_lists;
+pub mod unchecked;
 
 ghost use Rattle.std.specs.Prelude.{◌≡◌, ◌+◌, ◌≤◌, length, IfOk};
 ghost use Rattle.refusals.specs.Refusals.{report_of};
 ghost use Rattle.fields.specs.Slot.{slot_number, slot_bytes};
 ghost use Rattle.fields.specs.Places.{place_report};
 ghost use Rattle.fractal_heap.specs.Header.{header_at};
-ghost use Rattle.fractal_heap.specs.Read.{object_by};
+ghost use Rattle.fractal_heap.specs.Read.{managed_checked, checked_by};
 ghost use Rattle.ids.specs.IdTypes.{id_type, type_report};
 ghost use Rattle.ids.specs.Tiny.{tiny_at};
 ghost use Rattle.tools_c.specs.ObjectTools.{each_number, each_list};
 
-use crate::objects::id_lists::read_each;
+use crate::objects::id_lists::{Tested, read_each};
 use fields::Place;
 use fields::convert::to_usize;
 use fields::slot::put_answer;
@@ -25,16 +26,18 @@ fn read(
     offset_size: u8,
     length_size: u8,
     read_size: u8,
+    heap_header_address: u64,
     id: &[u8],
 ) -> Result<Place, FormatError>
-    ensures object { result ≡ object_by file.now at offset_size length_size id.now read_size }
+    ensures object { result ≡ checked_by file.now at offset_size length_size heap_header_address
+        id.now read_size }
     ensures in_file { IfOk result (λ place. place.position + place.length ≤ length file.now) }
 {
     let header = FractalHeapHeader::parse(file, to_usize(at), offset_size, length_size)?;
-    header.read_managed_object(file, id, read_size)
+    header.read_managed_object(file, heap_header_address, id, read_size)
 }
 
-/// Reading with an offset size of its own, which may be any byte.
+/// Reading, every block on the way tested, with an offset size of its own, which may be any byte.
 #[unsafe(no_mangle)]
 pub extern "C" fn tools_read_managed_object(
     file: &[u8],
@@ -42,22 +45,30 @@ pub extern "C" fn tools_read_managed_object(
     offset_size: u8,
     length_size: u8,
     read_size: u8,
+    heap_header_address: u64,
     id: &[u8],
     slot: &mut [u8],
 ) -> u32
     ensures number { result ≡ slot_number slot.old
-        (report_of place_report
-        (object_by file.now at offset_size length_size id.now read_size)) }
+        (report_of place_report (checked_by file.now at offset_size length_size
+        heap_header_address id.now read_size)) }
     ensures slot_after { slot.new ≡ slot_bytes slot.old
-        (report_of place_report
-        (object_by file.now at offset_size length_size id.now read_size)) }
-    ensures in_file { IfOk (object_by file.now at offset_size length_size id.now read_size)
+        (report_of place_report (checked_by file.now at offset_size length_size
+        heap_header_address id.now read_size)) }
+    ensures in_file { IfOk
+        (checked_by file.now at offset_size length_size heap_header_address id.now read_size)
         (λ place. place.position + place.length ≤ length file.now) }
 {
-    put_answer(
-        slot,
-        read(file, at, offset_size, length_size, read_size, id).answer(),
-    )
+    let found = read(
+        file,
+        at,
+        offset_size,
+        length_size,
+        read_size,
+        heap_header_address,
+        id,
+    );
+    put_answer(slot, found.answer())
 }
 
 /// Where a tiny object lies in its ID, and its length.
@@ -82,27 +93,36 @@ pub extern "C" fn tools_heap_id_type(id: &[u8], slot: &mut [u8]) -> u32
     put_answer(slot, FractalHeapHeader::heap_id_type(id).answer())
 }
 
-/// The header once, then every ID; 13 and nothing stored where the list is too short for all.
+/// The header once, then every ID, every block on the way tested; 13 and nothing stored where the list is too short for
+/// all.
 #[unsafe(no_mangle)]
 pub extern "C" fn tools_read_each(
     file: &[u8],
     at: u64,
     offset_size: u8,
     length_size: u8,
+    heap_header_address: u64,
     ids: &[u8],
     found: &mut [u64],
 ) -> u32
     ensures number { result
         ≡ each_number found.old ids.now (header_at file.now at offset_size length_size) }
-    ensures found_after { found.new ≡ each_list found.old ids.now file.now offset_size
+    ensures found_after { found.new ≡ each_list found.old ids.now
+        (λ header id. managed_checked header heap_header_address file.now id offset_size)
         (header_at file.now at offset_size length_size) }
 {
     if found.len() / 3 < ids.len() / 8 {
         return SLICE_TOO_SHORT;
     }
     match FractalHeapHeader::parse(file, to_usize(at), offset_size, length_size) {
-        Ok(h) => {
-            read_each(&h, file, offset_size, ids, found);
+        Ok(header) => {
+            let objects = Tested {
+                header: &header,
+                heap_header_address,
+                file,
+                offset_size,
+            };
+            read_each(&objects, ids, found);
             0
         }
         Err(e) => e.answer().number,

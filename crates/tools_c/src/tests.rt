@@ -6,7 +6,7 @@ ghost use Rattle.planner.specs.Steps.{plan_offsets, plan_starts};
 ghost use Rattle.plan.specs.Plans.{InObject};
 
 use crate::writing::{tools_plan, tools_serialize};
-use plan::ManagedPlan;
+use plan::{ManagedPlan, TOTAL_COUNT};
 use refusals::FormatError;
 use std::test::Fail;
 
@@ -16,7 +16,7 @@ fn plans(sizes: &[u64], offsets: &mut [u64], blocks: &mut [u64], offset_size: u8
         → plan_offsets fixed offset_size (take k sizes.now)
         ≡ take k (plan_offsets fixed offset_size sizes.now) }
 {
-    tools_plan(sizes, offsets, blocks, offset_size, &mut [0; 8]) == 0
+    tools_plan(sizes, offsets, blocks, offset_size, &mut [0; TOTAL_COUNT]) == 0
 }
 
 // Writes. Where that is accepted, no heap offset is a byte of two objects.
@@ -39,7 +39,7 @@ fn writes(
         0,
         0,
         8,
-        &mut [0; 8],
+        &mut [0; TOTAL_COUNT],
     ) == 0
 }
 

@@ -4,8 +4,7 @@ use Rattle.std.proofs.Common.{subst₂, arith}
 use Rattle.std.proofs.Math.Decide.{ℕ_discrete}
 use Rattle.std.specs.Int.Count.{count_leading_zeros}
 use Rattle.numbers.specs.Numbers.{bytes_from, bytes_needed}
-use Rattle.checksum.specs.Lookup3.{run as mixed_groups, switched, hashlittle}
-use Rattle.checksum.specs.Mix.{mixed, final_mixed}
+use Rattle.checksum.specs.Lookup3.{mixed_groups, switched, hashlittle}
 use Rattle.table.specs.Table.{fixed, row_in, covering_in}
 use Rattle.table.specs.Slots.{slot_bits_in, entered_bytes_in}
 use Rattle.numbers.specs.Sums.{sum}
@@ -14,13 +13,13 @@ use Rattle.planner.specs.Steps.{open_in, run_from, offsets_from, starts_from, pl
 use Rattle.plan.specs.declared.ManagedPlan.{ManagedPlan}
 use Rattle.plan.specs.Answer.{planned_for}
 use Rattle.plan.specs.Checks.{sizes_checked}
+use Rattle.plan.specs.Plans.{object_start}
 use Rattle.fields.specs.LittleEndian.{le, value, le_at}
 use Rattle.reading.specs.Rows.{heap_size}
 use Rattle.fractal_heap.specs.Spelling.{spelled}
 use Rattle.fractal_heap.specs.Writing.{widths_checked}
 use Rattle.region_write.proofs.Indirect.{bare-planned}
 use Rattle.region_write.proofs.Region.{region-length, root-place}
-use Rattle.heap_kept.specs.HeapKept.{offset_of}
 use Rattle.heap_kept.proofs.FromRoot.{planned as planned-call}
 use Rattle.heap_kept.proofs.Empty.{missed-there}
 use Rattle.worked.specs.Cases.{RegionIsPlanned, EmptyUnfound, Both, All, cases}
@@ -46,13 +45,13 @@ module _ (w : ℕ) (xs ss : List ℕ) (starts : plan_starts fixed w xs ≡ ss) (
       go (no z) = omega arith
 
   -- an empty object that no placed block holds is not found there
-  missing : (i x : ℕ) → offset_of w xs i ≡ x → i < length xs → slice_index xs i ≡ 0 → NoneHolds fixed x ss
+  missing : (i x : ℕ) → object_start w xs i ≡ x → i < length xs → slice_index xs i ≡ 0 → NoneHolds fixed x ss
       → x < 2 ^ 40 → EmptyUnfound w xs i
   missing i x is l e C small = record {
     index = l;
     empty = e;
     unfound = λ js header address offsets blocks region p W file H h T.
-        (missed-there W H T (offset_of w xs i) 0 (let n = ap length starts in omega arith)
+        (missed-there W H T (object_start w xs i) 0 (let n = ap length starts in omega arith)
         (rows offsets blocks p (planned-call W)) (subst₂ (NoneHolds fixed) (sym is) (sym starts) C) (omega arith));
   }
 
@@ -63,13 +62,13 @@ after_two = not_in_first {start = 0} (λ _. omega arith) (not_in_first {start = 
 
 -- worked case 5's second sentence: after two blocks that are full the third object begins where no block is
 third-missed : plan_starts fixed 8 (1002 ∷ 1002 ∷ 0 ∷ []) ≡ 0 ∷ 1024 ∷ []
-    → offset_of 8 (1002 ∷ 1002 ∷ 0 ∷ []) 2 ≡ 2048 → EmptyUnfound 8 (1002 ∷ 1002 ∷ 0 ∷ []) 2
+    → object_start 8 (1002 ∷ 1002 ∷ 0 ∷ []) 2 ≡ 2048 → EmptyUnfound 8 (1002 ∷ 1002 ∷ 0 ∷ []) 2
 third-missed starts is =
     missing 8 (1002 ∷ 1002 ∷ 0 ∷ []) (0 ∷ 1024 ∷ []) starts (omega arith) 2 2048 is (omega arith) refl after_two
     (omega arith)
 
 pub worked : All cases
-unfolding mixed_groups switched mixed final_mixed hashlittle bytes_from bytes_needed le value le_at count_leading_zeros
+unfolding mixed_groups switched hashlittle bytes_from le value le_at count_leading_zeros
     heap_size row_in covering_in slot_bits_in entered_bytes_in sum capacities open_in run_from offsets_from
     starts_from sizes_checked planned_for widths_checked spelled
 worked =

@@ -1,7 +1,9 @@
 -- The worked cases: sizes and what is planned and written for them, in lists of just enough places;
 -- an empty object that is not found; IDs and what they say; the rows of the fixed table, as
--- planning and as the reader has them; checksums; headers to be written, and headers that are parsed.
-use Rattle.std.specs.Prelude.{ℕ, ◌-◌, ◌^◌, ◌≤◌, ◌<◌, max, ◌≡◌, List, [], ◌∷◌, ◌++◌, length, take, drop}
+-- planning and as the reader has them; checksums; headers to be written, and headers that are
+-- parsed.
+use Rattle.std.specs.Prelude.{ℕ, ◌-◌, ◌^◌, ◌≤◌, ◌<◌, max, ◌≡◌, List, [], ◌∷◌, ◌++◌, length, take}
+use Rattle.std.specs.Prelude.{drop}
 use Rattle.std.specs.Prelude.{slice_index, Result, Ok, Err, Some}
 use Rattle.refusals.specs.declared.FormatError.{FormatError}
 use Rattle.refusals.specs.declared.FormatError.TheVariants.{UnexpectedEof, ObjectTooLarge}
@@ -12,6 +14,7 @@ use Rattle.table.specs.Table.{fixed, row_bits, row_offset, covering}
 use Rattle.plan.specs.declared.ManagedPlan.{ManagedPlan}
 use Rattle.planner.specs.Steps.{plan_offsets, plan_starts}
 use Rattle.plan.specs.Answer.{planned_for}
+use Rattle.plan.specs.Plans.{object_start}
 use Rattle.region_blocks.specs.Site.{site_of}
 use Rattle.region_write.specs.Region.{region, root_bytes}
 use Rattle.ids.specs.Checks.{id_checked}
@@ -26,7 +29,7 @@ use Rattle.fractal_heap.specs.Header.{header_at, header_of, with_filters}
 use Rattle.fractal_heap.specs.Read.{managed_at}
 use Rattle.fractal_heap.specs.Spelling.{unsummed}
 use Rattle.fractal_heap.specs.Writing.{header_checked}
-use Rattle.heap_kept.specs.HeapKept.{Call, WriterAccepts, HoldsRegion, IsHeaderOf, offset_of}
+use Rattle.heap_kept.specs.HeapKept.{Call, WriterAccepts, HoldsRegion, IsHeaderOf}
 
 -- the fixed geometry as a header has it
 abbrev pub fixed_table : DoublingTable
@@ -72,7 +75,8 @@ pub record RegionIsPlanned (offset_size : ℕ) (sizes : List ℕ) (plan : Manage
       take (length root) (drop plan.root_place (region site plan.root_rows sizes objects)) ≡ root
 
 -- a call of the writer for these sizes
-abbrev pub call_for : ℕ → List ℕ → List ℕ → ℕ → ℕ → ℕ → ℕ → ℕ → Call
+abbrev pub call_for : (offset_size : ℕ) (sizes objects : List ℕ)
+    (heap_header address offset_places block_places region_bytes : ℕ) → Call
 call_for offset_size sizes objects heap_header address offset_places block_places region_bytes =
     record {
       sizes = sizes;
@@ -94,16 +98,16 @@ pub record EmptyUnfound (offset_size : ℕ) (sizes : List ℕ) (i : ℕ) : Type 
       offset_places block_places region_bytes in
       WriterAccepts call plan → (file : List ℕ) → HoldsRegion file call plan
       → (header : FractalHeapHeader) → IsHeaderOf header call plan
-      → let offset = offset_of offset_size sizes i in
+      → let offset = object_start offset_size sizes i in
       managed_at header file (managed_id fixed offset 0) offset_size
       ≡ Err (UnexpectedEof offset (length file))
 
 -- planned in lists of just enough places
-abbrev pub planned : ℕ → List ℕ → Result ManagedPlan FormatError
+abbrev pub planned : (offset_size : ℕ) (sizes : List ℕ) → Result ManagedPlan FormatError
 planned offset_size sizes =
     planned_for sizes (length sizes) (max 1 (length sizes)) offset_size
 
-abbrev pub Holds : Case → Type 0
+abbrev pub Holds : (worked : Case) → Type 0
 Holds (plans offset_size sizes offsets starts plan) =
     (planned offset_size sizes ≡ Ok plan)
     × (plan_offsets fixed offset_size sizes ≡ offsets)
@@ -141,7 +145,7 @@ pub record Both (P Q : Type 0) : Type 0 where
   pub first : P
   pub rest : Q
 
-abbrev pub All : List Case → Type 0
+abbrev pub All : (cases : List Case) → Type 0
 All [] = ◌≡◌ {A = ℕ} 0 0
 All (c ∷ cs) = Both (Holds c) (All cs)
 
@@ -170,7 +174,8 @@ heap_numbers undefined plan =
 abbrev pub beginning_with : (first second : ℕ) (numbers : List ℕ) → List ℕ
 beginning_with first second numbers = first ∷ second ∷ drop 2 numbers
 
--- a header of these numbers with filters: the position of their information, the filtered root's size, the mask
+-- a header of these numbers with filters: the position of their information, the filtered root's
+-- size, the mask
 abbrev pub filtered : (numbers : List ℕ) (position size mask : ℕ) → FractalHeapHeader
 filtered numbers position size mask =
     with_filters (header_of numbers)

@@ -1,7 +1,7 @@
-//! Prints managed objects of a heap in an HDF5 file, which may have a user block.
+//! Prints managed objects of a heap in an HDF5 file, which may have a user block. Of a damaged one it says at which block.
 //!     read_file FILE ADDRESS ID...
 //! ADDRESS is that of the heap's header, in decimal as HDF5's tools tell it; an ID is hexadecimal digits, two a byte.
-use fractal_heap::Superblock;
+use fractal_heap::{Error::Refused, Heap, Superblock};
 use std::error::Error;
 use std::io::Write;
 use std::process::ExitCode;
@@ -18,6 +18,22 @@ fn id_of(digits: &str) -> Result<Vec<u8>, Box<dyn Error>> {
         .collect::<Result<_, _>>()?)
 }
 
+/// An object's bytes, or why there are none, and at which block, if it is refused at one.
+fn object<'f>(heap: &Heap<'f>, id: &[u8]) -> Result<&'f [u8], Box<dyn Error>> {
+    // The blocks of a file that is as HDF5 wrote it have the heap's address.
+    let error = match heap.read_managed_object(id, heap.header_at) {
+        Ok(bytes) => return Ok(bytes),
+        Err(error) => error,
+    };
+    match (error, heap.stopping_block(id, heap.header_at)) {
+        (Refused(refusal), Ok(block)) => {
+            let (address, offset) = (block.address, block.heap_offset);
+            Err(format!("{refusal}; the block at address {address}, heap offset {offset}").into())
+        }
+        _ => Err(error.into()),
+    }
+}
+
 fn print(words: &[String]) -> Result<(), Box<dyn Error>> {
     let [_, name, address, ids @ ..] = words else {
         return Err("read_file FILE ADDRESS ID...".into());
@@ -32,7 +48,7 @@ fn print(words: &[String]) -> Result<(), Box<dyn Error>> {
         .ok_or("the superblock's version is not known here")?;
     let mut out = io::stdout().lock();
     for digits in ids {
-        out.write_all(heap.read_managed_object(&id_of(digits)?)?)?;
+        out.write_all(object(&heap, &id_of(digits)?)?)?;
     }
     // What is kept until the end may not arrive either, on a full disk say.
     Ok(out.flush()?)

@@ -132,6 +132,11 @@ impl Header {
         26 + 12 * length_size as usize + 3 * offset_size as usize
     }
 
+    /// How many bytes stand before the objects of a direct block, in a heap that is planned, at this offset size.
+    pub const fn direct_block_front(offset_size: u8) -> u32 {
+        14 + offset_size as u32
+    }
+
     /// Writes the header of a heap without filters into the first [`length`](Header::length) bytes of `bytes`; those behind
     /// them keep their content. What is written is what [`Heap::header`] reads, and a header without filters that was read
     /// is written byte for byte as it was; both are proved of the function that is called for it. What only a header with
@@ -242,7 +247,7 @@ impl Totals {
     /// Where the root has more than 65,535 rows, which no plan has.
     pub fn header(&self, objects: u64, region_at: u64, offset_size: u8) -> Header {
         let undefined = undefined(offset_size).unwrap_or_default(); // 0 is the width of no file
-        let block_header = 14 + u32::from(offset_size);
+        let block_header = Header::direct_block_front(offset_size);
         Header {
             heap_id_length: 8,
             io_filter_encoded_length: 0,

@@ -5,33 +5,46 @@
 //! has its ID at once; and it writes a heap's header, [`Header::write`].
 //!
 //! ```
-//! use fractal_heap::{Error, Heap, Refusal};
+//! use fractal_heap::{Block, Error, Heap, Refusal};
 //! # // A heap of one object: its header at 0, and behind it its one block by the format.
 //! # let mut plan = fractal_heap::OpenPlan::open(8)?;
 //! # plan.add(28)?;
 //! # let mut file = vec![0; 146];
 //! # plan.header(146).write(8, 8, &mut file)?;
 //! # file.extend(b"FHDB");
-//! # file.extend([0; 18]); // version, the header's address, the heap offset, and a checksum that no reader tests
+//! # file.extend([0; 18]); // version, the header's address, the heap offset, and the checksum, 0 so far
 //! # file.extend(b"gauge 7 was replaced at noon");
 //! # file.resize(146 + 1024, 0);
+//! # let sum = fractal_heap::checksum(&file[146..]);
+//! # file[146 + 18..146 + 22].copy_from_slice(&sum.to_le_bytes());
 //!
 //! // The file's bytes from its superblock on, the address of a heap's header, and the two sizes of the superblock.
 //! let heap = Heap { file: &file, header_at: 0, offset_size: 8, length_size: 8 };
 //! let id = [0x00, 0x16, 0x00, 0x00, 0x00, 0x00, 0x1C, 0x00];
 //!
+//! // Each block on the way is tested, and says what header it belongs to: the one that is read here.
 //! assert_eq!(heap.decode_managed_id(&id)?, (22, 28));
-//! assert_eq!(heap.read_managed_object(&id)?, b"gauge 7 was replaced at noon");
+//! assert_eq!(heap.read_managed_object(&id, heap.header_at)?, b"gauge 7 was replaced at noon");
 //!
 //! // An ID that was cut short, which the C functions would take for another one.
 //! assert_eq!(heap.heap_id_length()?, 8);
-//! assert_eq!(heap.read_managed_object(&id[..3]), Err(Error::IdLength { length: 3, due: 8 }));
+//! let short = heap.read_managed_object(&id[..3], heap.header_at);
+//! assert_eq!(short, Err(Error::IdLength { length: 3, due: 8 }));
 //!
 //! // The same file, cut inside of the header.
 //! let cut = Heap { file: &file[..100], ..heap };
-//! let error = cut.read_managed_object(&id).unwrap_err();
+//! let error = cut.read_managed_object(&id, cut.header_at).unwrap_err();
 //! assert!(matches!(error, Error::Refused(Refusal::UnexpectedEof { available: 100, .. })));
 //! println!("{error}"); // refused by 1: the bytes end too early: the end expected is ..
+//!
+//! // The same file with one bit changed behind the object: it is not handed out, but for who asks for untested bytes.
+//! let mut damaged = file.clone();
+//! damaged[1000] ^= 1;
+//! let damaged = Heap { file: &damaged, ..heap };
+//! let error = damaged.read_managed_object(&id, heap.header_at).unwrap_err();
+//! assert!(matches!(error, Error::Refused(Refusal::BlockChecksumMismatch { .. })));
+//! assert_eq!(damaged.stopping_block(&id, heap.header_at)?, Block { address: 146, heap_offset: 0 });
+//! assert_eq!(damaged.read_managed_object_unchecked(&id)?, b"gauge 7 was replaced at noon");
 //! # Ok::<(), Error>(())
 //! ```
 //!
@@ -52,13 +65,14 @@ mod refusal;
 mod superblock;
 
 pub use header::{Header, WrittenHeader};
-pub use numbers::{count, grouped};
+pub use numbers::{count, grouped, little_endian};
 pub use open_plan::{Added, OpenPlan, Totals};
 pub use refusal::Refusal;
 pub use superblock::Superblock;
 
 use fractal_heap_sys::{
     fractal_heap_checksum, fractal_heap_decode_managed_id, fractal_heap_read_managed_object,
+    fractal_heap_read_managed_object_unchecked, fractal_heap_stopping_block,
 };
 use std::fmt;
 
@@ -69,6 +83,20 @@ type Call = unsafe extern "C" fn(
     at: u64,
     offset_size: u8,
     length_size: u8,
+    id: *const u8,
+    id_len: usize,
+    slot: *mut u8,
+    slot_len: usize,
+) -> u32;
+
+/// One that also takes what each block has to say of where its header is.
+type CheckedCall = unsafe extern "C" fn(
+    file: *const u8,
+    file_len: usize,
+    at: u64,
+    offset_size: u8,
+    length_size: u8,
+    heap_header_address: u64,
     id: *const u8,
     id_len: usize,
     slot: *mut u8,
@@ -143,6 +171,15 @@ impl From<Refusal> for Error {
     }
 }
 
+/// A block of a heap: where it is in the file, and where what it holds begins in the heap.
+#[derive(Debug, Clone, Copy, PartialEq, Eq)]
+pub struct Block {
+    /// Its address, which counts from where the heap's file begins.
+    pub address: u64,
+    /// The heap offset of its first byte.
+    pub heap_offset: u64,
+}
+
 /// A heap in a file: where its header is, and the two sizes that the file's superblock gives.
 /// [`Superblock::heap`] makes it of a whole file.
 #[derive(Clone, Copy)]
@@ -185,9 +222,40 @@ impl<'f> Heap<'f> {
     }
 
     /// The bytes of a managed object, as they lie in the file, by its ID, which must have the length of the heap's IDs.
-    pub fn read_managed_object(&self, id: &[u8]) -> Result<&'f [u8], Error> {
+    /// Every block on the way is tested: that it lies in the file, its signature and version, that it belongs to the header
+    /// at `heap_header_address` and to its place in the heap, and its checksum; and the object has to end in its block. Of
+    /// direct blocks without checksums (the bit of value 2 of [`Header::flags`] is not set) a change behind their headers is
+    /// not seen.
+    ///
+    /// Each block stores the address of its heap's header. That is [`header_at`](Heap::header_at), unless header and blocks
+    /// were carried elsewhere since they were written. [`stopping_block`](Heap::stopping_block) says at which block a
+    /// refusal is.
+    pub fn read_managed_object(
+        &self,
+        id: &[u8],
+        heap_header_address: u64,
+    ) -> Result<&'f [u8], Error> {
         self.check_length(id)?;
-        self.read_managed_object_of_any_length(id)
+        self.read_managed_object_of_any_length(id, heap_header_address)
+    }
+
+    /// The bytes of a managed object, as they lie in the file, by its ID, which must have the length of the heap's IDs. No
+    /// block is tested, but for an indirect one's signature: of a damaged file these may be wrong bytes.
+    pub fn read_managed_object_unchecked(&self, id: &[u8]) -> Result<&'f [u8], Error> {
+        self.check_length(id)?;
+        self.read_managed_object_of_any_length_unchecked(id)
+    }
+
+    /// The block at which [`read_managed_object`](Heap::read_managed_object) stops, by an ID of any length: the one that
+    /// it refuses; the direct block, where it finds the object, or one that ends past that block; the indirect block that
+    /// has no block at the ID's place. Refused, as the read is, where that is before any block.
+    pub fn stopping_block(&self, id: &[u8], heap_header_address: u64) -> Result<Block, Refusal> {
+        let (address, heap_offset) =
+            self.checked_pair(fractal_heap_stopping_block, heap_header_address, id)?;
+        Ok(Block {
+            address,
+            heap_offset,
+        })
     }
 
     /// As [`decode_managed_id`](Heap::decode_managed_id), by an ID of any length, as the library takes it: what it lacks
@@ -198,8 +266,24 @@ impl<'f> Heap<'f> {
 
     /// As [`read_managed_object`](Heap::read_managed_object), by an ID of any length: one of three bytes may give an
     /// empty object.
-    pub fn read_managed_object_of_any_length(&self, id: &[u8]) -> Result<&'f [u8], Error> {
-        let (position, length) = self.pair(fractal_heap_read_managed_object, id)?;
+    pub fn read_managed_object_of_any_length(
+        &self,
+        id: &[u8],
+        heap_header_address: u64,
+    ) -> Result<&'f [u8], Error> {
+        self.object(self.checked_pair(fractal_heap_read_managed_object, heap_header_address, id)?)
+    }
+
+    /// As [`read_managed_object_unchecked`](Heap::read_managed_object_unchecked), by an ID of any length.
+    pub fn read_managed_object_of_any_length_unchecked(
+        &self,
+        id: &[u8],
+    ) -> Result<&'f [u8], Error> {
+        self.object(self.pair(fractal_heap_read_managed_object_unchecked, id)?)
+    }
+
+    /// The bytes at a position, so many.
+    fn object(&self, (position, length): (u64, u64)) -> Result<&'f [u8], Error> {
         part(self.file, position, length).ok_or(Error::Outside {
             position,
             length,
@@ -227,12 +311,11 @@ impl<'f> Heap<'f> {
         })
     }
 
-    /// The library's answer: its number, and the two values that it puts into a slot of 16 bytes.
+    /// The library's answer by an ID.
     fn pair(&self, call: Call, id: &[u8]) -> Result<(u64, u64), Refusal> {
-        let mut slot = [0; 16];
         // SAFETY: pointers and lengths are those of slices, and the slot, which is lent for writing, overlaps no
         // other slice.
-        let number = unsafe {
+        with_slot(|slot, slot_len| unsafe {
             call(
                 self.file.as_ptr(),
                 self.file.len(),
@@ -241,12 +324,42 @@ impl<'f> Heap<'f> {
                 self.length_size,
                 id.as_ptr(),
                 id.len(),
-                slot.as_mut_ptr(),
-                slot.len(),
+                slot,
+                slot_len,
             )
-        };
-        Refusal::answered(number, slot)
+        })
     }
+
+    /// Likewise, where blocks are held to the address of their header.
+    fn checked_pair(
+        &self,
+        call: CheckedCall,
+        heap_header_address: u64,
+        id: &[u8],
+    ) -> Result<(u64, u64), Refusal> {
+        // SAFETY: as above.
+        with_slot(|slot, slot_len| unsafe {
+            call(
+                self.file.as_ptr(),
+                self.file.len(),
+                self.header_at,
+                self.offset_size,
+                self.length_size,
+                heap_header_address,
+                id.as_ptr(),
+                id.len(),
+                slot,
+                slot_len,
+            )
+        })
+    }
+}
+
+/// What a call answers: its number, and the two values that it puts into a slot of 16 bytes.
+fn with_slot(call: impl FnOnce(*mut u8, usize) -> u32) -> Result<(u64, u64), Refusal> {
+    let mut slot = [0; 16];
+    let number = call(slot.as_mut_ptr(), slot.len());
+    Refusal::answered(number, slot)
 }
 
 /// So many bytes from a position on, if the file has them.

@@ -1,4 +1,4 @@
-//! Numbers for a person, as the refusals print them.
+//! Numbers for a person, as the refusals print them, and numbers as a file has them.
 
 /// A number in groups of three digits.
 ///
@@ -26,4 +26,15 @@ pub fn grouped(number: u64) -> String {
 pub fn count(number: u64, word: &str) -> String {
     let ending = if number == 1 { "" } else { "s" };
     format!("{} {word}{ending}", grouped(number))
+}
+
+/// A little-endian number: of more than eight bytes the first eight count.
+///
+/// ```
+/// assert_eq!(fractal_heap::little_endian(&[0x16, 0x20]), 0x2016);
+/// assert_eq!(fractal_heap::little_endian(&[]), 0);
+/// ```
+pub fn little_endian(bytes: &[u8]) -> u64 {
+    let highest_first = bytes.iter().take(8).rev();
+    highest_first.fold(0, |number, &byte| number << 8 | u64::from(byte))
 }

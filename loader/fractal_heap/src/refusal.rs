@@ -26,9 +26,9 @@ pub enum Refusal {
     InvalidOffsetSize { size: u64 },
     /// 3: no file has lengths of so many bytes.
     InvalidLengthSize { size: u64 },
-    /// 4: the signature of a header or of an indirect block.
+    /// 4: the signature of a header or of a block.
     InvalidSignature,
-    /// 5: the header's version.
+    /// 5: the version of a header or of a block.
     InvalidVersion { version: u64 },
     /// 6: the ID is not a managed object's.
     InvalidHeapIdType { id_type: u64 },
@@ -56,6 +56,10 @@ pub enum Refusal {
     HeapIdTooLarge { offset: u64, length: u64 },
     /// 17: a header's field, by its place in header order counted from 0, is too large for its width.
     HeaderFieldTooLarge { place: u64, value: u64 },
+    /// 18: a block's checksum.
+    BlockChecksumMismatch { stored: u64, computed: u64 },
+    /// 19: a block of another header, whose address it stores, or of another place in the heap.
+    ForeignBlock { stored: u64, wanted: u64 },
     /// 20: a heap offset or a number of rows that the heap does not have.
     OutsideHeap { number: u64 },
     /// A number that this version has no words for.
@@ -66,10 +70,13 @@ pub enum Refusal {
     },
 }
 
+/// Of all that begins with a signature.
+const NO_SIGNATURE: &str = "no signature: FRHP has to begin the heap's header, FHIB an indirect block, FHDB a direct block";
+
 impl Refusal {
     /// The numbers that this version has words for, upward.
-    pub const NUMBERS: [u32; 18] = [
-        1, 2, 3, 4, 5, 6, 7, 8, 9, 10, 11, 12, 13, 14, 15, 16, 17, 20,
+    pub const NUMBERS: [u32; 20] = [
+        1, 2, 3, 4, 5, 6, 7, 8, 9, 10, 11, 12, 13, 14, 15, 16, 17, 18, 19, 20,
     ];
 
     /// The cause with this number and these values; a value that the cause does not have is passed over.
@@ -96,6 +103,14 @@ impl Refusal {
                 distance: second,
             },
             sys::FRACTAL_HEAP_DEPTH_EXCEEDED => Refusal::DepthExceeded { limit: first },
+            sys::FRACTAL_HEAP_BLOCK_CHECKSUM_MISMATCH => Refusal::BlockChecksumMismatch {
+                stored: first,
+                computed: second,
+            },
+            sys::FRACTAL_HEAP_FOREIGN_BLOCK => Refusal::ForeignBlock {
+                stored: first,
+                wanted: second,
+            },
             _ => Refusal::of_writing(number, first, second),
         }
     }
@@ -175,6 +190,8 @@ impl Refusal {
             }
             Refusal::HeapIdTooLarge { .. } => sys::FRACTAL_HEAP_HEAP_ID_TOO_LARGE,
             Refusal::HeaderFieldTooLarge { .. } => sys::FRACTAL_HEAP_HEADER_FIELD_TOO_LARGE,
+            Refusal::BlockChecksumMismatch { .. } => sys::FRACTAL_HEAP_BLOCK_CHECKSUM_MISMATCH,
+            Refusal::ForeignBlock { .. } => sys::FRACTAL_HEAP_FOREIGN_BLOCK,
             Refusal::OutsideHeap { .. } => sys::FRACTAL_HEAP_OUTSIDE_HEAP,
             Refusal::Other { number, .. } => number,
         }
@@ -216,6 +233,14 @@ impl Refusal {
                 length: b,
             }
             | Refusal::HeaderFieldTooLarge { place: a, value: b }
+            | Refusal::BlockChecksumMismatch {
+                stored: a,
+                computed: b,
+            }
+            | Refusal::ForeignBlock {
+                stored: a,
+                wanted: b,
+            }
             | Refusal::Other {
                 first: a,
                 second: b,
@@ -234,8 +259,8 @@ impl Refusal {
             1 => "the bytes end too early, or the heap has nothing at the ID's place",
             2 => "the offset size is not 2, 4 or 8",
             3 => "the length size is not 2, 4 or 8",
-            4 => "no signature: FRHP has to begin the heap's header, FHIB an indirect block",
-            5 => "the header's version is not 0",
+            4 => NO_SIGNATURE,
+            5 => "the version of the heap's header, or of a block, is not 0",
             6 => "the ID is not a managed object's",
             7 => "the header's checksum differs",
             8 => {
@@ -252,6 +277,8 @@ impl Refusal {
             }
             16 => "no ID holds the offset and the length: they must be below 2^40 and below 2^16",
             17 => "a field of the header to be written is too large for its width",
+            18 => "a block's checksum differs",
+            19 => "a block belongs to another header, or to another place in the heap",
             20 => "no heap offset below the heap's end, or no number of rows that a root has",
             _ => return None,
         })
@@ -265,10 +292,10 @@ impl Refusal {
             Refusal::UnexpectedEof { .. } => too_early(first, second),
             Refusal::InvalidOffsetSize { .. } => format!("the offset size is {a}, not 2, 4 or 8"),
             Refusal::InvalidLengthSize { .. } => format!("the length size is {a}, not 2, 4 or 8"),
-            Refusal::InvalidSignature => {
-                "no signature: FRHP has to begin the heap's header, FHIB an indirect block".into()
+            Refusal::InvalidSignature => NO_SIGNATURE.into(),
+            Refusal::InvalidVersion { .. } => {
+                format!("the version of the heap's header, or of a block, is {a}, not 0")
             }
-            Refusal::InvalidVersion { .. } => format!("the header's version is {a}, not 0"),
             Refusal::InvalidHeapIdType { .. } => {
                 format!("the ID is of type {a}, not a managed object's, which is 0")
             }
@@ -285,6 +312,12 @@ impl Refusal {
             Refusal::DepthExceeded { .. } => {
                 format!("the depth is used up: {a} blocks down and still no object")
             }
+            Refusal::BlockChecksumMismatch { .. } => format!(
+                "a block's checksum differs: {first:08X} is stored, {second:08X} computed"
+            ),
+            Refusal::ForeignBlock { .. } => format!(
+                "a block belongs to another header, or to another place in the heap: {a} is stored, {b} wanted"
+            ),
             _ => self.words_of_writing(&a, &b),
         }
     }
@@ -356,7 +389,7 @@ mod tests {
     use super::*;
 
     /// Numbers and values as the table in docs/RULES.md has them: 15 stands there twice.
-    const TABLE: [(u32, u64, u64); 19] = [
+    const TABLE: [(u32, u64, u64); 21] = [
         (1, 5120, 4096),
         (2, 3, 0),
         (3, 16, 0),
@@ -375,6 +408,8 @@ mod tests {
         (15, 65_000, 1024),
         (16, 1 << 40, 0),
         (17, 18, 65_536),
+        (18, 0x1777_0551, 0xDEAD_BEEF),
+        (19, 40, 4136),
         (20, 1 << 40, 0),
     ];
 
@@ -392,7 +427,7 @@ mod tests {
 
     #[test]
     fn every_number_has_a_cause() {
-        for number in 0..=Refusal::NUMBERS[17] + 1 {
+        for number in 0..=Refusal::NUMBERS[19] + 1 {
             let cause = Refusal::cause(number);
             assert_eq!(cause.is_some(), Refusal::NUMBERS.contains(&number));
         }
@@ -412,7 +447,7 @@ mod tests {
             TABLE.map(|row| row.0).into()
         );
         assert!(Refusal::NUMBERS.is_sorted());
-        for number in [0, 18, Refusal::NUMBERS[17] + 1] {
+        for number in [0, Refusal::NUMBERS[19] + 1] {
             assert_eq!(
                 Refusal::new(number, 1000, 2).to_string(),
                 format!(

@@ -1,8 +1,6 @@
 //! The superblock of an HDF5 file: where it is, which is the base of the file's addresses, and what it says of sizes.
 //! HDF5 File Format Specification, II.A.
-use crate::Heap;
-
-const SIGNATURE: &[u8] = b"\x89HDF\r\n\x1a\n";
+use crate::{Heap, little_endian};
 
 /// Where a file's superblock is, and what it says that matters here.
 ///
@@ -15,7 +13,8 @@ const SIGNATURE: &[u8] = b"\x89HDF\r\n\x1a\n";
 /// let superblock = Superblock::find(&bytes).ok_or("no HDF5 file")?;
 /// // The address of the heap's header, as HDF5 and its tools tell it.
 /// let heap = superblock.heap(&bytes, 1064).ok_or("a superblock that is not known here")?;
-/// let object = heap.read_managed_object(&[0x00, 0x16, 0x00, 0x00, 0x00, 0x00, 0x1C, 0x00])?;
+/// let id = [0x00, 0x16, 0x00, 0x00, 0x00, 0x00, 0x1C, 0x00];
+/// let object = heap.read_managed_object(&id, heap.header_at)?;
 /// # Ok::<(), Box<dyn std::error::Error>>(())
 /// ```
 #[derive(Debug, Clone, Copy, PartialEq, Eq)]
@@ -56,16 +55,18 @@ fn field(bytes: &[u8], at: usize, width: u8) -> Option<u64> {
         2 | 4 | 8 => bytes.get(at..at + usize::from(width))?,
         _ => return None,
     };
-    let number = |number, &byte: &u8| number << 8 | u64::from(byte);
-    Some(bytes.iter().rev().fold(0, number))
+    Some(little_endian(bytes))
 }
 
 impl Superblock {
+    /// What a superblock begins with.
+    pub const SIGNATURE: &[u8] = b"\x89HDF\r\n\x1a\n";
+
     /// The superblock of a whole file: the first signature at 0, 512, 1,024, 2,048 .., if there is one.
     pub fn find(file: &[u8]) -> Option<Self> {
         let mut at = 0;
         while let Some(rest) = file.get(at..) {
-            if rest.starts_with(SIGNATURE) {
+            if rest.starts_with(Self::SIGNATURE) {
                 return Self::parse(rest, at as u64);
             }
             at = at.checked_mul(2)?.max(512);
@@ -83,6 +84,11 @@ impl Superblock {
             offset_size,
             length_size,
         })
+    }
+
+    /// Where its base address stands in it, which all its other addresses follow; None where the version is not known.
+    pub fn base_at(&self) -> Option<u64> {
+        layout(self.version).map(|layout| layout.base as u64)
     }
 
     fn parse(bytes: &[u8], at: u64) -> Option<Self> {
@@ -110,7 +116,7 @@ mod tests {
     /// A file with a superblock of this version behind a user block; the base address field has this width.
     fn file(version: u8, at: usize, width: u8, base: u64) -> Vec<u8> {
         let mut file = vec![0x55; at + 96];
-        file[at..at + 8].copy_from_slice(SIGNATURE);
+        file[at..at + 8].copy_from_slice(Superblock::SIGNATURE);
         file[at + 8] = version;
         let (sizes, base_at) = match version {
             0 => (13, 24),
@@ -140,6 +146,12 @@ mod tests {
                         open_for_writing: false,
                     };
                     assert_eq!(found, Some(due));
+                    let base_at = if version < 2 {
+                        24 + 4 * u64::from(version)
+                    } else {
+                        12
+                    };
+                    assert_eq!(due.base_at(), Some(base_at));
                 }
             }
         }
@@ -179,13 +191,14 @@ mod tests {
         assert_eq!(Superblock::find(&file(0, 1536, 8, 0)), None);
         assert_eq!(Superblock::find(&file(0, 256, 8, 0)), None);
         assert_eq!(Superblock::find(b""), None);
-        assert_eq!(Superblock::find(SIGNATURE), None);
+        assert_eq!(Superblock::find(Superblock::SIGNATURE), None);
     }
 
     #[test]
     fn what_is_not_known_is_none() {
         let unknown = Superblock::find(&file(9, 512, 8, 512)).unwrap();
         assert_eq!((unknown.at, unknown.sizes, unknown.base), (512, None, None));
+        assert_eq!(unknown.base_at(), None);
         let cut = &file(2, 0, 8, 0)[..14];
         let cut = Superblock::find(cut).unwrap();
         assert_eq!((cut.sizes, cut.base), (Some((8, 4)), None));

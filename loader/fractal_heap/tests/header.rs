@@ -222,7 +222,8 @@ fn objects_of_a_filtered_heap_are_not_read_but_their_ids_are_decoded() {
     let id = [0x00, 0x16, 0x00, 0x00, 0x00, 0x00, 0x1C, 0x00];
     assert_eq!(heap.decode_managed_id(&id), Ok((22, 28)));
     let due = Error::Refused(Refusal::UnsupportedFilteredHeapObject);
-    assert_eq!(heap.read_managed_object(&id), Err(due));
+    assert_eq!(heap.read_managed_object(&id, heap.header_at), Err(due));
+    assert_eq!(heap.read_managed_object_unchecked(&id), Err(due));
     let due = Refusal::UnsupportedFilteredHeapObject;
     let header = heap.header().unwrap();
     assert_eq!(header.write(8, 8, &mut [0; 200]), Err(due));
@@ -396,4 +397,14 @@ fn a_heap_of_four_gigabytes_has_no_header_of_lengths_of_four_bytes() {
     assert_eq!(refusal, Refusal::HeaderFieldTooLarge { place, value });
     assert_eq!(bytes, [0; 146]);
     assert_eq!(header.write(8, 8, &mut bytes).unwrap().length, 146);
+}
+
+#[test]
+fn the_front_of_a_direct_block_leaves_room_for_the_largest_object() {
+    for offset_size in [2, 4, 8] {
+        let largest = 65_536 - u64::from(Header::direct_block_front(offset_size));
+        let mut plan = OpenPlan::open(offset_size).unwrap();
+        assert!(plan.add(largest).is_ok());
+        assert!(plan.add(largest + 1).is_err());
+    }
 }

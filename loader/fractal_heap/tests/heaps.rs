@@ -1,6 +1,6 @@
 //! Calls the library from Rust: heaps built in memory, with a direct and with an indirect root, read
 //! back at each offset and length size, and the refusals. Expected values are the format's and docs/RULES.md's.
-use fractal_heap::{Error, Header, Heap, OpenPlan, Refusal, checksum};
+use fractal_heap::{Block, Error, Header, Heap, OpenPlan, Refusal, checksum};
 
 /// The starting block size.
 const START: usize = 1024;
@@ -129,8 +129,25 @@ fn heap(file: &[u8], w: Widths) -> Heap<'_> {
     }
 }
 
+/// By the checked reader.
 fn read<'f>(file: &'f [u8], w: Widths, id: &[u8]) -> Result<&'f [u8], Error> {
-    heap(file, w).read_managed_object(id)
+    heap(file, w).read_managed_object(id, AT as u64)
+}
+
+fn unchecked<'f>(file: &'f [u8], w: Widths, id: &[u8]) -> Result<&'f [u8], Error> {
+    heap(file, w).read_managed_object_unchecked(id)
+}
+
+/// The block at which the checked reader stops.
+fn stopping_block(file: &[u8], w: Widths, id: &[u8]) -> Result<Block, Refusal> {
+    heap(file, w).stopping_block(id, AT as u64)
+}
+
+fn block(address: usize, heap_offset: usize) -> Block {
+    Block {
+        address: address as u64,
+        heap_offset: heap_offset as u64,
+    }
 }
 
 fn refused(number: u32, first: usize, second: usize) -> Result<&'static [u8], Error> {
@@ -163,18 +180,20 @@ fn the_worked_id_is_decoded() {
 #[test]
 fn an_object_of_a_direct_root_comes_back() {
     each_width(|w| {
-        assert_eq!(
-            read(&direct_heap(w), w, &id_at(w.block_header())),
-            Ok(OBJECT)
-        )
+        let (file, id) = (direct_heap(w), id_at(w.block_header()));
+        assert_eq!(read(&file, w, &id), Ok(OBJECT));
+        assert_eq!(unchecked(&file, w, &id), Ok(OBJECT));
+        assert_eq!(stopping_block(&file, w, &id), Ok(block(ROOT, 0)));
     });
 }
 
 #[test]
 fn an_object_of_an_indirect_roots_second_child_comes_back() {
     each_width(|w| {
-        let id = id_at(START + w.block_header());
-        assert_eq!(read(&indirect_heap(w), w, &id), Ok(OBJECT));
+        let (file, id) = (indirect_heap(w), id_at(START + w.block_header()));
+        assert_eq!(read(&file, w, &id), Ok(OBJECT));
+        assert_eq!(unchecked(&file, w, &id), Ok(OBJECT));
+        assert_eq!(stopping_block(&file, w, &id), Ok(block(SECOND, START)));
     });
 }
 
@@ -184,11 +203,20 @@ fn a_cut_file_is_refused_by_1() {
     let file = direct_heap(w);
     let id = id_at(w.block_header());
     let end = ROOT + w.block_header() + OBJECT.len();
-    assert_eq!(read(&file[..end - 1], w, &id), refused(1, end, end - 1));
+    let cut = &file[..end - 1];
+    assert_eq!(read(cut, w, &id), refused(1, ROOT + START, end - 1));
+    assert_eq!(unchecked(cut, w, &id), refused(1, end, end - 1));
+    assert_eq!(read(&file[..ROOT + START], w, &id), Ok(OBJECT));
     assert_eq!(
         read(&file[..AT + 3], w, &id),
         refused(1, AT + 5, AT + 3),
         "cut in the signature"
+    );
+    let due = Err(Refusal::new(1, AT as u64 + 5, AT as u64 + 3));
+    assert_eq!(
+        stopping_block(&file[..AT + 3], w, &id),
+        due,
+        "before any block"
     );
 }
 
@@ -197,8 +225,10 @@ fn an_id_whose_child_block_is_not_there_is_refused_by_1() {
     let w = EIGHT;
     let file = indirect_heap(w);
     let end = w.block_header() + OBJECT.len();
-    let got = read(&file, w, &id_at(w.block_header()));
-    assert_eq!(got, refused(1, end, file.len()));
+    let id = id_at(w.block_header());
+    assert_eq!(read(&file, w, &id), refused(1, end, file.len()));
+    assert_eq!(unchecked(&file, w, &id), refused(1, end, file.len()));
+    assert_eq!(stopping_block(&file, w, &id), Ok(block(ROOT, 0)));
 }
 
 #[test]
@@ -255,8 +285,10 @@ fn an_id_of_another_length_is_refused_in_words() {
     for length in (0..=16).filter(|&length| length != 8) {
         let due = Error::IdLength { length, due: 8 };
         let heap = heap(&file, EIGHT);
-        assert_eq!(heap.read_managed_object(&id[..length]), Err(due));
-        assert_eq!(heap.decode_managed_id(&id[..length]), Err(due));
+        let id = &id[..length];
+        assert_eq!(heap.read_managed_object(id, AT as u64), Err(due));
+        assert_eq!(heap.read_managed_object_unchecked(id), Err(due));
+        assert_eq!(heap.decode_managed_id(id), Err(due));
     }
     let words = read(&file, EIGHT, &id[..3]).unwrap_err().to_string();
     assert_eq!(words, "the ID has 3 bytes, and the heap's IDs have 8");
@@ -289,9 +321,15 @@ fn an_id_of_any_length_is_taken_as_the_library_takes_it() {
     for length in [3, 6] {
         let short = &id[..length];
         assert_eq!(heap.decode_managed_id_of_any_length(short), Ok((offset, 0)));
-        assert_eq!(heap.read_managed_object_of_any_length(short), Ok(&b""[..]));
+        let read = heap.read_managed_object_of_any_length(short, AT as u64);
+        assert_eq!(read, Ok(&b""[..]));
+        let read = heap.read_managed_object_of_any_length_unchecked(short);
+        assert_eq!(read, Ok(&b""[..]));
     }
-    assert_eq!(heap.read_managed_object_of_any_length(&id), Ok(OBJECT));
+    let read = heap.read_managed_object_of_any_length(&id, AT as u64);
+    assert_eq!(read, Ok(OBJECT));
+    let read = heap.read_managed_object_of_any_length_unchecked(&id);
+    assert_eq!(read, Ok(OBJECT));
     assert_eq!(
         heap.decode_managed_id_of_any_length(b""),
         Err(Refusal::new(1, 1, 0))
@@ -321,4 +359,139 @@ fn a_flipped_byte_in_the_header_is_refused_by_7_with_both_checksums() {
             "refused by 7: the header's checksum differs: {stored:08X} is stored, {computed:08X} computed"
         )
     );
+}
+
+/// What the checked reader says of a block at this place in the file and in the heap with one bit of a byte changed, by
+/// the byte's place in the block: its fields by the format's tables, the checksum's place in it, and its size.
+fn refused_at(
+    file: &[u8],
+    w: Widths,
+    (at, heap_offset): (usize, usize),
+    place: usize,
+    (sum, size): (usize, usize),
+) -> Result<&'static [u8], Error> {
+    let block = &file[at..at + size];
+    let header_end = 5 + usize::from(w.offset);
+    let number = |place: usize, size: usize| {
+        let bytes = block[place..place + size].iter().rev();
+        bytes.fold(0, |number, &byte| number << 8 | usize::from(byte))
+    };
+    match place {
+        0..4 => refused(4, 0, 0),
+        4 => refused(5, block[4].into(), 0),
+        _ if place < header_end => refused(19, number(5, w.offset.into()), AT),
+        _ if place < header_end + 5 => refused(19, number(header_end, 5), heap_offset),
+        _ => {
+            let mut covered = block.to_vec();
+            covered[sum..sum + 4].fill(0);
+            covered.truncate(if sum + 4 == size { sum } else { size });
+            refused(18, number(sum, 4), checksum(&covered) as usize)
+        }
+    }
+}
+
+#[test]
+fn every_changed_bit_of_a_block_on_the_way_is_refused_there() {
+    each_width(|w| {
+        let mut file = indirect_heap(w);
+        let id = id_at(START + w.block_header());
+        let indirect = 14 + 5 * usize::from(w.offset);
+        let blocks = [
+            (ROOT, 0, indirect - 4, indirect),
+            (SECOND, START, w.block_header() - 4, START),
+        ];
+        for (at, heap_offset, sum, size) in blocks {
+            for place in 0..size {
+                file[at + place] ^= 1 << (place % 8);
+                let due = refused_at(&file, w, (at, heap_offset), place, (sum, size));
+                assert_eq!(read(&file, w, &id), due, "{place} of the block at {at}");
+                let stopped = stopping_block(&file, w, &id);
+                assert_eq!(stopped, Ok(block(at, heap_offset)), "{place}");
+                file[at + place] ^= 1 << (place % 8);
+            }
+        }
+        assert_eq!(read(&file, w, &id), Ok(OBJECT));
+    });
+}
+
+#[test]
+fn untested_bytes_are_handed_out_to_who_asks_for_them() {
+    let w = EIGHT;
+    let (mut file, id) = (direct_heap(w), id_at(w.block_header()));
+    file[ROOT + w.block_header()] ^= 1;
+    let changed = [&[OBJECT[0] ^ 1], &OBJECT[1..]].concat();
+    assert_eq!(unchecked(&file, w, &id), Ok(&changed[..]));
+    let words = read(&file, w, &id).unwrap_err().to_string();
+    let stored = &file[ROOT + 18..ROOT + 22];
+    let stored = u32::from_le_bytes(stored.try_into().unwrap());
+    file[ROOT + 18..ROOT + 22].fill(0);
+    let computed = checksum(&file[ROOT..ROOT + START]);
+    assert_eq!(
+        words,
+        format!(
+            "refused by 18: a block's checksum differs: {stored:08X} is stored, {computed:08X} computed"
+        )
+    );
+}
+
+/// Without the bit of value 2 in the header's flags a direct block has no checksum: the bytes of one are the object's.
+#[test]
+fn direct_blocks_have_checksums_where_the_flag_says_so() {
+    let w = EIGHT;
+    let (mut file, id) = (direct_heap(w), id_at(w.block_header()));
+    file[ROOT + START - 1] ^= 1;
+    for (flags, is_read) in [(0, true), (1, true), (2, false), (3, false), (254, false)] {
+        let mut header = header(w, 0);
+        header[9] = flags;
+        let sum = checksum(&header[..w.header() - 4]).to_le_bytes();
+        header[w.header() - 4..].copy_from_slice(&sum);
+        file[AT..AT + w.header()].copy_from_slice(&header);
+        assert_eq!(read(&file, w, &id).is_ok(), is_read, "flags {flags}");
+    }
+}
+
+#[test]
+fn a_block_of_another_header_or_place_is_refused_by_19() {
+    let w = EIGHT;
+    let (file, id) = (direct_heap(w), id_at(w.block_header()));
+    let elsewhere = heap(&file, w).read_managed_object(&id, 4136);
+    assert_eq!(elsewhere, refused(19, AT, 4136));
+    assert_eq!(
+        elsewhere.unwrap_err().to_string(),
+        "refused by 19: a block belongs to another header, or to another place in the heap: 40 is stored, 4,136 wanted"
+    );
+    // Carried as a whole to another place, header and blocks have the address of the one before.
+    let carried = [&[0x55; 64][..], &file].concat();
+    let carried = Heap {
+        header_at: AT as u64 + 64,
+        ..heap(&carried, w)
+    };
+    // All but the header's own root address still holds.
+    let mut header = carried.header().unwrap();
+    header.root_block_address += 64;
+    let mut file = carried.file.to_vec();
+    let place = AT + 64..AT + 64 + w.header();
+    file[place].copy_from_slice(&written(&header, w));
+    let carried = Heap {
+        file: &file,
+        ..carried
+    };
+    let moved = carried.header_at;
+    assert_eq!(
+        carried.read_managed_object(&id, moved),
+        refused(19, AT, AT + 64)
+    );
+    assert_eq!(carried.read_managed_object(&id, AT as u64), Ok(OBJECT));
+}
+
+#[test]
+fn an_object_that_ends_past_its_block_is_refused_by_1() {
+    let w = EIGHT;
+    let file = [direct_heap(w), vec![7; 2000]].concat();
+    let last = START - OBJECT.len();
+    assert!(read(&file, w, &id_at(last)).is_ok());
+    let id = id_at(last + 1);
+    assert_eq!(read(&file, w, &id), refused(1, START + 1, START));
+    assert!(unchecked(&file, w, &id).is_ok());
+    assert_eq!(stopping_block(&file, w, &id), Ok(block(ROOT, 0)));
 }

@@ -1,10 +1,10 @@
 -- The groups that are left, from the words so far, give the words after all groups; each turn leaves fewer bytes.
 use Rattle.std.proofs.Common.{◌-◌, length}
-use Rattle.checksum.proofs.Walk.{Walk}
+use Rattle.checksum.proofs.Loop.{Looping}
 use Rattle.checksum.proofs.mix_groups.Given as goal
 
 abbrev pub invariant-loop-at : goal.invariant-loop-at
-invariant-loop-at l = Walk l.bytes l.s l.at
+invariant-loop-at l = Looping l.bytes l.s l.at
 
 abbrev pub decreases-loop-at : goal.decreases-loop-at
 decreases-loop-at l = length l.bytes - l.at

@@ -2,8 +2,9 @@
 ghost use Rattle.std.specs.Prelude.{◌≡◌, ◌+◌, ◌≤◌, length, replicate};
 ghost use Rattle.fields.specs.LittleEndian.{le};
 
-/// A writer that goes through a lent slice: the bytes before `at` are written, those from there on are as they were.
-/// Its contract says what was put, so that a chain of puts is an append and no place is reckoned twice.
+/// A writer that goes through a lent slice: the bytes before `at` are written, those from there on
+/// are as they were. Its contract says what was put, so that a chain of puts is an append and no
+/// place is reckoned twice.
 #[derive(Drop)]
 pub struct Writer<'a> {
     bytes: &'a mut [u8],

@@ -5,21 +5,22 @@ use Rattle.fields.specs.Slot.{slot_number, slot_bytes}
 use Rattle.refusals.specs.Refusals.{report_of}
 use Rattle.fields.specs.Places.{place_report}
 use Rattle.heap_kept.proofs.FromBytes.{parsed-written, plain-held}
-use Rattle.fractal_heap_c.proofs.Naming.{names-kept}
+use Rattle.fractal_heap_c.proofs.Naming.{names-checked}
 use Rattle.fractal_heap_c.proofs.fractal_heap_read_managed_object.Goals as goal
 
 pub returns-clause-kept : goal.returns-clause-kept
 returns-clause-kept c h g =
     let a = c.args in
-    let said = c.answer.ensures ∙ ap (report_of place_report) c.read.ensures.found in
-    names-kept a.slot.now a.file.now a.id.now a.at a.offset_size a.length_size g (omega arith)
+    let said = c.answer.ensures ∙ ap (report_of place_report) c.read-found.ensures.found in
+    names-checked a.slot.now a.file.now a.id.now a.at a.offset_size a.length_size g a.heap_header_address (omega arith)
     (c.put_answer.ensures.number ∙ ap (slot_number a.slot.now) said)
     (c.put_answer.ensures.slot_after ∙ ap (slot_bytes a.slot.now) said)
 
 pub returns-clause-from_bytes : goal.returns-clause-from_bytes
-returns-clause-from_bytes c h B call plan early i H =
+returns-clause-from_bytes c h B sums call plan early i H =
     let a = c.args in
-    let said = c.answer.ensures ∙ ap (report_of place_report) c.read.ensures.found in
-    names-kept a.slot.now a.file.now a.id.now a.at a.offset_size a.length_size (parsed-written B) (omega arith)
+    let said = c.answer.ensures ∙ ap (report_of place_report) c.read-found.ensures.found in
+    names-checked a.slot.now a.file.now a.id.now a.at a.offset_size a.length_size (parsed-written B)
+    a.heap_header_address (omega arith)
     (c.put_answer.ensures.number ∙ ap (slot_number a.slot.now) said)
-    (c.put_answer.ensures.slot_after ∙ ap (slot_bytes a.slot.now) said) call plan early i (plain-held H)
+    (c.put_answer.ensures.slot_after ∙ ap (slot_bytes a.slot.now) said) sums call plan early i (plain-held H)

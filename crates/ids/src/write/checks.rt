@@ -10,7 +10,8 @@ use table::MAX_HEAP_SPACE;
 /// What is tested before an ID goes into `lent` bytes.
 pub fn check_id(offset: u64, length: u64, lent: usize) -> Result<(), FormatError>
     ensures answer { result ≡ id_checked fixed offset length lent }
-    ensures there { OnOk result ((offset < MAX_HEAP_SPACE) × (length < LENGTH_SPACE) × (ID_LENGTH ≤ lent)) }
+    ensures there { OnOk result
+        ((offset < MAX_HEAP_SPACE) × (length < LENGTH_SPACE) × (ID_LENGTH ≤ lent)) }
 {
     if offset >= MAX_HEAP_SPACE || length >= LENGTH_SPACE {
         return Err(FormatError::HeapIdTooLarge { offset, length });

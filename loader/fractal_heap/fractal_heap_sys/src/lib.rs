@@ -39,6 +39,8 @@ pub const FRACTAL_HEAP_OBJECT_BYTES_MISMATCH: u32 = 14;
 pub const FRACTAL_HEAP_ADDRESS_TOO_LARGE: u32 = 15;
 pub const FRACTAL_HEAP_HEAP_ID_TOO_LARGE: u32 = 16;
 pub const FRACTAL_HEAP_HEADER_FIELD_TOO_LARGE: u32 = 17;
+pub const FRACTAL_HEAP_BLOCK_CHECKSUM_MISMATCH: u32 = 18;
+pub const FRACTAL_HEAP_FOREIGN_BLOCK: u32 = 19;
 pub const FRACTAL_HEAP_OUTSIDE_HEAP: u32 = 20;
 
 // How many numbers the fields of a header are; and with the three that are told of its filters.
@@ -108,6 +110,30 @@ unsafe extern "C" {
         at: u64,
         offset_size: u8,
         length_size: u8,
+        heap_header_address: u64,
+        id: *const u8,
+        id_len: usize,
+        slot: *mut u8,
+        slot_len: usize,
+    ) -> u32;
+    pub fn fractal_heap_read_managed_object_unchecked(
+        file: *const u8,
+        file_len: usize,
+        at: u64,
+        offset_size: u8,
+        length_size: u8,
+        id: *const u8,
+        id_len: usize,
+        slot: *mut u8,
+        slot_len: usize,
+    ) -> u32;
+    pub fn fractal_heap_stopping_block(
+        file: *const u8,
+        file_len: usize,
+        at: u64,
+        offset_size: u8,
+        length_size: u8,
+        heap_header_address: u64,
         id: *const u8,
         id_len: usize,
         slot: *mut u8,

@@ -96,7 +96,7 @@ unsafe extern "C" {
     // slots: direct slots, by two engines, and how many there are
     pub fn tools_locate(offset: u64, slot: *mut u8, slot_len: usize) -> u32;
     pub fn tools_count_to(offset: u64, slot: *mut u8, slot_len: usize) -> u32;
-    pub fn tools_engines_agree_at(offset: u64) -> u32;
+    pub fn tools_ask_both(offset: u64, answers: *mut u64, answers_len: usize) -> u32;
     pub fn tools_entered(offset: u64, place: u64, block: *mut u64, block_len: usize) -> u32;
     pub fn tools_count_slots(rows: u64, counts: *mut u64, counts_len: usize) -> u32;
 
@@ -119,6 +119,19 @@ unsafe extern "C" {
         offset_size: u8,
         length_size: u8,
         read_size: u8,
+        heap_header_address: u64,
+        id: *const u8,
+        id_len: usize,
+        slot: *mut u8,
+        slot_len: usize,
+    ) -> u32;
+    pub fn tools_read_managed_object_unchecked(
+        file: *const u8,
+        file_len: usize,
+        at: u64,
+        offset_size: u8,
+        length_size: u8,
+        read_size: u8,
         id: *const u8,
         id_len: usize,
         slot: *mut u8,
@@ -133,6 +146,18 @@ unsafe extern "C" {
     ) -> u32;
     pub fn tools_heap_id_type(id: *const u8, id_len: usize, slot: *mut u8, slot_len: usize) -> u32;
     pub fn tools_read_each(
+        file: *const u8,
+        file_len: usize,
+        at: u64,
+        offset_size: u8,
+        length_size: u8,
+        heap_header_address: u64,
+        ids: *const u8,
+        ids_len: usize,
+        found: *mut u64,
+        found_len: usize,
+    ) -> u32;
+    pub fn tools_read_each_unchecked(
         file: *const u8,
         file_len: usize,
         at: u64,

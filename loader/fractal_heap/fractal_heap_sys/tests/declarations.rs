@@ -283,9 +283,9 @@ fn the_header_declares_what_rust_is_declared() {
     let Some(root) = repository() else { return };
     let (header, rust) = (text(&root, "loader/fractal_heap.h"), rust(&root, "lib"));
     assert_eq!(c_functions(&header), rust_functions(&rust));
-    assert_eq!(rust_functions(&rust).len(), 9);
+    assert_eq!(rust_functions(&rust).len(), 11);
     assert_eq!(numbers(&header), numbers(&rust));
-    assert_eq!(numbers(&rust).len(), 19 + 5);
+    assert_eq!(numbers(&rust).len(), 21 + 5);
     assert_eq!(c_structs(&header), rust_structs(&rust));
     let fields: usize = rust_structs(&rust).values().map(Vec::len).sum();
     assert_eq!((rust_structs(&rust).len(), fields), (4, 7 + 2 + 2 + 2));
@@ -404,6 +404,14 @@ fn a_change_of_one_side_is_seen() {
         ),
         ("uint8_t *slot, size_t slot_len", "uint8_t *slot"),
         (
+            "uint64_t heap_header_address",
+            "uint32_t heap_header_address",
+        ),
+        (
+            "fractal_heap_read_managed_object_unchecked(const",
+            "fractal_heap_read_managed_object_untested(const",
+        ),
+        (
             "uint32_t fractal_heap_checksum",
             "uint64_t fractal_heap_checksum",
         ),
@@ -452,6 +460,7 @@ fn a_change_of_one_side_is_seen() {
         ("at: u64", "at: u32"),
         ("id: *const u8", "id: *mut u8"),
         ("id_len: usize", "id_len: u64"),
+        ("heap_header_address: u64,", ""),
         ("bytes_len: usize) -> u32", "bytes_len: usize) -> u64"),
         ("SLICE_TOO_SHORT: u32 = 13", "SLICE_TOO_SHORT: u32 = 14"),
         ("pub const FRACTAL_HEAP_OK: u32 = 0;", ""),
@@ -467,6 +476,7 @@ fn a_change_of_one_side_is_seen() {
     for (from, to) in [
         ("id: &[u8]", "id: &mut [u8]"),
         ("at: u64", "at: u32"),
+        ("heap_header_address: u64", "heap_header_address: u32"),
         ("fractal_heap_checksum", "checksum_of"),
         ("plan: &OpenPlan", "plan: &mut OpenPlan"),
         ("#[repr(C)]\npub struct State", "pub struct State"),

@@ -15,5 +15,6 @@ returns-clause-written c =
     let summed = unsummed h a.offset_size a.length_size in
     let checksum = c.jenkins_lookup3-checksum.ensures ∙ ap hashlittle c.put_unsummed.ensures in
     let seal = c.copy_from_slice.ensures.after ∙ c.to_le_bytes.ensures ∙ le_four _ ∙ ap (le 4) checksum in
+    let long = length-header_spelled h a.offset_size a.length_size ∙ sym c.header_length.ensures in
     parts_put a.bytes.now summed (le 4 (hashlittle summed)) _ _ _ c.header_length.result c.put_unsummed.ensures seal
-    c.split_at_mut-header.ensures.back (length-header_spelled h a.offset_size a.length_size ∙ sym c.header_length.ensures)
+    c.split_at_mut-header.ensures.back long

@@ -5,7 +5,8 @@ use Rattle.fractal_heap.proofs.write.write_numbers.Goals as goal
 
 pub returns-clause-reads_back : goal.returns-clause-reads_back
 returns-clause-reads_back c =
-    is_read_back (header_of c.args.numbers.now) c.args.offset_size c.args.length_size _ _ c.store_header.ensures.answered
+    let h = header_of c.args.numbers.now in
+    is_read_back h c.args.offset_size c.args.length_size _ _ c.store_header.ensures.answered
 
 pub returns-clause-written_back : goal.returns-clause-written_back
 returns-clause-written_back c =

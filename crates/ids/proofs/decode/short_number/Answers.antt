@@ -1,5 +1,5 @@
--- What is left of `short_number`: before the first byte at most six bytes are read, so the sums fit, and each step reads
--- one byte more.
+-- What is left of `short_number`: before the first byte at most six bytes are read, so the sums fit, and each step
+-- reads one byte more.
 use Rattle.std.proofs.Common.{◌-◌, arith, refl}
 use Rattle.ids.proofs.Decoding.{number_none, number_more, number_small}
 use Rattle.ids.proofs.decode.short_number.Goals as goal
@@ -30,8 +30,9 @@ overflow_add-number c =
     )
 
 pub loop-i-preserved : goal.loop-i-preserved
-loop-i-preserved c = record {
-  above = omega arith;
-  within = omega arith;
-  read = number_more _ c.requires.1 _ _ _ (omega arith) c.loop-i.invariant.within c.loop-i.invariant.read c.from.ensures;
-}
+loop-i-preserved c =
+    let before = c.loop-i.invariant in record {
+      above = omega arith;
+      within = omega arith;
+      read = number_more _ c.requires.1 _ _ _ (omega arith) before.within before.read c.from.ensures;
+    }

@@ -1,5 +1,5 @@
 -- What is left of `write_and_fetch_at`: the file holds header and region, and so the object is fetched from its bytes.
-use Rattle.std.proofs.Common.{◌≡◌, ℕ, List, Result, sym, ap, ap₂, ◌∙◌, arith, length-drop}
+use Rattle.std.proofs.Common.{◌≡◌, ℕ, List, Result, refl, sym, ap, ap₂, ◌∙◌, arith, length-drop}
 use Rattle.refusals.specs.declared.FormatError.{FormatError}
 use Rattle.plan.specs.declared.ManagedPlan.{ManagedPlan}
 use Rattle.std.specs.Prelude.{slice_index}
@@ -12,7 +12,7 @@ use Rattle.round_trip.specs.FromBytes.{file_with_both}
 use Rattle.round_trip.specs.RoundTrip.{came_back}
 use Rattle.round_trip.proofs.WholeWay.{accepts, accepted, root-sum, rows-small, if-accepted}
 use Rattle.round_trip.proofs.Fetching.{drawn, given-is, not-refused, lists-stay, its-id}
-use Rattle.round_trip.proofs.FromBytes.{header-passes, header-held, heap-held, heap-managed, came}
+use Rattle.round_trip.proofs.FromBytes.{header-passes, header-held, header-sums, heap-held, heap-managed, came}
 use Rattle.round_trip.proofs.from_bytes.write_and_fetch_at.Goals as goal
 
 pub planned_header-header-requires-clause-width : goal.planned_header-header-requires-clause-width
@@ -55,7 +55,8 @@ returns c =
     let M =
     heap-managed A (omega arith) g n q.header_in_file q.header_before c.planned_header-header.ensures there q.among_early
     q.early_in_list in
-    let K = c.fetch_at.ensures.kept _ B _ _ _ _ H I M (omega (arith, size-is H I, q.room)) in
+    let sums = header-sums c.args.site c.in_ok-plan.plan _ c.planned_header-header.ensures in
+    let K = c.fetch_at.ensures.kept _ B sums _ _ _ _ H refl I M (omega (arith, size-is H I, q.room)) in
     let F = came A (omega arith) g n q.header_in_file q.header_before c.planned_header-header.ensures there
     c.args.found.now c.fetch_at.new.found I K in
     record {

@@ -30,7 +30,7 @@ returns-clause-answer g c =
     c.serialize_and_pass.auto.blocks in
     let d = given-is A D c.in_ok-id.ensures.answer in
     let file = c.serialize_and_pass.new.file in
-    c.fetch.ensures.answer
+    c.fetch_unchecked.ensures.answer
     ∙ (λ j. fetched (managed_at (c.root_header.ensures j) file (d j) c.args.site.offset_size) (length c.args.found.now))
     ∙ ap (λ (r : Result ManagedPlan FormatError).
     fetched_in r c.args.site c.args.sizes.now c.args.early c.args.i file (length c.args.found.now)) (sym A.answer)
@@ -44,8 +44,8 @@ returns-clause-copied g c =
     let file = c.serialize_and_pass.new.file in
     if-accepted A _
     (if-answered _ _ (λ place e.
-    c.fetch.ensures.copied place ((λ j. managed_at (c.root_header.ensures j) file (d j) c.args.site.offset_size)
-    ∙ e)))
+    c.fetch_unchecked.ensures.copied place
+    ((λ j. managed_at (c.root_header.ensures j) file (d j) c.args.site.offset_size) ∙ e)))
 
 pub returns-clause-kept : goal.returns-clause-kept
 returns-clause-kept g c =
@@ -58,7 +58,7 @@ returns-clause-kept g c =
     (λ region room.
     let H = holds A c.root_header.ensures (record { region_there = region }) in
     let M = managed A c.root_header.ensures c.requires.among_early c.requires.early_in_list in
-    c.fetch.ensures.kept _ _ _ _ H I M (omega (arith, size-is H I, room)))
+    c.fetch_unchecked.ensures.kept _ _ _ _ H I M (omega (arith, size-is H I, room)))
 
 pub returns-clause-lists : goal.returns-clause-lists
 returns-clause-lists g c =

@@ -2,21 +2,27 @@
 use Rattle.std.proofs.Common.{arith}
 use Rattle.table.proofs.Locating.{deep_start}
 use Rattle.slot_engines.proofs.Entering.{way_start, entered_above, entered_none, entered_here, entered_more}
+use Rattle.slot_engines.proofs.Leading.{fixed-leads, fixed-most}
 use Rattle.slot_engines.proofs.way.entered.Goals as goal
 
 pub returns-then-offset-ge-MAX_HEAP_SPACE : goal.returns-then-offset-ge-MAX_HEAP_SPACE
-returns-then-offset-ge-MAX_HEAP_SPACE c = entered_above c.args.offset c.args.place (omega arith)
+returns-then-offset-ge-MAX_HEAP_SPACE c =
+    record { value = entered_above c.args.offset c.args.place (omega arith); leads = tt; most = λ l. tt }
 
 pub loop-at-init : goal.loop-at-init
 loop-at-init c = way_start c.args.offset c.args.place (omega arith)
 
 pub returns-then-is_direct : goal.returns-then-is_direct
-returns-then-is_direct c = entered_none c.loop-at.invariant c.table_slot-at.ensures.slot c.if-is_direct.ensures
+returns-then-is_direct c =
+    let is = entered_none c.loop-at.invariant c.table_slot-at.ensures.slot c.if-is_direct.ensures in
+    record { value = is; leads = fixed-leads _ _ _ is; most = λ l. fixed-most _ _ l _ is }
 
 pub returns-then-left-eq0 : goal.returns-then-left-eq0
 returns-then-left-eq0 c =
+    let is =
     entered_here c.loop-at.invariant c.table_slot-at.ensures.slot c.if-is_direct.ensures c.lookup.ensures.place
-    (omega arith)
+    (omega arith) in
+    record { value = is; leads = fixed-leads _ _ _ is; most = λ l. fixed-most _ _ l _ is }
 
 pub loop-at-smaller : goal.loop-at-smaller
 loop-at-smaller c =

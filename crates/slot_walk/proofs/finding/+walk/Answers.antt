@@ -1,10 +1,10 @@
 -- What is left of the walk: the laws of its rows and slots, at what is sought.
-use Rattle.std.proofs.Common.{arith}
+use Rattle.std.proofs.Common.{refl, arith}
 use Rattle.slot_walk.proofs.Numbers.{deep, shallow, in_words}
-use Rattle.slot_walk.proofs.Walking.{walk_start, row_start, row-end, next_small, slot_in, slot_falls, weight-deep}
+use Rattle.slot_walk.proofs.Walking.{walk_start, row_start, row-end, next_small, slot_in}
 use Rattle.slot_walk.proofs.Walking.{slot-is-block}
 use Rattle.slot_walk.proofs.Searching.{sought-all, all-passed, found_here, passed_here, direct-found, direct-passed}
-use Rattle.slot_walk.proofs.Searching.{block-passed}
+use Rattle.slot_walk.proofs.Searching.{block-searched}
 use Rattle.slot_walk.proofs.finding.+walk.Goals as goal
 
 pub walk_block-loop-here-init : goal.walk_block-loop-here-init
@@ -15,19 +15,22 @@ walk_block-loop-left-init t c = row_start c.loop-here.invariant _ c.requires.tab
 
 pub walk_block-walk_slot-requires : goal.walk_block-walk_slot-requires
 walk_block-walk_slot-requires t c =
-    let p = c.requires.table in
-    let light = slot_falls c.loop-left.invariant c.loop-left-test.true p.table.start_in_direct _ p.largest in
-    (omega (arith, light, c.decreases), (p, slot_in c.loop-left.invariant c.loop-left-test.true))
+    (omega (arith, c.decreases), (c.requires.table, slot_in c.loop-left.invariant c.loop-left-test.true))
 
-pub walk_block-returns-in-Found : goal.walk_block-returns-in-Found
-walk_block-returns-in-Found t c =
+pub walk_block-returns-in-Some : goal.walk_block-returns-in-Some
+walk_block-returns-in-Some t c =
     let p = c.requires.table.table in
-    found_here p.start_in_direct p.row_in_indirect c.loop-left.invariant c.loop-left-test.true c.walk_slot.ensures c.in-Found.is
+    found_here p.start_in_direct p.row_in_indirect c.loop-left.invariant c.loop-left-test.true c.walk_slot.ensures c.in-Some.is
 
 pub walk_block-loop-left-preserved : goal.walk_block-loop-left-preserved
 walk_block-loop-left-preserved t c =
     let p = c.requires.table.table in
-    passed_here p.start_in_direct p.row_in_indirect c.loop-left.invariant c.loop-left-test.true c.walk_slot.ensures c.in-Past.is
+    passed_here p.start_in_direct p.row_in_indirect c.loop-left.invariant c.loop-left-test.true c.in_default.ensures refl
+
+pub walk_block-overflow_add-here : goal.walk_block-overflow_add-here
+walk_block-overflow_add-here t c =
+    let slot = slot_in c.loop-left.invariant c.loop-left-test.true in
+    omega (arith, slot.in_heap, in_words c.requires.table)
 
 pub walk_block-overflow_add-next : goal.walk_block-overflow_add-next
 walk_block-overflow_add-next t c = omega (arith, next_small c.loop-left.invariant, in_words c.requires.table)
@@ -48,22 +51,21 @@ walk_slot-overflow_sub-levels t c =
     omega (arith, (slot-is-block p.table.start_in_direct p.table.row_in_indirect (deep p _ c.if-size-geometry.true) c.requires.slot).0)
 
 pub walk_slot-overflow_add-at : goal.walk_slot-overflow_add-at
-walk_slot-overflow_add-at t c = omega (arith, c.requires.slot.top, in_words c.requires.table)
+walk_slot-overflow_add-at t c = omega (arith, c.requires.slot.in_heap, in_words c.requires.table)
 
 pub walk_slot-walk_block-requires : goal.walk_slot-walk_block-requires
 walk_slot-walk_block-requires t c =
     let p = c.requires.table in
-    let heavy = weight-deep c.args.geometry.now.largest_block c.args.size c.if-size-geometry.true in
     let inside = slot-is-block p.table.start_in_direct p.table.row_in_indirect (deep p _ c.if-size-geometry.true) c.requires.slot in
-    (omega (arith, heavy, c.decreases), (p, inside.1))
+    (omega (arith, inside.0, c.decreases), (p, inside.1))
 
 pub walk_slot-returns-then-size-geometry : goal.walk_slot-returns-then-size-geometry
 walk_slot-returns-then-size-geometry t c =
     let p = c.requires.table in
-    block-passed p.table.start_in_direct p.table.row_in_indirect (deep p _ c.if-size-geometry.true) c.walk_block.ensures
+    block-searched p.table.start_in_direct p.table.row_in_indirect (deep p _ c.if-size-geometry.true) c.walk_block.ensures
 
 pub walk_slot-overflow_add-at-2 : goal.walk_slot-overflow_add-at-2
-walk_slot-overflow_add-at-2 t c = omega (arith, c.requires.slot.top, in_words c.requires.table)
+walk_slot-overflow_add-at-2 t c = omega (arith, c.requires.slot.in_heap, in_words c.requires.table)
 
 pub walk_slot-returns-then-offset-at : goal.walk_slot-returns-then-offset-at
 walk_slot-returns-then-offset-at t c =

@@ -1,16 +1,16 @@
--- Twice the bytes of a block fall, an indirect slot being walked as a block of as many; what is left of the list of
--- slots gives the answer.
-use Rattle.std.proofs.Common.{◌-◌, ◌*◌}
+-- The levels fall: a block that is opened has one fewer, so no more are open at once than the walk is given. What is left
+-- of the list of slots gives the answer.
+use Rattle.std.proofs.Common.{◌+◌, ◌-◌, ◌*◌}
 use Rattle.slot_walk.specs.Geometry.{table_of}
-use Rattle.slot_walk.proofs.Walking.{AtRow, InRow, weight}
+use Rattle.slot_walk.proofs.Walking.{AtRow, InRow}
 use Rattle.slot_walk.proofs.Searching.{Sought}
 use Rattle.slot_walk.proofs.finding.+walk.Given as goal
 
 abbrev pub decreases-walk_block : goal.decreases-walk_block
-decreases-walk_block l = 2 * (l.end - l.at)
+decreases-walk_block l = 2 * l.levels + 1
 
 abbrev pub decreases-walk_slot : goal.decreases-walk_slot
-decreases-walk_slot l = weight l.geometry.now.largest_block l.size
+decreases-walk_slot l = 2 * l.levels
 
 abbrev pub invariant-walk_block-loop-left : goal.invariant-walk_block-loop-left
 invariant-walk_block-loop-left l =

@@ -1,6 +1,6 @@
 -- What is left of `count_to_in`: the whole heap is a block, and what its walk comes to is the offset's slot.
-use Rattle.std.proofs.Common.{sym, arith}
-use Rattle.slot_walk.proofs.Searching.{outside, heap-block, heap-found, heap-passed, holds-it}
+use Rattle.std.proofs.Common.{sym, ◌∙◌, arith}
+use Rattle.slot_walk.proofs.Searching.{outside, heap-block, heap-searched, holds-it}
 use Rattle.slot_walk.proofs.finding.count_to_in.Goals as goal
 
 pub returns-then-offset-end-clause-value : goal.returns-then-offset-end-clause-value
@@ -10,12 +10,8 @@ returns-then-offset-end-clause-value c =
 pub walk_block-requires-clause-block : goal.walk_block-requires-clause-block
 walk_block-requires-clause-block c = heap-block c.requires.table.table c.heap_end-end.ensures c.requires.levels
 
-pub returns-in-Found : goal.returns-in-Found
-returns-in-Found c =
+pub returns : goal.returns
+returns c =
     let T = c.requires.table.table in
-    let is = heap-found T c.heap_end-end.ensures c.walk_block.ensures c.in-Found.is in
-    record { value = is; holds = holds-it T (omega (arith, c.heap_end-end.ensures)) is }
-
-pub returns-in-Past-clause-value : goal.returns-in-Past-clause-value
-returns-in-Past-clause-value c =
-    heap-passed c.requires.table.table c.heap_end-end.ensures c.walk_block.ensures c.in-Past.is
+    let is = c.ok_or.ensures.value ∙ heap-searched T c.heap_end-end.ensures c.walk_block.ensures in
+    record { value = is; holds = holds-it T (omega (arith, c.heap_end-end.ensures)) c.ok_or.result is }

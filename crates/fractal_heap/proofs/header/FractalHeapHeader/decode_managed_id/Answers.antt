@@ -1,5 +1,5 @@
--- The ID is decoded by the header's table and its largest managed object. The prover finds this, too; it is named so that
--- other numbers are refused for what they are.
+-- The ID is decoded by the header's table and its largest managed object. The prover finds this, too; it is named so
+-- that other numbers are refused for what they are.
 use Rattle.fractal_heap.proofs.header.FractalHeapHeader.decode_managed_id.Goals as goal
 
 pub returns-clause-decoded : goal.returns-clause-decoded

@@ -12,7 +12,8 @@ pub returns-clause-answered : goal.returns-clause-answered
 returns-clause-answered c =
     let a = c.args in
     subst
-    (λ (h : FractalHeapHeader). c.write_numbers.result ≡ header_written h a.offset_size a.length_size (length a.bytes.now))
+    (λ (h : FractalHeapHeader).
+    c.write_numbers.result ≡ header_written h a.offset_size a.length_size (length a.bytes.now))
     (header_of-numbers a.self _ c.numbers.ensures) c.write_numbers.ensures.answered
 
 pub returns-clause-written : goal.returns-clause-written
@@ -20,7 +21,8 @@ returns-clause-written c =
     let a = c.args in
     subst
     (λ (h : FractalHeapHeader).
-    OnOk c.write_numbers.result (c.write_numbers.new.bytes ≡ put a.bytes.now 0 (header_spelled h a.offset_size a.length_size)))
+    OnOk c.write_numbers.result
+    (c.write_numbers.new.bytes ≡ put a.bytes.now 0 (header_spelled h a.offset_size a.length_size)))
     (header_of-numbers a.self _ c.numbers.ensures) c.write_numbers.ensures.written
 
 pub returns-clause-reads_back : goal.returns-clause-reads_back
@@ -38,5 +40,6 @@ returns-clause-written_back c =
     let a = c.args in
     filters_unread a.self a.offset_size a.length_size _ _
     (subst
-    (λ (h : FractalHeapHeader). WrittenBack h a.offset_size a.length_size c.write_numbers.result c.write_numbers.new.bytes)
+    (λ (h : FractalHeapHeader).
+    WrittenBack h a.offset_size a.length_size c.write_numbers.result c.write_numbers.new.bytes)
     (header_of-numbers a.self _ c.numbers.ensures) c.write_numbers.ensures.written_back)

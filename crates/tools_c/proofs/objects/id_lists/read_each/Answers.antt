@@ -6,12 +6,12 @@ use Rattle.tools_c.proofs.Storing.{rest_begun, rest_more, rest_done}
 use Rattle.tools_c.proofs.objects.id_lists.read_each.Goals as goal
 
 pub loop-i-init : goal.loop-i-init
-loop-i-init c = rest_begun _ _ _ _ _ _ c.requires
+loop-i-init g c = rest_begun _ _ _ _ c.requires
 
 pub loop-i-preserved : goal.loop-i-preserved
-loop-i-preserved c =
-    let told = c.answer-a.ensures ∙ ap (report_of place_report) c.read_managed_object.ensures.found in
-    c.loop-i.invariant ∙ rest_more _ _ _ _ _ _ _ _ _ (omega arith) c.from.ensures told
+loop-i-preserved g c =
+    let told = c.answer-a.ensures ∙ ap (report_of place_report) c.read.ensures in
+    c.loop-i.invariant ∙ rest_more _ _ _ _ _ _ _ (omega arith) c.from.ensures told
 
 pub returns : goal.returns
-returns c = sym (c.loop-i.invariant ∙ rest_done _ _ _ _ _ _ _ (omega arith))
+returns g c = sym (c.loop-i.invariant ∙ rest_done _ _ _ _ _ (omega arith))

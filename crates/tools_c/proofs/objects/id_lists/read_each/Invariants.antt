@@ -5,6 +5,6 @@ use Rattle.tools_c.proofs.Storing.{rest}
 use Rattle.tools_c.proofs.objects.id_lists.read_each.Given as goal
 
 abbrev pub invariant-loop-i : goal.invariant-loop-i
-invariant-loop-i l =
-    answers_from l.h l.file l.offset_size l.n l.ids ++ drop (3 * l.n) l.fn.found
-    ≡ rest l.h l.file l.offset_size l.found l.ids l.n l.i
+invariant-loop-i g l =
+    let answered = g.R.ObjectReader.answered l.objects in
+    answers_from answered l.n l.ids ++ drop (3 * l.n) l.fn.found ≡ rest answered l.found l.ids l.n l.i

@@ -1,0 +1,11 @@
+pub mod Sizes
+pub mod Stored
+pub mod Passing
+pub mod Lasts
+pub mod Others
+pub mod Stops
+pub mod Unchecked
+pub mod Inside
+pub mod Agreeing
+pub mod Deciding
+pub mod Worked

@@ -1,0 +1,5 @@
+pub mod Blocks
+pub mod Reading
+pub mod Path
+pub mod Laws
+pub mod WorkedReads

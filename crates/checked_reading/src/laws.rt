@@ -1,0 +1,36 @@
+//! Theorems about checked reading, each the contract of a function; nothing runs here.
+ghost use Rattle.checked_reading.specs.Laws.{OnlyRefuses, PathDecides, ObjectInBlock};
+ghost use Rattle.checked_reading.specs.Laws.{OthersPass, StopsAreRefusals};
+ghost use Rattle.checked_reading.specs.WorkedReads.{WorkedReads};
+
+/// Checking only refuses: what checked reading accepts, reading without tests answers alike.
+pub fn checking_only_refuses()
+    ensures { OnlyRefuses }
+{}
+
+/// A read's answer, and the bytes that it finds, depend on the blocks of its path and on no other byte of the file.
+pub fn the_path_decides()
+    ensures { PathDecides }
+{}
+
+/// An object that is found lies in the last block of its path, and the block in the file.
+pub fn objects_lie_in_their_blocks()
+    ensures { ObjectInBlock }
+{}
+
+/// Every block of a path but the last passes its tests: a read that is refused is refused for the block at which it
+/// stops.
+pub fn the_others_pass()
+    ensures { OthersPass }
+{}
+
+/// Where `stopping_block` names no block but a refusal, the read has this refusal.
+pub fn stops_are_refusals()
+    ensures { StopsAreRefusals }
+{}
+
+/// Small heaps that are written out by hand are read as worked out by hand: as they stand, damaged, and asked for
+/// otherwise.
+pub fn worked_reads_hold()
+    ensures { WorkedReads }
+{}
