@@ -641,7 +641,8 @@ struct Numbers {
     largest: u64,
 }
 
-/// Plain Rust that walks the slots as the counting engine does: where it comes to, past the offset or not.
+/// Plain Rust that walks the slots one by one, and asks each whether the offset lies in it, where the counting engine
+/// passes a row of direct slots that ends before: where it comes to, past the offset or not.
 fn plain_walk(
     numbers: &Numbers,
     at: u64,

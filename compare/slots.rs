@@ -150,12 +150,12 @@ fn both_answer(offset: u64, (number, first, second): original::Answer, agree: u6
 }
 
 /// Both name the original's slot.
-fn both(offset: u64) {
+fn asked_together(offset: u64) {
     both_answer(offset, due(offset), 1);
 }
 
 /// Each by itself names it, too.
-fn each(offset: u64) {
+fn asked_alone(offset: u64) {
     assert_eq!(ours::count_to(offset), due(offset), "offset {offset}");
     assert_eq!(ours::locate(offset), due(offset), "offset {offset}");
 }
@@ -165,8 +165,8 @@ pub fn counted(n: u64) -> Vec<Row> {
     let mut ends = 0;
     for (start, size) in slots(16) {
         for offset in [start, start + size - 1] {
-            both(offset);
-            each(offset);
+            asked_together(offset);
+            asked_alone(offset);
         }
         ends += 1;
     }
@@ -174,16 +174,16 @@ pub fn counted(n: u64) -> Vec<Row> {
     let mut random = Random::new(72);
     for i in 0..n {
         let offset = random.below(1 << 26);
-        each(offset);
+        asked_alone(offset);
         // Both at once count as far again.
         if i % 100 == 0 {
-            both(offset);
+            asked_together(offset);
         }
     }
     let far = (0..100).map(|_| random.below(END));
     for offset in far.chain([END - 1, END - 65_536, END - 65_537]) {
-        both(offset);
-        each(offset);
+        asked_together(offset);
+        asked_alone(offset);
     }
     vec![
         row("slots of 16 rows, first and last byte counted to", ends),

@@ -9,7 +9,8 @@ use Rattle.reading.specs.Blocks.{child_at}
 use Rattle.checked_reading.specs.declared.Checked.{Checked}
 use Rattle.checked_reading.specs.declared.path.BlockSite.{BlockSite}
 use Rattle.checked_reading.specs.Blocks.{indirect_size, indirect_checked}
-use Rattle.checked_reading.specs.Path.{Block, block_of, if_passed, from_child, path_from, last_from, last_of, block_site}
+use Rattle.checked_reading.specs.Path.{Block, block_of, if_passed, from_child, path_from, last_from, last_of}
+use Rattle.checked_reading.specs.Path.{block_site}
 
 -- where the last block of a path stands, or this site where it has none
 abbrev pub site_from : (site : BlockSite) (path : List Block) → BlockSite

@@ -1,4 +1,4 @@
--- The last block of a read by the root, and that a read that comes to no block is refused as is told in its place.
+-- The last block of a read by the root, and that of a read that comes to no block its refusal is told, and no other.
 use Rattle.std.proofs.Common.{◌≡◌, ◌∙◌, refl, ap, ℕ, List, [], ◌∷◌, Bool, true, false, arith}
 use Rattle.std.specs.Prelude.{◌==◌, ◌&&◌, not, Result, Err, if◌then◌else◌}
 use Rattle.std.specs.Option.{option_map, ok_or}
@@ -14,7 +14,7 @@ use Rattle.checked_reading.specs.declared.Checked.{Checked}
 use Rattle.checked_reading.specs.declared.path.BlockSite.{BlockSite}
 use Rattle.checked_reading.specs.Reading.{root_checked}
 use Rattle.checked_reading.specs.Path.{block_of, root_path, path_from, last_of, block_site, stopping_block}
-use Rattle.checked_reading.specs.Laws.{StopsAreRefusals}
+use Rattle.checked_reading.specs.Laws.{StopsAreRefusals, NoBlockIsTold}
 use Rattle.checked_reading.proofs.Passing.{root-refused}
 
 -- ---- the last block: the root, where it is a direct block, or the last one below it
@@ -29,6 +29,14 @@ module _ (heap : Checked) (table : DoublingTable) (s : List ℕ) (a n t w : ℕ)
       → stopping_block heap table s a n t w ≡ Err (InvalidOffsetSize w)
   unfolding stopping_block root_path
   stopping_widthless e f = grind (arith, common_steps)
+
+  sizeless : (undefined : Bool) → is_undefined_addr a w ≡ undefined → legal w ≡ false
+      → stopping_block heap table s a n t w ≡ Err (InvalidOffsetSize w)
+  sizeless true e f = absurd (grind (arith, common_steps))
+  sizeless false e f = stopping_widthless e f
+
+  pub stopping_sizeless : legal w ≡ false → stopping_block heap table s a n t w ≡ Err (InvalidOffsetSize w)
+  stopping_sizeless f = sizeless (is_undefined_addr a w) refl f
 
   pub stopping_direct : is_undefined_addr a w ≡ false → legal w ≡ true → n ≡ 0
       → stopping_block heap table s a n t w ≡ Ok (record { address = a; heap_offset = 0 })
@@ -67,3 +75,10 @@ pub stops-refuse : StopsAreRefusals
 unfolding stopping_block root_path
 stops-refuse heap table s a n t len w refused h =
     stops heap table s a n t len w refused (legal w) (is_undefined_addr a w) (n == 0) refl refl h
+
+pub no-block : NoBlockIsTold
+no-block =
+    record {
+      undefined_root = λ heap table s a n t w e. stopping_undefined heap table s a n t w e;
+      no_offset_size = λ heap table s a n t w e. stopping_sizeless heap table s a n t w e;
+    }

@@ -10,7 +10,7 @@ use Rattle.reading.specs.declared.rows.DoublingTable.{DoublingTable}
 use Rattle.reading.specs.declared.children.HeapChild.{HeapChild}
 use Rattle.reading.specs.declared.children.HeapChild.TheVariants.{Direct, Indirect}
 use Rattle.reading.specs.Blocks.{child_at}
-use Rattle.reading.specs.Walk.{Taking, as_they_stand, walk_by, root_by}
+use Rattle.reading.specs.Walk.{Taking, unchecked, walk_by, root_by}
 use Rattle.reading.proofs.Walking.{block_passed}
 use Rattle.checked_reading.specs.Reading.{checked}
 use Rattle.checked_reading.specs.Laws.{OnlyRefuses}
@@ -63,11 +63,11 @@ module _ (taking plain : Taking) (place : Place) (opens : (a n start : ℕ) → 
 
 pub only-refuses : OnlyRefuses
 only-refuses heap table s a n t len w place small h =
-    let plain = as_they_stand s t len in
+    let plain = unchecked s t len in
     root-found (checked heap table s w t len) plain place (λ a n start. refl) object table s w t len a n h
   where
     object : (a size start : ℕ) → (checked heap table s w t len).object a size start ≡ Ok place
-        → (as_they_stand s t len).object a size start ≡ Ok place
+        → (unchecked s t len).object a size start ≡ Ok place
     object a size start g =
         let H = object-held heap table s w t len a size start place g in
         held-read s t len a size start place small H.position H.bytes H.ends H.within

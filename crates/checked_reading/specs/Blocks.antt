@@ -1,8 +1,9 @@
 -- The tests of one block of a heap, in their order. HDF5 File Format Specification 3.0, III.G,
 -- 'Fractal Heap Direct Block' and 'Fractal Heap Indirect Block', the fields that are named here;
--- 'Fractal Heap Header', Flags. The refusals and their order are our rule (docs/RULES.md). `heap`
--- is what a heap's header says of its blocks, `table` the doubling table in it, `offset_size` Size
--- of Offsets; `block` is the bytes of a block, `start` the heap offset at which it is to begin.
+-- 'Fractal Heap Header', Flags. The refusals and their order are our rule (docs/RULES.md). `tests`
+-- is what a heap's blocks are tested against, as its header says, `table` the doubling table in it,
+-- `offset_size` Size of Offsets; `block` is the bytes of a block, `start` the heap offset at which
+-- it is to begin.
 use Rattle.std.specs.Prelude.{ℕ, ◌+◌, ◌-◌, ◌*◌, ◌/◌, ◌%◌, ◌==◌, min, List, length, take, drop}
 use Rattle.std.specs.Prelude.{slice_index, bytes_eq, Bool, nat_le, if◌then◌else◌, Result, Ok}
 use Rattle.refusals.specs.Steps.{◌>>=◌, required}
@@ -41,13 +42,13 @@ block_sum_checked stored computed =
     required (stored == computed) (BlockChecksumMismatch stored computed)
 
 -- how a block begins: Signature, Version, Heap Header Address, Block Offset
-unfoldable pub head_checked : (heap : Checked) (table : DoublingTable) (offset_size : ℕ)
+unfoldable pub head_checked : (tests : Checked) (table : DoublingTable) (offset_size : ℕ)
     (signature block : List ℕ) (start : ℕ) → Result (Unit {0}) FormatError
-head_checked heap table offset_size signature block start = do
+head_checked tests table offset_size signature block start = do
   let version = slice_index block 4
   _ ← required (bytes_eq (take 4 block) signature) InvalidFractalHeapSignature
   _ ← required (version == 0) (InvalidFractalHeapVersion version)
-  _ ← same_checked (le_at block 5 offset_size) heap.heap_header_address
+  _ ← same_checked (le_at block 5 offset_size) tests.heap_header_address
   same_checked (stored_offset table offset_size block) start
 
 -- ---- an indirect block
@@ -58,29 +59,29 @@ indirect_size table offset_size rows =
     entries_place table offset_size + rows * table.table_width * offset_size + 4
 
 -- by its bytes: Checksum, the last four, is that of all before it
-unfoldable pub indirect_in : (heap : Checked) (table : DoublingTable) (offset_size : ℕ)
+unfoldable pub indirect_in : (tests : Checked) (table : DoublingTable) (offset_size : ℕ)
     (block : List ℕ) (start : ℕ) → Result (Unit {0}) FormatError
-indirect_in heap table offset_size block start = do
+indirect_in tests table offset_size block start = do
   let sum_place = length block - 4
-  _ ← head_checked heap table offset_size indirect_signature block start
+  _ ← head_checked tests table offset_size indirect_signature block start
   block_sum_checked (le_at block sum_place 4) (hashlittle (take sum_place block))
 
 -- the one of so many rows at this address of the file
-unfoldable pub indirect_checked : (heap : Checked) (table : DoublingTable) (file : List ℕ)
+unfoldable pub indirect_checked : (tests : Checked) (table : DoublingTable) (file : List ℕ)
     (offset_size address rows start : ℕ) → Result (Unit {0}) FormatError
-indirect_checked heap table file offset_size address rows start = do
+indirect_checked tests table file offset_size address rows start = do
   let size = indirect_size table offset_size rows
   _ ← required (legal offset_size) (InvalidOffsetSize offset_size)
   _ ← len_ensured file address size
-  indirect_in heap table offset_size (take size (drop address file)) start
+  indirect_in tests table offset_size (take size (drop address file)) start
 
 -- ---- a direct block
 
 -- how many bytes its header has, all fields before Object Data: Checksum, if direct blocks have it,
 -- stands where an indirect block's entries begin
-abbrev pub direct_header_size : (heap : Checked) (table : DoublingTable) (offset_size : ℕ) → ℕ
-direct_header_size heap table offset_size =
-    if has_checksum heap.flags
+abbrev pub direct_header_size : (tests : Checked) (table : DoublingTable) (offset_size : ℕ) → ℕ
+direct_header_size tests table offset_size =
+    if has_checksum tests.flags
     then entries_place table offset_size + 4
     else entries_place table offset_size
 
@@ -91,20 +92,20 @@ room_checked header_size size =
 
 -- by its bytes: Checksum is that of all of them with its own as zero, which the text does not say:
 -- HDF5 (docs/RULES.md)
-unfoldable pub direct_in : (heap : Checked) (table : DoublingTable) (offset_size : ℕ)
+unfoldable pub direct_in : (tests : Checked) (table : DoublingTable) (offset_size : ℕ)
     (block : List ℕ) (start : ℕ) → Result (Unit {0}) FormatError
-direct_in heap table offset_size block start = do
+direct_in tests table offset_size block start = do
   let place = entries_place table offset_size
-  _ ← head_checked heap table offset_size direct_signature block start
-  if has_checksum heap.flags
+  _ ← head_checked tests table offset_size direct_signature block start
+  if has_checksum tests.flags
       then block_sum_checked (le_at block place 4) (hashlittle (zeroed block place))
       else Ok tt
 
 -- the one of this size at this address of the file: its room is tested before its end
-unfoldable pub direct_checked : (heap : Checked) (table : DoublingTable) (file : List ℕ)
+unfoldable pub direct_checked : (tests : Checked) (table : DoublingTable) (file : List ℕ)
     (offset_size address size start : ℕ) → Result (Unit {0}) FormatError
-direct_checked heap table file offset_size address size start = do
+direct_checked tests table file offset_size address size start = do
   _ ← required (legal offset_size) (InvalidOffsetSize offset_size)
-  _ ← room_checked (direct_header_size heap table offset_size) size
+  _ ← room_checked (direct_header_size tests table offset_size) size
   _ ← len_ensured file address size
-  direct_in heap table offset_size (take size (drop address file)) start
+  direct_in tests table offset_size (take size (drop address file)) start

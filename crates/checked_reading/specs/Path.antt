@@ -14,6 +14,7 @@ use Rattle.reading.specs.declared.rows.DoublingTable.{DoublingTable}
 use Rattle.reading.specs.declared.children.HeapChild.{HeapChild}
 use Rattle.reading.specs.declared.children.HeapChild.TheVariants.{Direct, Indirect}
 use Rattle.reading.specs.Blocks.{child_at}
+use Rattle.reading.specs.Walk.{max_depth}
 use Rattle.checked_reading.specs.declared.Checked.{Checked}
 use Rattle.checked_reading.specs.declared.path.BlockSite.{BlockSite}
 use Rattle.checked_reading.specs.Blocks.{indirect_size, indirect_checked}
@@ -47,25 +48,25 @@ from_child (Err e) indirect = []
 
 -- from the indirect block of so many rows at this address on that is to begin at heap offset start,
 -- with so many blocks to go
-unfoldable pub path_from : (heap : Checked) (table : DoublingTable) (file : List ℕ)
+unfoldable pub path_from : (tests : Checked) (table : DoublingTable) (file : List ℕ)
     (offset_size target to_go address rows start : ℕ) → List Block
-path_from heap table file offset_size target zero address rows start = []
-path_from heap table file offset_size target (suc to_go) address rows start =
+path_from tests table file offset_size target zero address rows start = []
+path_from tests table file offset_size target (suc to_go) address rows start =
     block_of address start (indirect_size table offset_size rows)
-    ∷ if_passed (indirect_checked heap table file offset_size address rows start)
+    ∷ if_passed (indirect_checked tests table file offset_size address rows start)
     (from_child (child_at table file address rows start target offset_size)
     (λ address rows start.
-    path_from heap table file offset_size target to_go address rows start))
+    path_from tests table file offset_size target to_go address rows start))
 
 -- from the root block of so many rows at this address on; without an offset size, or a root, it has
 -- no block
-unfoldable pub root_path : (heap : Checked) (table : DoublingTable) (file : List ℕ)
+unfoldable pub root_path : (tests : Checked) (table : DoublingTable) (file : List ℕ)
     (address rows target offset_size : ℕ) → List Block
-root_path heap table file address rows target offset_size =
+root_path tests table file address rows target offset_size =
     if legal offset_size && not (is_undefined_addr address offset_size) then
     (if rows == 0
     then block_of address 0 table.starting_block_size ∷ []
-    else path_from heap table file offset_size target 64 address rows 0)
+    else path_from tests table file offset_size target max_depth address rows 0)
     else []
 
 -- ---- the last block
@@ -88,7 +89,7 @@ abbrev pub all_but_last : (path : List Block) → List Block
 all_but_last [] = []
 all_but_last (block ∷ behind) = before_last block behind
 
-abbrev pub block_site : Block → BlockSite
+abbrev pub block_site : (block : Block) → BlockSite
 block_site block = record { address = block.address; heap_offset = block.heap_offset }
 
 -- what refuses a read that comes to no block
@@ -99,12 +100,12 @@ refused_before address offset_size =
     else InvalidOffsetSize offset_size
 
 -- the block at which a read stops; where it comes to none, its refusal
-unfoldable pub stopping_block : (heap : Checked) (table : DoublingTable) (file : List ℕ)
+unfoldable pub stopping_block : (tests : Checked) (table : DoublingTable) (file : List ℕ)
     (address rows target offset_size : ℕ) → Result BlockSite FormatError
-stopping_block heap table file address rows target offset_size =
-    let path = root_path heap table file address rows target offset_size in
+stopping_block tests table file address rows target offset_size =
+    let path = root_path tests table file address rows target offset_size in
     ok_or (option_map block_site (last_of path)) (refused_before address offset_size)
 
 -- address and heap offset
-abbrev pub site_report : BlockSite → Answer
+abbrev pub site_report : (site : BlockSite) → Answer
 site_report site = answer 0 site.address site.heap_offset

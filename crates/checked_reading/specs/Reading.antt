@@ -12,7 +12,8 @@ use Rattle.checked_reading.specs.declared.Checked.{Checked}
 use Rattle.checked_reading.specs.Blocks.{indirect_checked, direct_checked}
 
 -- the object in the direct block of this size at this address that begins at heap offset start: it
--- ends in its block
+-- ends in its block. Its end is compared as it is; the law `EndsAreCut` says that the end cut to
+-- 2^64 - 1 gives the same.
 unfoldable pub object_in : (target len address size start : ℕ) → Result Place FormatError
 object_in target len address size start = do
   let distance = target - start
@@ -20,24 +21,24 @@ object_in target len address size start = do
   Ok (record { position = address + distance; length = len })
 
 -- the same, once the block has passed its tests
-unfoldable pub object_checked : (heap : Checked) (table : DoublingTable) (file : List ℕ)
+unfoldable pub object_checked : (tests : Checked) (table : DoublingTable) (file : List ℕ)
     (offset_size target len address size start : ℕ) → Result Place FormatError
-object_checked heap table file offset_size target len address size start = do
-  _ ← direct_checked heap table file offset_size address size start
+object_checked tests table file offset_size target len address size start = do
+  _ ← direct_checked tests table file offset_size address size start
   object_in target len address size start
 
 -- a walk that tests each block
-abbrev pub checked : (heap : Checked) (table : DoublingTable) (file : List ℕ)
+abbrev pub checked : (tests : Checked) (table : DoublingTable) (file : List ℕ)
     (offset_size target len : ℕ) → Taking
-checked heap table file offset_size target len = record {
-  opened = λ address rows start. indirect_checked heap table file offset_size address rows start;
+checked tests table file offset_size target len = record {
+  opened = λ address rows start. indirect_checked tests table file offset_size address rows start;
   object = λ address size start.
-      object_checked heap table file offset_size target len address size start;
+      object_checked tests table file offset_size target len address size start;
 }
 
 -- the object, from the root block of so many rows at this address on
-abbrev pub root_checked : (heap : Checked) (table : DoublingTable) (file : List ℕ)
+abbrev pub root_checked : (tests : Checked) (table : DoublingTable) (file : List ℕ)
     (address rows target len offset_size : ℕ) → Result Place FormatError
-root_checked heap table file address rows target len offset_size =
-    root_by (checked heap table file offset_size target len)
+root_checked tests table file address rows target len offset_size =
+    root_by (checked tests table file offset_size target len)
     table file address rows target len offset_size

@@ -75,7 +75,7 @@ narrow_file =
 -- what a read is asked: flags and address of the header, the table, the offset size, the root's
 -- address and its rows, heap offset and length of an object
 pub record Asked : Type 0 where
-  pub heap : Checked
+  pub tests : Checked
   pub table : DoublingTable
   pub offset_size : ℕ
   pub root : ℕ
@@ -87,10 +87,10 @@ pub record Asked : Type 0 where
 abbrev pub Answers : (asked : Asked) (file : List ℕ) (found : Result Place FormatError)
     (stop : Result BlockSite FormatError) → Type 0
 Answers asked file found stop =
-    (root_checked asked.heap asked.table file asked.root asked.rows asked.target asked.len
+    (root_checked asked.tests asked.table file asked.root asked.rows asked.target asked.len
     asked.offset_size ≡ found)
-    × (stopping_block asked.heap asked.table file asked.root asked.rows asked.target asked.offset_size
-    ≡ stop)
+    × (stopping_block asked.tests asked.table file asked.root asked.rows asked.target
+    asked.offset_size ≡ stop)
 
 abbrev pub at_header : (flags heap_header_address : ℕ) → Checked
 at_header flags heap_header_address =
@@ -99,7 +99,7 @@ at_header flags heap_header_address =
 -- the first three bytes of the direct block's data
 abbrev pub first_three : Asked
 first_three = record {
-  heap = at_header 2 0x1234;
+  tests = at_header 2 0x1234;
   table = small_table;
   offset_size = 2;
   root = 0;
@@ -117,11 +117,11 @@ found_at position length = Ok (record { position = position; length = length })
 pub record WorkedReads : Type 0 where
   -- as it stands, also where every other bit of Flags is set
   pub sound : Answers first_three small_file (found_at 55 3) (block_at 42 160)
-  pub other_flags : Answers (record first_three { heap = at_header 0xFF 0x1234 }) small_file
+  pub other_flags : Answers (record first_three { tests = at_header 0xFF 0x1234 }) small_file
       (found_at 55 3) (block_at 42 160)
   -- without the bit of value 2 a direct block's header ends four bytes earlier, and its data is not
   -- checked
-  pub without_bit : Answers (record first_three { heap = at_header 0xFD 0x1234; target = 169 })
+  pub without_bit : Answers (record first_three { tests = at_header 0xFD 0x1234; target = 169 })
       (damaged 56 3) (found_at 51 3) (block_at 42 160)
   -- a byte of an object, and one of an address that is not followed
   pub data_damaged : Answers first_three (damaged 56 3)
@@ -136,18 +136,18 @@ pub record WorkedReads : Type 0 where
   pub misplaced : Answers first_three (damaged 49 161) (Err (ForeignBlock 161 160))
       (block_at 42 160)
   -- another header's address, also one that has the same low bytes
-  pub foreign : Answers (record first_three { heap = at_header 2 0x1235 }) small_file
+  pub foreign : Answers (record first_three { tests = at_header 2 0x1235 }) small_file
       (Err (ForeignBlock 0x1234 0x1235)) (block_at 0 0)
-  pub foreign_by_high_bytes : Answers (record first_three { heap = at_header 2 0x11234 })
+  pub foreign_by_high_bytes : Answers (record first_three { tests = at_header 2 0x11234 })
       small_file (Err (ForeignBlock 0x1234 0x11234)) (block_at 0 0)
   -- another header's address is told before another heap offset, and both before the checksum, the
   -- version before them, the signature before the version
   pub foreign_before_misplaced : Answers
-      (record first_three { heap = at_header 2 0x1235; root = 42; rows = 0 }) small_file
+      (record first_three { tests = at_header 2 0x1235; root = 42; rows = 0 }) small_file
       (Err (ForeignBlock 0x1234 0x1235)) (block_at 42 0)
-  pub foreign_before_checksum : Answers (record first_three { heap = at_header 2 0x1235 })
+  pub foreign_before_checksum : Answers (record first_three { tests = at_header 2 0x1235 })
       (damaged 24 0) (Err (ForeignBlock 0x1234 0x1235)) (block_at 0 0)
-  pub version_before_foreign : Answers (record first_three { heap = at_header 2 0x1235 })
+  pub version_before_foreign : Answers (record first_three { tests = at_header 2 0x1235 })
       (damaged 4 1) (Err (InvalidFractalHeapVersion 1)) (block_at 0 0)
   pub signature_before_version : Answers first_three (put (damaged 4 1) 3 (0x44 ∷ []))
       (Err InvalidFractalHeapSignature) (block_at 0 0)
@@ -170,6 +170,12 @@ pub record WorkedReads : Type 0 where
       (Err (UnexpectedEof 33 32)) (block_at 42 160)
   pub checksum_before_end : Answers (record first_three { len = 20 }) (damaged 56 3)
       (Err (BlockChecksumMismatch 0x40B5DF4E 0x38C297A3)) (block_at 42 160)
+  -- an object whose end in its block is past all 64-bit numbers
+  pub longest_object : Answers (record first_three { len = 2 ^ 64 - 1 }) small_file
+      (Err (UnexpectedEof (2 ^ 64 - 1) 32)) (block_at 42 160)
+  -- an object for which the root has no child
+  pub no_child : Answers (record first_three { target = 64 }) small_file
+      (Err (UnexpectedEof 67 74)) (block_at 0 0)
   -- an object that begins in its block's header, and one of no bytes
   pub in_the_header : Answers (record first_three { target = 160 }) small_file (found_at 42 3)
       (block_at 42 160)
@@ -182,7 +188,7 @@ pub record WorkedReads : Type 0 where
   -- without the bit of value 2 its header has four bytes less
   pub smaller_without_bit : Answers
       (record first_three {
-        heap = at_header 0 0x1234;
+        tests = at_header 0 0x1234;
         rows = 0;
         table = record small_table { starting_block_size = 8 };
       })
@@ -201,10 +207,29 @@ pub record WorkedReads : Type 0 where
       (Err (UnexpectedEof (2 ^ 64 - 1) 74)) (block_at (2 ^ 64 - 1) 0)
   pub past_all_numbers : Answers (record first_three { offset_size = 8; root = 2 ^ 64 - 2 })
       small_file (Err (UnexpectedEof (2 ^ 64 - 1) 74)) (block_at (2 ^ 64 - 2) 0)
+  -- heap offsets of eight bytes, each of which counts
+  pub eight_bytes : Answers
+      (record first_three {
+        tests = at_header 0 0x1234;
+        rows = 0;
+        target = 15;
+        table = record small_table { max_heap_size = 64 };
+      })
+      (0x46 ∷ 0x48 ∷ 0x44 ∷ 0x42 ∷ 0 ∷ 0x34 ∷ 0x12 ∷ replicate 8 0 ++ replicate 17 1)
+      (found_at 15 3) (block_at 0 0)
+  pub eighth_byte : Answers
+      (record first_three {
+        tests = at_header 0 0x1234;
+        rows = 0;
+        target = 15;
+        table = record small_table { max_heap_size = 64 };
+      })
+      (0x46 ∷ 0x48 ∷ 0x44 ∷ 0x42 ∷ 0 ∷ 0x34 ∷ 0x12 ∷ replicate 7 0 ++ replicate 18 1)
+      (Err (ForeignBlock (2 ^ 56) 0)) (block_at 0 0)
   -- heap offsets of nine bytes, the ninth of which does not count
   pub nine_bytes : Answers
       (record first_three {
-        heap = at_header 0 0x1234;
+        tests = at_header 0 0x1234;
         rows = 0;
         target = 16;
         table = record small_table { max_heap_size = 72 };

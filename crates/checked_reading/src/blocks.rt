@@ -4,8 +4,6 @@ ghost use Rattle.std.specs.Prelude.{◌≡◌, ◌+◌, ◌≤◌, ◌<◌, ◌^
 ghost use Rattle.fields.specs.LittleEndian.{le_at};
 ghost use Rattle.fields.specs.Widths.{legal};
 ghost use Rattle.numbers.specs.Numbers.{saturated};
-ghost use Rattle.checksum.specs.Lookup3.{hashlittle};
-ghost use Rattle.checksum.specs.Zeroed.{zeroed};
 ghost use Rattle.reading.specs.Blocks.{entries_place};
 ghost use Rattle.checked_reading.specs.Blocks.{stored_offset, same_checked};
 ghost use Rattle.checked_reading.specs.Blocks.{block_sum_checked, room_checked};
@@ -92,14 +90,6 @@ fn check_sum(stored: u32, computed: u32) -> Result<(), FormatError>
     Ok(())
 }
 
-// The checksum of a direct block, to which its own field, at `place`, counts as zero.
-fn direct_sum(block: &[u8], place: usize) -> u32
-    requires { place + 4 ≤ length block.now }
-    ensures { result ≡ hashlittle (zeroed block.now place) }
-{
-    lookup3_zeroed(block, place)
-}
-
 impl Checked {
     // Whether direct blocks have a checksum.
     fn has_checksum(&self) -> bool
@@ -110,7 +100,7 @@ impl Checked {
 
     // How many bytes the header of a direct block has.
     fn direct_header_size(&self, table: DoublingTable, offset_size: u8) -> usize
-        ensures value { result ≡ direct_header_size self.now table offset_size }
+        ensures bytes { result ≡ direct_header_size self.now table offset_size }
         ensures bound { result < 2 ^ 16 }
     {
         let head = table.entries_place(offset_size);
@@ -184,7 +174,7 @@ impl Checked {
             return Ok(());
         }
         let place = search.table.entries_place(search.offset_size);
-        check_sum(read_u32_le(block, place), direct_sum(block, place))
+        check_sum(read_u32_le(block, place), lookup3_zeroed(block, place))
     }
 
     /// The tests of the indirect block of `nrows` rows at `addr`, which is to begin at the heap offset `start`. They

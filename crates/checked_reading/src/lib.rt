@@ -58,7 +58,7 @@ impl BlockReader for Checked {
 
     ghost taking = { checked };
 
-    // Inlined, as `object` is: with a call, the tests of a small block took 10 ns beside its checksum, and not 4.
+    // Inlined, as `object` is: with a call, the tests of a small block were measured to take longer.
     #[inline(always)]
     fn open(
         &self,

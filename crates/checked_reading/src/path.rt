@@ -1,12 +1,13 @@
 //! The block at which a read stops: the last of its path. What a read is refused for is said of this block.
 ghost use Rattle.std.specs.Prelude.{◌≡◌, Some};
 ghost use Rattle.std.specs.Option.{option_map};
+ghost use Rattle.reading.specs.Walk.{max_depth};
 ghost use Rattle.checked_reading.specs.Path.{path_from, last_of, block_site, stopping_block};
 
 use crate::Checked;
 use fields::convert::is_undefined_addr;
 use fields::is_width;
-use reading::{HeapChild, Search};
+use reading::{HeapChild, MAX_DEPTH, Search};
 use refusals::{Answer, FormatError, Reported};
 
 /// Where a block of a heap stands in the file, in bytes from the file's base, and the heap offset at which it begins.
@@ -31,7 +32,8 @@ impl Checked {
     #[tactic(auto, using(crate::proofs::Lasts::stopping))]
     fn stopping_below(&self, search: &Search<'_>, root: u64, root_rows: u64) -> BlockSite
         ensures { Some result ≡ option_map block_site (last_of (path_from self.now search.now.table
-            search.now.file.now search.now.offset_size search.now.target 64 root root_rows 0)) }
+            search.now.file.now search.now.offset_size search.now.target max_depth root root_rows
+            0)) }
     {
         let mut rows = root_rows;
         let mut block = BlockSite {
@@ -40,7 +42,7 @@ impl Checked {
         };
         // Where the depth is used up, the block before is the last that was tested.
         let mut last = block;
-        for _depth in 0..64u64 {
+        for _depth in 0..MAX_DEPTH {
             last = block;
             let (addr, start) = (block.address, block.heap_offset);
             let Ok(()) = self.check_indirect_block(search, addr, rows, start) else {

@@ -15,17 +15,17 @@ use Rattle.checksum.specs.Mix.{mixed, final_mixed}
 use Rattle.checksum.specs.Lookup3.{grouped, mixed_groups, begun, groups_of, tail_of, hashlittle}
 use Rattle.checksum.specs.Undoing.{Fit}
 use Rattle.checksum.specs.Damage.{words_after, final_words, Bytes, OnePart, GroupsShow, PartsShow}
-use Rattle.checksum.specs.declared.mixing.State.{State}
+use Rattle.checksum.specs.declared.mixing.MixState.{MixState}
 use Rattle.checksum.proofs.Switch.{tail-group}
 use Rattle.checksum.proofs.Undoing.{mix-undone, final-undone, undone-tells, add_lt}
 
 -- ---- the words, group by group
 
 -- those after n groups, with the next 12 bytes, or all that are left, added
-abbrev with_part : (bytes : List ℕ) (n : ℕ) → State
+abbrev with_part : (bytes : List ℕ) (n : ℕ) → MixState
 with_part bytes n = grouped bytes (12 * n) (words_after bytes n)
 
-run-last : (bytes : List ℕ) (p n : ℕ) (s : State)
+run-last : (bytes : List ℕ) (p n : ℕ) (s : MixState)
     → mixed_groups bytes p (suc n) s ≡ mixed (grouped bytes (p + 12 * n) (mixed_groups bytes p n s))
 unfolding mixed_groups
 run-last bytes p zero s = rw (add-zero p) refl
@@ -159,9 +159,9 @@ module _ {xs ys : List ℕ} {j : ℕ} (d : OnePart xs ys j) where
       let added = λ (p x y : ℕ) (l : q ≤ p) (f : x < 2 ^ 32) (g : y < 2 ^ 32)
       (e : add32 x (le_at xs p 4) ≡ add32 y (le_at ys p 4)).
       same_added x y (le_at ys p 4) f g (ap (add32 x) (sym (same p l)) ∙ e) in
-      let a = added (12 * n) _ _ (omega arith) f.a g.a (ap (λ (t : State). t.a) e) in
-      let b = added (12 * n + 4) _ _ (omega arith) f.b g.b (ap (λ (t : State). t.b) e) in
-      let c = added (12 * n + 8) _ _ (omega arith) f.c g.c (ap (λ (t : State). t.c) e) in
+      let a = added (12 * n) _ _ (omega arith) f.a g.a (ap (λ (t : MixState). t.a) e) in
+      let b = added (12 * n + 4) _ _ (omega arith) f.b g.b (ap (λ (t : MixState). t.b) e) in
+      let c = added (12 * n + 8) _ _ (omega arith) f.c g.c (ap (λ (t : MixState). t.c) e) in
       λ i. record { a = a i; b = b i; c = c i }
 
   back : (n k : ℕ) → n ≡ j + k → with_part xs n ≡ with_part ys n → with_part xs j ≡ with_part ys j
@@ -179,14 +179,14 @@ module _ {xs ys : List ℕ} {j : ℕ} (d : OnePart xs ys j) where
   part-same : with_part xs j ≡ with_part ys j → ⊥
   part-same e =
       let q : ℕ = 12 * j in
-      let s : State = words_after xs j in
+      let s : MixState = words_after xs j in
       let words = words-before xs ys q d.lengths d.before j (omega arith) in
       let group : grouped xs q s ≡ grouped ys q s = e ∙ ap (grouped ys q) (sym words) in
       let told = λ (p x : ℕ) (e : add32 x (le_at xs p 4) ≡ add32 x (le_at ys p 4)).
       four-same p (add_same x _ _ (four-lt d.bytes p) (four-lt d.others p) e) in
-      let a = told q s.a (ap (λ (t : State). t.a) group) in
-      let b = told (q + 4) s.b (ap (λ (t : State). t.b) group) in
-      let c = told (q + 8) s.c (ap (λ (t : State). t.c) group) in
+      let a = told q s.a (ap (λ (t : MixState). t.a) group) in
+      let b = told (q + 4) s.b (ap (λ (t : MixState). t.b) group) in
+      let c = told (q + 8) s.c (ap (λ (t : MixState). t.c) group) in
       let behind = drop-same (q + 8) (q + 12) (omega arith) c d.behind in
       let from = drop-same q (q + 4) (omega arith) a (drop-same (q + 4) (q + 8) (omega arith) b behind) in
       d.differ (sym (take-append-drop q xs) ∙ (λ i. d.before i ++ from i) ∙ take-append-drop q ys)

@@ -1,7 +1,7 @@
 -- The loop of `jenkins_lookup3` over the groups: how it starts, goes on and ends.
 use Rattle.std.proofs.Common.{◌≡◌, ℕ, suc, ◌+◌, ◌-◌, ◌*◌, ◌<◌, ◌≤◌, List, length, drop, refl, ap}
 use Rattle.std.proofs.Common.{arith}
-use Rattle.checksum.specs.declared.mixing.State.{State}
+use Rattle.checksum.specs.declared.mixing.MixState.{MixState}
 use Rattle.checksum.specs.Mix.{mixed}
 use Rattle.checksum.specs.Lookup3.{group_size, grouped, mixed_groups, groups_of, begun, body, tail_of, ended}
 use Rattle.checksum.specs.Lookup3.{hashlittle}
@@ -15,18 +15,18 @@ pub groups_none : (n : ℕ) → n ≤ group_size → groups_of n ≡ 0
 groups_none n h = omega arith
 
 -- while the loop runs: the groups left, from the words so far, give the words after all groups
-pub record Looping (bytes : List ℕ) (s : State) (at : ℕ) : Type 0 where
+pub record Looping (bytes : List ℕ) (s : MixState) (at : ℕ) : Type 0 where
   pub within : at < length bytes
   pub place : at + group_size * groups_of (length bytes - at) ≡ group_size * groups_of (length bytes)
   pub words : mixed_groups bytes at (groups_of (length bytes - at)) s ≡ body bytes
 
-pub loop_start : (bytes : List ℕ) (s : State) → 0 < length bytes → s ≡ begun (length bytes) → Looping bytes s 0
+pub loop_start : (bytes : List ℕ) (s : MixState) → 0 < length bytes → s ≡ begun (length bytes) → Looping bytes s 0
 loop_start bytes s h e = record { within = omega arith; place = rw none (omega arith); words = rw (none, e) }
   where
     none : length bytes - 0 ≡ length bytes
     none = omega arith
 
-module _ {bytes : List ℕ} {s : State} {at : ℕ} (w : Looping bytes s at) where
+module _ {bytes : List ℕ} {s : MixState} {at : ℕ} (w : Looping bytes s at) where
   pub loop_more : group_size < length bytes - at → Looping bytes (mixed (grouped bytes at s)) (at + group_size)
   unfolding mixed_groups
   loop_more h =

@@ -7,17 +7,17 @@ use Rattle.fields.specs.LittleEndian.{le_at, value}
 use Rattle.fields.proofs.LittleEndian.{le_at-drop}
 use Rattle.checksum.specs.Words.{add32}
 use Rattle.checksum.specs.Mix.{final_mixed}
-use Rattle.checksum.specs.declared.mixing.State.{State}
+use Rattle.checksum.specs.declared.mixing.MixState.{MixState}
 use Rattle.checksum.specs.Undoing.{Fit}
 use Rattle.checksum.specs.Lookup3.{group_size, grouped, case_met, switched, passed, after, plus, ended}
 
 -- ---- the words after each case
 
-pub after_none : (tail : List ℕ) (s : State) → after (group_size + 1) tail s ≡ s
+pub after_none : (tail : List ℕ) (s : MixState) → after (group_size + 1) tail s ≡ s
 unfolding after passed
 after_none tail s = refl
 
-pub after_case : (n : ℕ) (tail : List ℕ) (s : State) → 0 < n → n ≤ group_size
+pub after_case : (n : ℕ) (tail : List ℕ) (s : MixState) → 0 < n → n ≤ group_size
     → after n tail s ≡ case_met n tail (after (n + 1) tail s)
 unfolding after passed
 after_case n tail s p h =
@@ -27,7 +27,7 @@ after_case n tail s p h =
     rw (more, next, passed, same) refl
 
 -- what is left of the switch behind so many cases makes the whole of the words there
-left : (done : ℕ) (tail : List ℕ) (s : State) → done ≤ group_size
+left : (done : ℕ) (tail : List ℕ) (s : MixState) → done ≤ group_size
     → switched group_size tail s ≡ switched (group_size - done) tail (passed done tail s)
 unfolding passed switched
 left zero tail s h = refl
@@ -35,7 +35,7 @@ left (suc done) tail s h =
     let more : 12 - done ≡ suc (12 - suc done) = omega arith in
     left done tail s (omega arith) ∙ rw (more, switched) refl
 
-pub after_rest : (n : ℕ) (tail : List ℕ) (s : State) → n ≤ group_size
+pub after_rest : (n : ℕ) (tail : List ℕ) (s : MixState) → n ≤ group_size
     → switched group_size tail s ≡ switched n tail (after (n + 1) tail s)
 unfolding after
 after_rest n tail s h =
@@ -43,17 +43,17 @@ after_rest n tail s h =
     let more : 12 - (12 - n) ≡ n = omega arith in
     left (12 - n) tail s (omega arith) ∙ rw (done, more) refl
 
-after_last : (tail : List ℕ) (s : State) → after 1 tail s ≡ switched group_size tail s
+after_last : (tail : List ℕ) (s : MixState) → after 1 tail s ≡ switched group_size tail s
 unfolding switched
 after_last tail s = sym (after_rest 0 tail s (omega arith))
 
 -- a tail enters at the case of its length: the cases above are not met
-not_met : (done : ℕ) (tail : List ℕ) (s : State) → length tail + done ≤ group_size → passed done tail s ≡ s
+not_met : (done : ℕ) (tail : List ℕ) (s : MixState) → length tail + done ≤ group_size → passed done tail s ≡ s
 unfolding passed
 not_met zero tail s h = refl
 not_met (suc done) tail s h = grind (arith, nat_tests, not_met done tail s (omega arith))
 
-pub after_above : (n : ℕ) (tail : List ℕ) (s : State) → length tail < n → n ≤ group_size + 1
+pub after_above : (n : ℕ) (tail : List ℕ) (s : MixState) → length tail < n → n ≤ group_size + 1
     → after n tail s ≡ s
 unfolding after
 after_above n tail s h m = not_met (13 - n) tail s (omega arith)
@@ -66,15 +66,15 @@ add_assoc x y z = omega arith
 add_none : {x : ℕ} → x < 2 ^ 32 → add32 x 0 ≡ x
 add_none h = omega arith
 
-pub plus_none : (s : State) → Fit s → plus s (record { a = 0; b = 0; c = 0 }) ≡ s
+pub plus_none : (s : MixState) → Fit s → plus s (record { a = 0; b = 0; c = 0 }) ≡ s
 plus_none s f = λ i. record { a = add_none f.a i; b = add_none f.b i; c = add_none f.c i }
 
 -- ---- the end
 
-pub ended_none : (tail : List ℕ) (s : State) → length tail ≡ 0 → s.c ≡ ended tail s
+pub ended_none : (tail : List ℕ) (s : MixState) → length tail ≡ 0 → s.c ≡ ended tail s
 ended_none tail s h = grind (arith, nat_tests)
 
-pub ended_some : (tail : List ℕ) (s : State) → 0 < length tail
+pub ended_some : (tail : List ℕ) (s : MixState) → 0 < length tail
     → (final_mixed (after 1 tail s)).c ≡ ended tail s
 ended_some tail s h = rw (ne_eqb (length tail) 0 (λ z. absurd (omega arith)), after_last tail s) refl
 
@@ -100,7 +100,7 @@ added-word : {x : ℕ} (bs : List ℕ) → x < 2 ^ 32 → added 0 x bs ≡ add32
 added-word {x} bs h = added_is 0 x bs h ∙ omega arith
 
 -- the switch adds the bytes to their words, for a tail of each length
-switch-adds : (tail : List ℕ) (s : State) → length tail ≤ group_size
+switch-adds : (tail : List ℕ) (s : MixState) → length tail ≤ group_size
     → switched group_size tail s
     ≡ record {
       a = added 0 s.a (take 4 tail);
@@ -123,7 +123,7 @@ switch-adds (x0 ∷ x1 ∷ x2 ∷ x3 ∷ x4 ∷ x5 ∷ x6 ∷ x7 ∷ x8 ∷ x9 �
 switch-adds (x0 ∷ x1 ∷ x2 ∷ x3 ∷ x4 ∷ x5 ∷ x6 ∷ x7 ∷ x8 ∷ x9 ∷ x10 ∷ x11 ∷ []) s k = refl
 switch-adds (x0 ∷ x1 ∷ x2 ∷ x3 ∷ x4 ∷ x5 ∷ x6 ∷ x7 ∷ x8 ∷ x9 ∷ x10 ∷ x11 ∷ x12 ∷ xs) s k = absurd (omega arith)
 
-pub switch-words : (tail : List ℕ) (s : State) → Fit s → length tail ≤ group_size
+pub switch-words : (tail : List ℕ) (s : MixState) → Fit s → length tail ≤ group_size
     → switched group_size tail s ≡ grouped tail 0 s
 unfolding le_at
 switch-words tail s f k =
@@ -135,24 +135,24 @@ switch-words tail s f k =
     })
 
 -- so a tail, read at its place in the bytes, is added as a group is
-pub tail-group : (bytes : List ℕ) (at : ℕ) {s : State} → length bytes ≤ at + group_size → Fit s
+pub tail-group : (bytes : List ℕ) (at : ℕ) {s : MixState} → length bytes ≤ at + group_size → Fit s
     → grouped bytes at s ≡ switched group_size (drop at bytes) s
 tail-group bytes at {s} most f =
     let words = switch-words (drop at bytes) s f (rw (length-drop at bytes) (omega (arith, most))) in
     rw (words, le_at-drop bytes at 0 4, le_at-drop bytes at 4 4, le_at-drop bytes at 8 4, add-zero at) refl
 
-tail_ended : (bytes : List ℕ) (at : ℕ) {s : State} → at < length bytes → length bytes ≤ at + group_size → Fit s
+tail_ended : (bytes : List ℕ) (at : ℕ) {s : MixState} → at < length bytes → length bytes ≤ at + group_size → Fit s
     → ended (drop at bytes) s ≡ (final_mixed (grouped bytes at s)).c
 tail_ended bytes at {s} some most f =
     let more : 0 < length (drop at bytes) = rw (length-drop at bytes) (omega (arith, some)) in
     sym (ended_some (drop at bytes) s more)
-    ∙ ap (λ (t : State). (final_mixed t).c) (after_last (drop at bytes) s ∙ sym (tail-group bytes at most f))
+    ∙ ap (λ (t : MixState). (final_mixed t).c) (after_last (drop at bytes) s ∙ sym (tail-group bytes at most f))
 
 -- tails that make the same of their words have the same end
-pub tails_end_alike : (xs ys : List ℕ) (at : ℕ) {s t : State} → length xs ≡ length ys → at < length xs
+pub tails_end_alike : (xs ys : List ℕ) (at : ℕ) {s t : MixState} → length xs ≡ length ys → at < length xs
     → length xs ≤ at + group_size → Fit s → Fit t → grouped xs at s ≡ grouped ys at t
     → ended (drop at xs) s ≡ ended (drop at ys) t
 tails_end_alike xs ys at e some most f g same =
     tail_ended xs at some most f
-    ∙ ap (λ (w : State). (final_mixed w).c) same
+    ∙ ap (λ (w : MixState). (final_mixed w).c) same
     ∙ sym (tail_ended ys at (omega arith) (omega arith) g)

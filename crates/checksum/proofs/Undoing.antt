@@ -8,7 +8,7 @@ use Rattle.checksum.specs.Mix.{mix_a, mix_b, mix_c, mixed, final_a, final_b, fin
 use Rattle.checksum.specs.Unmix.{xor_add, add_xor, unmix_a, unmix_b, unmix_c, unmixed}
 use Rattle.checksum.specs.Unmix.{unfinal_a, unfinal_b, unfinal_c, unfinal_mixed}
 use Rattle.checksum.specs.Undoing.{Undoes, Injective}
-use Rattle.checksum.specs.declared.mixing.State.{State}
+use Rattle.checksum.specs.declared.mixing.MixState.{MixState}
 
 -- ---- words
 
@@ -60,7 +60,7 @@ module _ {x y : ℕ} (k : ℕ) (h : x < 2 ^ 32) (l : y < 2 ^ 32) where
 -- ---- one line, and line after line
 
 infixl 40 ◌then◌
-◌then◌ : {f g h i : State → State} → Undoes f g → Undoes h i → Undoes (λ s. h (f s)) (λ s. g (i s))
+◌then◌ : {f g h i : MixState → MixState} → Undoes f g → Undoes h i → Undoes (λ s. h (f s)) (λ s. g (i s))
 ◌then◌ {f} {g} {h} {i} u v =
     record {
       keeps = λ s k. v.keeps (f s) (u.keeps s k);
@@ -132,5 +132,5 @@ mix-undone = mix-a 4 then mix-b 6 then mix-c 8 then mix-a 16 then mix-b 19 then 
 pub final-undone : Undoes final_mixed unfinal_mixed
 final-undone = final-c 14 then final-a 11 then final-b 25 then final-c 16 then final-a 4 then final-b 14 then final-c 24
 
-pub undone-tells : {f g : State → State} → Undoes f g → Injective f
+pub undone-tells : {f g : MixState → MixState} → Undoes f g → Injective f
 undone-tells {f} {g} u = record { tells = λ s t h k e. sym (u.after s h) ∙ ap g e ∙ u.after t k }

@@ -5,7 +5,7 @@ use Rattle.std.proofs.lemmas.List.{places}
 use Rattle.std.specs.Prelude.{slice_index}
 use Rattle.fields.specs.LittleEndian.{le_at, value, put}
 use Rattle.fields.proofs.LittleEndian.{length-put}
-use Rattle.checksum.specs.declared.mixing.State.{State}
+use Rattle.checksum.specs.declared.mixing.MixState.{MixState}
 use Rattle.checksum.specs.Lookup3.{group_size, grouped}
 use Rattle.checksum.specs.Words.{add32, sub32}
 use Rattle.checksum.specs.Zeroed.{zeroed}
@@ -204,12 +204,12 @@ module _ (bytes : List ℕ) (place : ℕ) (room : place + 4 ≤ length bytes) wh
 
   -- ---- the groups
 
-  pub group_before : (at : ℕ) (s : State) → at + group_size ≤ place
+  pub group_before : (at : ℕ) (s : MixState) → at + group_size ≤ place
       → grouped bytes at s ≡ grouped (zeroed bytes place) at s
   group_before at s h =
       rw (word_before at (omega arith), word_before (at + 4) (omega arith), word_before (at + 8) (omega arith))
 
-  pub group_behind : (at : ℕ) (s : State) → place + 4 ≤ at
+  pub group_behind : (at : ℕ) (s : MixState) → place + 4 ≤ at
       → grouped bytes at s ≡ grouped (zeroed bytes place) at s
   group_behind at s h =
       rw (word_behind at h, word_behind (at + 4) (omega arith), word_behind (at + 8) (omega arith))

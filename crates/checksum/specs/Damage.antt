@@ -3,14 +3,14 @@ use Rattle.std.specs.Prelude.{ℕ, suc, ◌≡◌, ◌<◌, ◌+◌, ◌*◌, Li
 use Rattle.checksum.specs.Mix.{final_mixed}
 use Rattle.checksum.specs.Lookup3.{group_size, mixed_groups, begun, body, tail_of}
 use Rattle.checksum.specs.Lookup3.{switched, hashlittle}
-use Rattle.checksum.specs.declared.mixing.State.{State}
+use Rattle.checksum.specs.declared.mixing.MixState.{MixState}
 
 -- the words after the mix of the n-th group
-abbrev pub words_after : (bytes : List ℕ) (n : ℕ) → State
+abbrev pub words_after : (bytes : List ℕ) (n : ℕ) → MixState
 words_after bytes n = mixed_groups bytes 0 n (begun (length bytes))
 
 -- the three words at the end
-abbrev pub final_words : (bytes : List ℕ) → State
+abbrev pub final_words : (bytes : List ℕ) → MixState
 final_words bytes = final_mixed (switched group_size (tail_of bytes) (body bytes))
 
 -- a list of bytes
@@ -30,7 +30,7 @@ pub record OnePart (xs ys : List ℕ) (j : ℕ) : Type 0 where
 -- such a part of 12 bytes, with more bytes behind it: a group that is mixed
 pub record OneGroup (xs ys : List ℕ) (j : ℕ) : Type 0 where
   pub part : OnePart xs ys j
-  pub more : group_size * j + group_size < length xs
+  pub bytes_behind : group_size * j + group_size < length xs
 
 -- then the words after the mix of that group differ
 pub record GroupsShow : Type 0 where

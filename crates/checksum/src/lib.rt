@@ -12,11 +12,12 @@ ghost use Rattle.checksum.specs.Words.{add32};
 ghost use Rattle.checksum.specs.Lookup3.{begun, grouped, hashlittle};
 ghost use Rattle.checksum.specs.Laws.{MixedWhileMore, SwitchedByCase, TailsSwitched};
 ghost use Rattle.checksum.specs.Damage.{GroupsShow, PartsShow};
-ghost use Rattle.checksum.specs.declared.mixing.State.{State};
+ghost use Rattle.checksum.specs.declared.mixing.MixState.{MixState};
 
-use crate::mixing::{State, mix};
+use crate::mixing::mix;
 use crate::tail::ended;
 use fields::little_endian::read_u32_le;
+pub use mixing::MixState;
 
 /// The bytes of a group, four for each of three words; of a tail there are as many at most.
 const GROUP_SIZE: usize = 12;
@@ -36,22 +37,22 @@ fn add_word(x: u32, bytes: &[u8], p: usize) -> u32
 }
 
 // The group at `at` added to the words, four to each.
-fn add_group(s: State, bytes: &[u8], at: usize) -> State
+fn add_group(s: MixState, bytes: &[u8], at: usize) -> MixState
     requires { at + GROUP_SIZE ≤ length bytes.now }
     ensures { result ≡ grouped bytes.now at s }
 {
-    State {
+    MixState {
         a: add_word(s.a, bytes, at),
         b: add_word(s.b, bytes, at + 4),
         c: add_word(s.c, bytes, at + 8),
     }
 }
 
-fn begun(n: usize) -> State
+fn begun(n: usize) -> MixState
     ensures { result ≡ begun n }
 {
     let first = START_WORD.wrapping_add((n as u64 % WORD_VALUES) as u32);
-    State {
+    MixState {
         a: first,
         b: first,
         c: first,

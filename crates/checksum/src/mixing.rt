@@ -7,7 +7,7 @@ ghost use Rattle.checksum.specs.Mix.{final_mixed};
 
 /// The three words a, b and c.
 #[derive(Clone, Copy)]
-pub struct State {
+pub struct MixState {
     pub a: u32,
     pub b: u32,
     pub c: u32,
@@ -29,10 +29,10 @@ fn xor_sub(x: u32, y: u32, k: u32) -> u32
 
 // A line of mix for a: c is taken from it, then it is exclusive-ored with c rotated by `k`; b is
 // added to c.
-fn mix_a(s: State, k: u32) -> State
+fn mix_a(s: MixState, k: u32) -> MixState
     ensures { result ≡ mix_a k s }
 {
-    State {
+    MixState {
         a: sub_xor(s.a, s.c, k),
         b: s.b,
         c: s.c.wrapping_add(s.b),
@@ -40,10 +40,10 @@ fn mix_a(s: State, k: u32) -> State
 }
 
 // A line of mix for b: likewise with a; c is added to a.
-fn mix_b(s: State, k: u32) -> State
+fn mix_b(s: MixState, k: u32) -> MixState
     ensures { result ≡ mix_b k s }
 {
-    State {
+    MixState {
         a: s.a.wrapping_add(s.c),
         b: sub_xor(s.b, s.a, k),
         c: s.c,
@@ -51,10 +51,10 @@ fn mix_b(s: State, k: u32) -> State
 }
 
 // A line of mix for c: likewise with b; a is added to b.
-fn mix_c(s: State, k: u32) -> State
+fn mix_c(s: MixState, k: u32) -> MixState
     ensures { result ≡ mix_c k s }
 {
-    State {
+    MixState {
         a: s.a,
         b: s.b.wrapping_add(s.a),
         c: sub_xor(s.c, s.b, k),
@@ -62,7 +62,7 @@ fn mix_c(s: State, k: u32) -> State
 }
 
 /// The mix of three words, after each group of 12 bytes.
-pub fn mix(s: State) -> State
+pub fn mix(s: MixState) -> MixState
     ensures { result ≡ mixed s }
 {
     let s = mix_a(s, 4);
@@ -74,10 +74,10 @@ pub fn mix(s: State) -> State
 }
 
 // A line of final for c: it is exclusive-ored with b, then b rotated by `k` is taken from it.
-fn final_c(s: State, k: u32) -> State
+fn final_c(s: MixState, k: u32) -> MixState
     ensures { result ≡ final_c k s }
 {
-    State {
+    MixState {
         a: s.a,
         b: s.b,
         c: xor_sub(s.c, s.b, k),
@@ -85,10 +85,10 @@ fn final_c(s: State, k: u32) -> State
 }
 
 // A line of final for a: likewise with c.
-fn final_a(s: State, k: u32) -> State
+fn final_a(s: MixState, k: u32) -> MixState
     ensures { result ≡ final_a k s }
 {
-    State {
+    MixState {
         a: xor_sub(s.a, s.c, k),
         b: s.b,
         c: s.c,
@@ -96,10 +96,10 @@ fn final_a(s: State, k: u32) -> State
 }
 
 // A line of final for b: likewise with a.
-fn final_b(s: State, k: u32) -> State
+fn final_b(s: MixState, k: u32) -> MixState
     ensures { result ≡ final_b k s }
 {
-    State {
+    MixState {
         a: s.a,
         b: xor_sub(s.b, s.a, k),
         c: s.c,
@@ -107,7 +107,7 @@ fn final_b(s: State, k: u32) -> State
 }
 
 /// The final mix of three words.
-pub fn final_mix(s: State) -> State
+pub fn final_mix(s: MixState) -> MixState
     ensures { result ≡ final_mixed s }
 {
     let s = final_c(s, 14);

@@ -8,10 +8,10 @@
 ghost use Rattle.std.specs.Prelude.{◌≡◌, ◌+◌, ◌-◌, ◌*◌, ◌^◌, ◌≤◌, length};
 ghost use Rattle.checksum.specs.Words.{add32};
 ghost use Rattle.checksum.specs.Lookup3.{plus, after, ended};
-ghost use Rattle.checksum.specs.declared.mixing.State.{State};
+ghost use Rattle.checksum.specs.declared.mixing.MixState.{MixState};
 
 use crate::GROUP_SIZE;
-use crate::mixing::{State, final_mix};
+use crate::mixing::{MixState, final_mix};
 
 fn add_byte(x: u32, byte: u8, shift: u32) -> u32
     requires { shift ≤ 24 }
@@ -20,40 +20,40 @@ fn add_byte(x: u32, byte: u8, shift: u32) -> u32
     x.wrapping_add((byte as u32) << shift)
 }
 
-fn add_a(s: State, byte: u8, shift: u32) -> State
+fn add_a(s: MixState, byte: u8, shift: u32) -> MixState
     requires { shift ≤ 24 }
     ensures { result ≡ record { a = add32 s.a (byte * 2 ^ shift); b = s.b; c = s.c } }
 {
-    State {
+    MixState {
         a: add_byte(s.a, byte, shift),
         ..s
     }
 }
 
-fn add_b(s: State, byte: u8, shift: u32) -> State
+fn add_b(s: MixState, byte: u8, shift: u32) -> MixState
     requires { shift ≤ 24 }
     ensures { result ≡ record { a = s.a; b = add32 s.b (byte * 2 ^ shift); c = s.c } }
 {
-    State {
+    MixState {
         b: add_byte(s.b, byte, shift),
         ..s
     }
 }
 
-fn add_c(s: State, byte: u8, shift: u32) -> State
+fn add_c(s: MixState, byte: u8, shift: u32) -> MixState
     requires { shift ≤ 24 }
     ensures { result ≡ record { a = s.a; b = s.b; c = add32 s.c (byte * 2 ^ shift) } }
 {
-    State {
+    MixState {
         c: add_byte(s.c, byte, shift),
         ..s
     }
 }
 
-fn plus(s: State, added: State) -> State
+fn plus(s: MixState, added: MixState) -> MixState
     ensures { result ≡ plus s added }
 {
-    State {
+    MixState {
         a: s.a.wrapping_add(added.a),
         b: s.b.wrapping_add(added.b),
         c: s.c.wrapping_add(added.c),
@@ -62,7 +62,7 @@ fn plus(s: State, added: State) -> State
 
 // case 12: c+=((uint32_t)k[11])<<24;
 #[inline(always)]
-fn case_12(s: State, added: State, k: &[u8]) -> State
+fn case_12(s: MixState, added: MixState, k: &[u8]) -> MixState
     requires met { 12 ≤ length k.now }
     requires words { plus s added ≡ after 13 k.now s }
     ensures { result ≡ after 1 k.now s }
@@ -72,7 +72,7 @@ fn case_12(s: State, added: State, k: &[u8]) -> State
 
 // case 11: c+=((uint32_t)k[10])<<16;
 #[inline(always)]
-fn case_11(s: State, added: State, k: &[u8]) -> State
+fn case_11(s: MixState, added: MixState, k: &[u8]) -> MixState
     requires met { 11 ≤ length k.now }
     requires words { plus s added ≡ after 12 k.now s }
     ensures { result ≡ after 1 k.now s }
@@ -82,7 +82,7 @@ fn case_11(s: State, added: State, k: &[u8]) -> State
 
 // case 10: c+=((uint32_t)k[9])<<8;
 #[inline(always)]
-fn case_10(s: State, added: State, k: &[u8]) -> State
+fn case_10(s: MixState, added: MixState, k: &[u8]) -> MixState
     requires met { 10 ≤ length k.now }
     requires words { plus s added ≡ after 11 k.now s }
     ensures { result ≡ after 1 k.now s }
@@ -92,7 +92,7 @@ fn case_10(s: State, added: State, k: &[u8]) -> State
 
 // case 9 : c+=k[8];
 #[inline(always)]
-fn case_9(s: State, added: State, k: &[u8]) -> State
+fn case_9(s: MixState, added: MixState, k: &[u8]) -> MixState
     requires met { 9 ≤ length k.now }
     requires words { plus s added ≡ after 10 k.now s }
     ensures { result ≡ after 1 k.now s }
@@ -102,7 +102,7 @@ fn case_9(s: State, added: State, k: &[u8]) -> State
 
 // case 8 : b+=((uint32_t)k[7])<<24;
 #[inline(always)]
-fn case_8(s: State, added: State, k: &[u8]) -> State
+fn case_8(s: MixState, added: MixState, k: &[u8]) -> MixState
     requires met { 8 ≤ length k.now }
     requires words { plus s added ≡ after 9 k.now s }
     ensures { result ≡ after 1 k.now s }
@@ -112,7 +112,7 @@ fn case_8(s: State, added: State, k: &[u8]) -> State
 
 // case 7 : b+=((uint32_t)k[6])<<16;
 #[inline(always)]
-fn case_7(s: State, added: State, k: &[u8]) -> State
+fn case_7(s: MixState, added: MixState, k: &[u8]) -> MixState
     requires met { 7 ≤ length k.now }
     requires words { plus s added ≡ after 8 k.now s }
     ensures { result ≡ after 1 k.now s }
@@ -122,7 +122,7 @@ fn case_7(s: State, added: State, k: &[u8]) -> State
 
 // case 6 : b+=((uint32_t)k[5])<<8;
 #[inline(always)]
-fn case_6(s: State, added: State, k: &[u8]) -> State
+fn case_6(s: MixState, added: MixState, k: &[u8]) -> MixState
     requires met { 6 ≤ length k.now }
     requires words { plus s added ≡ after 7 k.now s }
     ensures { result ≡ after 1 k.now s }
@@ -132,7 +132,7 @@ fn case_6(s: State, added: State, k: &[u8]) -> State
 
 // case 5 : b+=k[4];
 #[inline(always)]
-fn case_5(s: State, added: State, k: &[u8]) -> State
+fn case_5(s: MixState, added: MixState, k: &[u8]) -> MixState
     requires met { 5 ≤ length k.now }
     requires words { plus s added ≡ after 6 k.now s }
     ensures { result ≡ after 1 k.now s }
@@ -142,7 +142,7 @@ fn case_5(s: State, added: State, k: &[u8]) -> State
 
 // case 4 : a+=((uint32_t)k[3])<<24;
 #[inline(always)]
-fn case_4(s: State, added: State, k: &[u8]) -> State
+fn case_4(s: MixState, added: MixState, k: &[u8]) -> MixState
     requires met { 4 ≤ length k.now }
     requires words { plus s added ≡ after 5 k.now s }
     ensures { result ≡ after 1 k.now s }
@@ -152,7 +152,7 @@ fn case_4(s: State, added: State, k: &[u8]) -> State
 
 // case 3 : a+=((uint32_t)k[2])<<16;
 #[inline(always)]
-fn case_3(s: State, added: State, k: &[u8]) -> State
+fn case_3(s: MixState, added: MixState, k: &[u8]) -> MixState
     requires met { 3 ≤ length k.now }
     requires words { plus s added ≡ after 4 k.now s }
     ensures { result ≡ after 1 k.now s }
@@ -162,7 +162,7 @@ fn case_3(s: State, added: State, k: &[u8]) -> State
 
 // case 2 : a+=((uint32_t)k[1])<<8;
 #[inline(always)]
-fn case_2(s: State, added: State, k: &[u8]) -> State
+fn case_2(s: MixState, added: MixState, k: &[u8]) -> MixState
     requires met { 2 ≤ length k.now }
     requires words { plus s added ≡ after 3 k.now s }
     ensures { result ≡ after 1 k.now s }
@@ -172,7 +172,7 @@ fn case_2(s: State, added: State, k: &[u8]) -> State
 
 // case 1 : a+=k[0];
 #[inline(always)]
-fn case_1(s: State, added: State, k: &[u8]) -> State
+fn case_1(s: MixState, added: MixState, k: &[u8]) -> MixState
     requires met { 1 ≤ length k.now }
     requires words { plus s added ≡ after 2 k.now s }
     ensures { result ≡ after 1 k.now s }
@@ -185,11 +185,11 @@ fn case_1(s: State, added: State, k: &[u8]) -> State
 // not 1.00 to 1.02, but no byte 1.11 and not 0.80.
 #[tactic(auto, using(crate::proofs::Switch::entering))]
 #[inline(always)]
-pub fn ended(s: State, k: &[u8]) -> u32
+pub fn ended(s: MixState, k: &[u8]) -> u32
     requires { length k.now ≤ GROUP_SIZE }
     ensures { result ≡ ended k.now s }
 {
-    let nothing_added = State { a: 0, b: 0, c: 0 };
+    let nothing_added = MixState { a: 0, b: 0, c: 0 };
     let s = match k.len() {
         12 => case_12(s, nothing_added, k),
         11 => case_11(s, nothing_added, k),

@@ -6,7 +6,7 @@ ghost use Rattle.checksum.specs.Unmix.{xor_add, add_xor, unmix_a, unmix_b, unmix
 ghost use Rattle.checksum.specs.Unmix.{unfinal_a, unfinal_b, unfinal_c, unfinal_mixed};
 ghost use Rattle.checksum.specs.Undoing.{Undoes, Injective};
 
-use crate::mixing::State;
+use crate::mixing::MixState;
 
 // What `sub_xor` did is undone: `x` is exclusive-ored with `y` rotated by `k`, then `y` is added to
 // it.
@@ -25,11 +25,11 @@ fn add_xor(x: u32, y: u32, k: u32) -> u32
 }
 
 // A line of mix for a undone: b is taken from c again, and what c did to a is undone.
-fn unmix_a(s: State, k: u32) -> State
+fn unmix_a(s: MixState, k: u32) -> MixState
     ensures { result ≡ unmix_a k s }
 {
     let c = s.c.wrapping_sub(s.b);
-    State {
+    MixState {
         a: xor_add(s.a, c, k),
         b: s.b,
         c,
@@ -37,11 +37,11 @@ fn unmix_a(s: State, k: u32) -> State
 }
 
 // A line of mix for b undone: likewise c from a, and what a did to b.
-fn unmix_b(s: State, k: u32) -> State
+fn unmix_b(s: MixState, k: u32) -> MixState
     ensures { result ≡ unmix_b k s }
 {
     let a = s.a.wrapping_sub(s.c);
-    State {
+    MixState {
         a,
         b: xor_add(s.b, a, k),
         c: s.c,
@@ -49,11 +49,11 @@ fn unmix_b(s: State, k: u32) -> State
 }
 
 // A line of mix for c undone: likewise a from b, and what b did to c.
-fn unmix_c(s: State, k: u32) -> State
+fn unmix_c(s: MixState, k: u32) -> MixState
     ensures { result ≡ unmix_c k s }
 {
     let b = s.b.wrapping_sub(s.a);
-    State {
+    MixState {
         a: s.a,
         b,
         c: xor_add(s.c, b, k),
@@ -61,7 +61,7 @@ fn unmix_c(s: State, k: u32) -> State
 }
 
 /// The inverse of the mix of three words.
-pub fn unmix(s: State) -> State
+pub fn unmix(s: MixState) -> MixState
     ensures { result ≡ unmixed s }
 {
     let s = unmix_c(s, 4);
@@ -73,37 +73,37 @@ pub fn unmix(s: State) -> State
 }
 
 // A line of final for c undone: what b did to it.
-fn unfinal_c(s: State, k: u32) -> State
+fn unfinal_c(s: MixState, k: u32) -> MixState
     ensures { result ≡ unfinal_c k s }
 {
-    State {
+    MixState {
         c: add_xor(s.c, s.b, k),
         ..s
     }
 }
 
 // A line of final for a undone: likewise what c did.
-fn unfinal_a(s: State, k: u32) -> State
+fn unfinal_a(s: MixState, k: u32) -> MixState
     ensures { result ≡ unfinal_a k s }
 {
-    State {
+    MixState {
         a: add_xor(s.a, s.c, k),
         ..s
     }
 }
 
 // A line of final for b undone: likewise what a did.
-fn unfinal_b(s: State, k: u32) -> State
+fn unfinal_b(s: MixState, k: u32) -> MixState
     ensures { result ≡ unfinal_b k s }
 {
-    State {
+    MixState {
         b: add_xor(s.b, s.a, k),
         ..s
     }
 }
 
 /// The inverse of the final mix of three words.
-pub fn unfinal_mix(s: State) -> State
+pub fn unfinal_mix(s: MixState) -> MixState
     ensures { result ≡ unfinal_mixed s }
 {
     let s = unfinal_c(s, 24);

@@ -7,7 +7,7 @@ ghost use Rattle.checksum.specs.Words.{add32};
 ghost use Rattle.checksum.specs.Lookup3.{grouped, hashlittle};
 ghost use Rattle.checksum.specs.Zeroed.{zeroed};
 
-use crate::mixing::{State, mix};
+use crate::mixing::{MixState, mix};
 use crate::tail::ended;
 use crate::{GROUP_SIZE, add_group, begun};
 use fields::little_endian::read_u32_le;
@@ -43,7 +43,7 @@ fn word_without_field(x: u32, bytes: &[u8], p: usize, place: usize) -> u32
 // The words to which the group at `at`, or the tail there, is yet to be added: likewise. A group
 // that ends before the field or begins behind it leaves them as they are.
 #[tactic(auto, using(crate::proofs::Zeroing::groups_apart))]
-fn without_field(s: State, bytes: &[u8], at: usize, place: usize) -> State
+fn without_field(s: MixState, bytes: &[u8], at: usize, place: usize) -> MixState
     requires here { at ≤ length bytes.now }
     requires room { place + FIELD_SIZE ≤ length bytes.now }
     ensures { grouped bytes.now at result ≡ grouped (zeroed bytes.now place) at s }
@@ -54,7 +54,7 @@ fn without_field(s: State, bytes: &[u8], at: usize, place: usize) -> State
     if place + FIELD_SIZE <= at {
         return s;
     }
-    State {
+    MixState {
         a: word_without_field(s.a, bytes, at, place),
         b: word_without_field(s.b, bytes, at + 4, place),
         c: word_without_field(s.c, bytes, at + 8, place),

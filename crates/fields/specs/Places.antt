@@ -4,5 +4,5 @@ use Rattle.refusals.specs.declared.answer.Answer.{Answer}
 use Rattle.fields.specs.declared.place.Place.{Place}
 
 -- position and length
-abbrev pub place_report : Place → Answer
+abbrev pub place_report : (place : Place) → Answer
 place_report place = answer 0 place.position place.length

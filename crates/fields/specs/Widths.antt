@@ -10,7 +10,7 @@ abbrev pub legal : (width : ℕ) → Bool
 legal width = (width == 2) || ((width == 4) || (width == 8))
 
 -- how many bytes such a width has
-abbrev pub byte_count : Width → ℕ
+abbrev pub byte_count : (width : Width) → ℕ
 byte_count Two = 2
 byte_count Four = 4
 byte_count Eight = 8

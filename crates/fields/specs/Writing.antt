@@ -2,10 +2,10 @@
 use Rattle.std.specs.Prelude.{◌≡◌, ◌+◌, ◌++◌, ℕ, List, length, take, drop}
 use Rattle.fields.specs.declared.stores.writer.Writer.{Writer}
 
-abbrev pub written : Writer → List ℕ
+abbrev pub written : (writer : Writer) → List ℕ
 written writer = take writer.at writer.bytes.now
 
-abbrev pub behind : Writer → List ℕ
+abbrev pub behind : (writer : Writer) → List ℕ
 behind writer = drop writer.at writer.bytes.now
 
 -- so many bytes, these, were put behind those that were written; what stands behind them is as it

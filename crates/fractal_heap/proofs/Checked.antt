@@ -1,11 +1,13 @@
 -- A read by an ID that tests every block: the laws of the walk from the root, once the ID has been taken apart.
-use Rattle.std.proofs.Common.{◌≡◌, refl, sym, ◌∙◌, ℕ, ◌^◌, ◌<◌, List, length}
-use Rattle.std.specs.Prelude.{Result, Ok, Err, IfOk, IsSomeAnd}
-use Rattle.refusals.specs.Steps.{◌>>=◌}
+use Rattle.std.proofs.Common.{◌≡◌, refl, sym, ap, ◌∙◌, ℕ, ◌^◌, ◌<◌, List, length, arith}
+use Rattle.std.specs.Prelude.{◌==◌, Result, Ok, Err, IfOk, IsSomeAnd}
+use Rattle.std.proofs.lemmas.Grind.{common_steps}
+use Rattle.refusals.specs.Steps.{◌>>=◌, required}
 use Rattle.refusals.specs.declared.FormatError.{FormatError}
+use Rattle.refusals.specs.declared.FormatError.TheVariants.{UnsupportedFilteredHeapObject}
 use Rattle.fields.specs.declared.place.Place.{Place}
 use Rattle.ids.specs.declared.decode.ManagedId.{ManagedId}
-use Rattle.reading.specs.Walk.{root_walk}
+use Rattle.reading.specs.Walk.{root_unchecked}
 use Rattle.checked_reading.specs.declared.Checked.{Checked}
 use Rattle.checked_reading.specs.declared.path.BlockSite.{BlockSite}
 use Rattle.checked_reading.specs.Reading.{root_checked}
@@ -14,14 +16,23 @@ use Rattle.checked_reading.specs.Laws.{SameBlocks, object_of, InBlock}
 use Rattle.checked_reading.proofs.Unchecked.{only-refuses}
 use Rattle.checked_reading.proofs.Deciding.{path-decides}
 use Rattle.checked_reading.proofs.Inside.{object-in-block}
-use Rattle.checked_reading.proofs.Stops.{stops-refuse}
+use Rattle.checked_reading.proofs.Stops.{stops-refuse, stopping_undefined, stopping_sizeless}
 use Rattle.fractal_heap.specs.declared.header.FractalHeapHeader.{FractalHeapHeader}
-use Rattle.fractal_heap.specs.Read.{sought_by, heap_of, managed_checked, path_to, stopping_block_by}
+use Rattle.fractal_heap.specs.Read.{id_in, sought_by, tests_of, managed_checked, path_to, stopping_block_by}
 use Rattle.fractal_heap.specs.CheckedLaws.{IsFoundUnchecked, IsInStoppingBlock, DecidedByPath, TellsRefusal}
+
+-- what an ID of a heap with filters, or of one without, comes to
+filtered : (n : ℕ) (x : Result ManagedId FormatError) → 0 < n
+    → (required (n == 0) UnsupportedFilteredHeapObject >>= (λ _. x)) ≡ Err UnsupportedFilteredHeapObject
+filtered n x e = grind (arith, common_steps)
+
+unfiltered : (n : ℕ) (x : Result ManagedId FormatError) → n ≡ 0
+    → (required (n == 0) UnsupportedFilteredHeapObject >>= (λ _. x)) ≡ x
+unfiltered n x e = grind (arith, common_steps)
 
 module _ (h : FractalHeapHeader) (address : ℕ) (s : List ℕ) (w : ℕ) where
   abbrev heap : Checked
-  heap = heap_of h address
+  heap = tests_of h address
 
   abbrev root : ℕ
   root = h.root_block_address
@@ -41,7 +52,7 @@ module _ (h : FractalHeapHeader) (address : ℕ) (s : List ℕ) (w : ℕ) where
 
   object_found : (object : ManagedId) (r : Result Place FormatError) → length s < 2 ^ 64
       → r ≡ answer_in s (Ok object)
-      → IfOk r (λ place. root_walk h.table s root rows object.offset object.length w ≡ Ok place)
+      → IfOk r (λ place. root_unchecked h.table s root rows object.offset object.length w ≡ Ok place)
   object_found object (Ok place) small e =
       only-refuses heap h.table s root rows object.offset object.length w place small (sym e)
   object_found object (Err refused) small e = tt
@@ -63,7 +74,7 @@ module _ (h : FractalHeapHeader) (address : ℕ) (s : List ℕ) (w : ℕ) where
 
   found : (x : Result ManagedId FormatError) (r : Result Place FormatError) → length s < 2 ^ 64 → r ≡ answer_in s x
       → IfOk r (λ place.
-      (x >>= (λ object. root_walk h.table s root rows object.offset object.length w)) ≡ Ok place)
+      (x >>= (λ object. root_unchecked h.table s root rows object.offset object.length w)) ≡ Ok place)
   found (Ok object) r small e = object_found object r small e
   found (Err refused) r small e = rw e tt
 
@@ -87,8 +98,11 @@ module _ (h : FractalHeapHeader) (address : ℕ) (s : List ℕ) (w : ℕ) where
       → ◌≡◌ {A = Result Place FormatError} (Err e) (Err f)
   told e = cc
 
-  refuses : (x : Result ManagedId FormatError) (refused : FormatError)
-      → (x >>= (λ object. stopping_block heap h.table s root rows object.offset w)) ≡ Err refused
+  -- the block at which a read stops for what is sought
+  abbrev stop : (sought : Result ManagedId FormatError) → Result BlockSite FormatError
+  stop sought = sought >>= (λ object. stopping_block heap h.table s root rows object.offset w)
+
+  refuses : (x : Result ManagedId FormatError) (refused : FormatError) → stop x ≡ Err refused
       → answer_in s x ≡ Err refused
   refuses (Ok object) refused e = stops-refuse heap h.table s root rows object.offset object.length w refused e
   refuses (Err f) refused e = told e
@@ -113,7 +127,17 @@ module _ (h : FractalHeapHeader) (address : ℕ) (s : List ℕ) (w : ℕ) where
 
   pub tells_refusal : (id : List ℕ) (r : Result BlockSite FormatError) → r ≡ stopping_block_by h address s id w
       → TellsRefusal h address s id w r
-  tells_refusal id r e = record { told = λ refused f. refuses (sought_by h id) refused (sym e ∙ f) }
+  tells_refusal id r e =
+      let n = h.io_filter_encoded_length in
+      record {
+        told = λ refused f. refuses (sought_by h id) refused (sym e ∙ f);
+        filters = λ f. e ∙ ap stop (filtered n (id_in h id) f);
+        by_id = λ refused f g. e ∙ ap stop (unfiltered n (id_in h id) f ∙ g);
+        undefined_root = λ object f g.
+            e ∙ ap stop f ∙ stopping_undefined heap h.table s root rows object.offset w g;
+        no_offset_size = λ object f g.
+            e ∙ ap stop f ∙ stopping_sizeless heap h.table s root rows object.offset w g;
+      }
 
 -- what holds of a read besides its answer
 pub ruleset of_a_read = (is_found_unchecked, is_in_stopping_block, is_decided)

@@ -19,17 +19,14 @@ use Rattle.fields.specs.LittleEndian.{le, value, le_at}
 use Rattle.fields.specs.Widths.{legal}
 use Rattle.fields.specs.Fields.{len_ensured}
 use Rattle.fields.proofs.LittleEndian.{length-le, value-lt}
-use Rattle.fractal_heap.specs.Header.{fields_at, header_at, header_numbers, with_filters, without_filters}
+use Rattle.fractal_heap.specs.Header.{fields_at, header_at, header_numbers, nothing_read, parsed_numbers}
+use Rattle.fractal_heap.specs.Header.{without_filters}
+use Rattle.fractal_heap.specs.ReadLaws.{FiltersFit}
 use Rattle.fractal_heap.specs.SpellingLaws.{ReadIsSpelled}
 use Rattle.fractal_heap.specs.HeaderReader.{offset_field, length_field}
-use Rattle.fractal_heap.specs.Groups.{front_fields, object_fields, table_fields, root_fields, filters_at, no_filters}
-use Rattle.fractal_heap.specs.declared.header_fields.FilterFields.{FilterFields}
+use Rattle.fractal_heap.specs.Groups.{front_fields, object_fields, table_fields, root_fields, filters_at}
 use Rattle.fractal_heap.specs.Spelling.{spelled, AllFit, field_widths, unsummed, header_spelled}
 use Rattle.fractal_heap.specs.declared.header.FractalHeapHeader.{FractalHeapHeader}
-use Rattle.fractal_heap.specs.declared.header_fields.FrontFields.{FrontFields}
-use Rattle.fractal_heap.specs.declared.header_fields.ObjectFields.{ObjectFields}
-use Rattle.fractal_heap.specs.declared.header_fields.TableFields.{TableFields}
-use Rattle.fractal_heap.specs.declared.header_fields.RootFields.{RootFields}
 use Rattle.fractal_heap.proofs.Holding.{span, Held, length-spelled}
 use Rattle.fractal_heap.proofs.Spelling.{paired}
 
@@ -123,6 +120,12 @@ pub bind_ok : {T U : Type 0} (r : Result T FormatError) (f : T → Result U Form
 bind_ok (Ok x) f y e = (x, refl, e)
 bind_ok (Err d) f y e = absurd cc
 
+-- a step that is taken up, and then goes on
+bind_two : {T U V : Type 0} (r : Result T FormatError) (f : T → Result U FormatError) (g : U → Result V FormatError)
+    (y : V) → (r >>= f >>= g) ≡ Ok y → (x : T) × (r ≡ Ok x) × ((f x >>= g) ≡ Ok y)
+bind_two (Ok x) f g y e = (x, refl, e)
+bind_two (Err d) f g y e = absurd cc
+
 abbrev done : {T : Type 0} (x : T) → Result T FormatError
 done x = Ok x
 
@@ -132,32 +135,6 @@ ok_is x y e = cc
 pub required_ok : (b : Bool) (e : FormatError) (x : Unit {0}) → required b e ≡ Ok x → b ≡ true
 required_ok true e x r = refl
 required_ok false e x r = absurd cc
-
-abbrev front_widths : List ℕ
-front_widths = 2 ∷ 2 ∷ 1 ∷ 4 ∷ []
-
-abbrev front_numbers : (f : FrontFields) → List ℕ
-front_numbers f = f.heap_id_length ∷ f.io_filter_encoded_length ∷ f.flags ∷ f.max_managed_object_size ∷ []
-
-front-gave : (s : List ℕ) (p q : ℕ) (f : FrontFields) → front_fields s p ≡ Ok (f, q)
-    → Gave s p q front_widths (front_numbers f)
-unfolding Held span
-front-gave s p q f e = grind (arith, common_steps)
-
-abbrev object_widths : (os ls : ℕ) → List ℕ
-object_widths os ls = ls ∷ os ∷ ls ∷ os ∷ ls ∷ ls ∷ ls ∷ ls ∷ []
-
-abbrev object_numbers : (o : ObjectFields) → List ℕ
-object_numbers o =
-    o.next_huge_object_id
-    ∷ o.btree_huge_objects_address
-    ∷ o.free_space_managed_blocks
-    ∷ o.managed_block_free_space_manager_address
-    ∷ o.managed_space_in_heap
-    ∷ o.allocated_managed_space_in_heap
-    ∷ o.direct_block_allocation_iterator_offset
-    ∷ o.managed_objects_count
-    ∷ []
 
 -- what a step tells that gave a number: its width is one, it is there, and the next field begins behind it
 record Found (s : List ℕ) (p w x q : ℕ) : Type 0 where
@@ -178,95 +155,105 @@ ensured s p n e = grind (arith, nat_tests, required_ok (nat_le (p + n) (length s
 -- the fields of the group stand where its tests have them
 objects-held : (s : List ℕ) (p a q os ls x n : ℕ) → p + ls ≤ length s → Found s (p + ls) os x a
     → a + (4 * ls + os) ≤ length s → Found s (a + ls + os + ls + ls + ls) ls n q
-    → Gave s p q (object_widths os ls)
+    → Gave s p q (ls ∷ os ∷ ls ∷ os ∷ ls ∷ ls ∷ ls ∷ ls ∷ [])
     (le_at s p ls ∷ x ∷ le_at s a ls ∷ le_at s (a + ls) os ∷ le_at s (a + ls + os) ls ∷ le_at s (a + ls + os + ls) ls
     ∷ le_at s (a + ls + os + ls + ls) ls ∷ n ∷ [])
 unfolding Held span
 objects-held s p a q os ls x n first tree five count = grind arith
 
-objects-gave : (s : List ℕ) (p q os ls : ℕ) (o : ObjectFields) → object_fields s p os ls ≡ Ok (o, q)
-    → Gave s p q (object_widths os ls) (object_numbers o)
-objects-gave s p q os ls o e =
-    let a = bind_ok (len_ensured s p ls) _ (o, q) e in
-    let b = bind_ok (offset_field s (p + ls) os) _ (o, q) a.2 in
-    let c = bind_ok (len_ensured s b.0.1 (4 * ls + os)) _ (o, q) b.2 in
-    let d = bind_ok (length_field s (b.0.1 + ls + os + ls + ls + ls) ls) _ (o, q) c.2 in
+-- the numbers of `count` fields, and their widths, of which `before` stand before them
+abbrev numbers_of : (before count : ℕ) (h : FractalHeapHeader) → List ℕ
+numbers_of before count h = take count (drop before (header_numbers h))
+
+abbrev widths_of : (before count os ls : ℕ) → List ℕ
+widths_of before count os ls = take count (drop before (field_widths os ls))
+
+-- the three that tell of filters
+abbrev filter_numbers : (h : FractalHeapHeader) → List ℕ
+filter_numbers h = drop 23 (parsed_numbers h)
+
+-- a group that is read behind `before` fields: they stay, its own are read, no others stand before their end
+record Group (before count : ℕ) (s : List ℕ) (p q os ls : ℕ) (h g : FractalHeapHeader) : Type 0 where
+  kept : numbers_of 0 before g ≡ numbers_of 0 before h
+  filters : filter_numbers g ≡ filter_numbers h
+  gave : Gave s p q (widths_of before count os ls) (numbers_of before count g)
+
+front-group : (s : List ℕ) (p q os ls : ℕ) (h g : FractalHeapHeader) → front_fields h s p ≡ Ok (g, q)
+    → Group 0 4 s p q os ls h g
+unfolding Held span
+front-group s p q os ls h g e = grind (arith, common_steps)
+
+objects-group : (s : List ℕ) (p q os ls : ℕ) (h g : FractalHeapHeader) → object_fields h s p os ls ≡ Ok (g, q)
+    → Group 4 8 s p q os ls h g
+objects-group s p q os ls h g e =
+    let a = bind_ok (len_ensured s p ls) _ (g, q) e in
+    let b = bind_two (offset_field s (p + ls) os) _ _ (g, q) a.2 in
+    let c = bind_ok (len_ensured s b.0.1 (4 * ls + os)) _ (g, q) b.2 in
+    let d = bind_ok (length_field s (b.0.1 + ls + os + ls + ls + ls) ls) _ (g, q) c.2 in
     let tree = offset-found s (p + ls) os b.0.0 b.0.1 b.1 in
     let count = length-found s (b.0.1 + ls + os + ls + ls + ls) ls d.0.0 d.0.1 d.1 in
     let five = ensured s b.0.1 (4 * ls + os) c.1 in
-    subst (λ (y : ObjectFields × ℕ). Gave s p y.1 (object_widths os ls) (object_numbers y.0)) (ok_is _ (o, q) d.2)
-    (objects-held s p b.0.1 d.0.1 os ls b.0.0 d.0.0 (ensured s p ls a.1) tree five count)
+    subst (λ (y : FractalHeapHeader × ℕ). Group 4 8 s p y.1 os ls h y.0) (ok_is _ (g, q) d.2)
+    (record {
+      kept = refl;
+      filters = refl;
+      gave = objects-held s p b.0.1 d.0.1 os ls b.0.0 d.0.0 (ensured s p ls a.1) tree five count;
+    })
 
 -- a group that was read has widths that are such
-object-widths : (s : List ℕ) (p q os ls : ℕ) (o : ObjectFields) → object_fields s p os ls ≡ Ok (o, q)
+object-widths : (s : List ℕ) (p q os ls : ℕ) (h g : FractalHeapHeader) → object_fields h s p os ls ≡ Ok (g, q)
     → (legal os ≡ true) × (legal ls ≡ true)
-object-widths s p q os ls o e =
-    let a = bind_ok (len_ensured s p ls) _ (o, q) e in
-    let b = bind_ok (offset_field s (p + ls) os) _ (o, q) a.2 in
-    let c = bind_ok (len_ensured s b.0.1 (4 * ls + os)) _ (o, q) b.2 in
-    let d = bind_ok (length_field s (b.0.1 + ls + os + ls + ls + ls) ls) _ (o, q) c.2 in (
+object-widths s p q os ls h g e =
+    let a = bind_ok (len_ensured s p ls) _ (g, q) e in
+    let b = bind_two (offset_field s (p + ls) os) _ _ (g, q) a.2 in
+    let c = bind_ok (len_ensured s b.0.1 (4 * ls + os)) _ (g, q) b.2 in
+    let d = bind_ok (length_field s (b.0.1 + ls + os + ls + ls + ls) ls) _ (g, q) c.2 in (
       (offset-found s (p + ls) os b.0.0 b.0.1 b.1).width,
       (length-found s (b.0.1 + ls + os + ls + ls + ls) ls d.0.0 d.0.1 d.1).width,
     )
 
-abbrev table_widths : (ls : ℕ) → List ℕ
-table_widths ls = ls ∷ ls ∷ ls ∷ ls ∷ 2 ∷ ls ∷ ls ∷ 2 ∷ []
-
-abbrev table_numbers : (t : TableFields) → List ℕ
-table_numbers t =
-    t.huge_objects_size
-    ∷ t.huge_objects_count
-    ∷ t.tiny_objects_size
-    ∷ t.tiny_objects_count
-    ∷ t.table.table_width
-    ∷ t.table.starting_block_size
-    ∷ t.table.max_direct_block_size
-    ∷ t.table.max_heap_size
-    ∷ []
-
-table-gave : (s : List ℕ) (p q ls : ℕ) (t : TableFields) → table_fields s p ls ≡ Ok (t, q)
-    → Gave s p q (table_widths ls) (table_numbers t)
+table-group : (s : List ℕ) (p q os ls : ℕ) (h g : FractalHeapHeader) → table_fields h s p ls ≡ Ok (g, q)
+    → Group 12 8 s p q os ls h g
 unfolding Held span
-table-gave s p q ls t e = grind (arith, common_steps)
+table-group s p q os ls h g e = grind (arith, common_steps)
 
-abbrev root_widths : (os : ℕ) → List ℕ
-root_widths os = 2 ∷ os ∷ 2 ∷ []
-
-abbrev root_numbers : (r : RootFields) → List ℕ
-root_numbers r = r.start_root_rows ∷ r.root_block_address ∷ r.current_rows_in_root_indirect_block ∷ []
-
-root-gave : (s : List ℕ) (p q os : ℕ) (r : RootFields) → root_fields s p os ≡ Ok (r, q)
-    → Gave s p q (root_widths os) (root_numbers r)
+root-group : (s : List ℕ) (p q os ls : ℕ) (h g : FractalHeapHeader) → root_fields h s p os ≡ Ok (g, q)
+    → Group 20 3 s p q os ls h g
 unfolding Held span
-root-gave s p q os r e = grind (arith, common_steps)
+root-group s p q os ls h g e = grind (arith, common_steps)
 
-fields-gave : (s : List ℕ) (p q os ls : ℕ) (h : FractalHeapHeader) → fields_at s p os ls ≡ Ok (h, q)
-    → Gave s p q (field_widths os ls) (header_numbers h)
-fields-gave s p q os ls h e =
-    let a = bind_ok (front_fields s p) _ (h, q) e in
-    let b = bind_ok (object_fields s a.0.1 os ls) _ (h, q) a.2 in
-    let c = bind_ok (table_fields s b.0.1 ls) _ (h, q) b.2 in
-    let d = bind_ok (root_fields s c.0.1 os) _ (h, q) c.2 in
-    let f = a.0.0 in
-    let o = b.0.0 in
-    let t = c.0.0 in
-    let r = d.0.0 in
-    let gr = root-gave s c.0.1 d.0.1 os r d.1 in
-    let widths_behind_objects = table_widths ls ++ root_widths os in
-    let behind_objects = table_numbers t ++ root_numbers r in
-    let widths_behind_front = object_widths os ls ++ widths_behind_objects in
-    let behind_front = object_numbers o ++ behind_objects in
-    let gt =
-    gave-append s b.0.1 c.0.1 d.0.1 (table_widths ls) (table_numbers t) (root_widths os) (root_numbers r)
-    (table-gave s b.0.1 c.0.1 ls t c.1) gr in
-    let go =
-    gave-append s a.0.1 b.0.1 d.0.1 (object_widths os ls) (object_numbers o) widths_behind_objects behind_objects
-    (objects-gave s a.0.1 b.0.1 os ls o b.1) gt in
-    let gf =
-    gave-append s p a.0.1 d.0.1 front_widths (front_numbers f) widths_behind_front behind_front
-    (front-gave s p a.0.1 f a.1) go in
-    subst (λ (y : FractalHeapHeader × ℕ). Gave s p y.1 (field_widths os ls) (header_numbers y.0)) (ok_is _ (h, q) d.2)
-    gf
+-- the fields of every header, all of which stand there, and nothing is read of filters
+record Fields (s : List ℕ) (p q os ls : ℕ) (g : FractalHeapHeader) : Type 0 where
+  gave : Gave s p q (field_widths os ls) (header_numbers g)
+  filters : filter_numbers g ≡ 0 ∷ 0 ∷ 0 ∷ []
+
+-- the fields before a group stand there still
+still : (before count : ℕ) (s : List ℕ) (p m q os ls : ℕ) (h g : FractalHeapHeader) → Group before count s m q os ls h g
+    → Gave s p m (widths_of 0 before os ls) (numbers_of 0 before h)
+    → Gave s p q (widths_of 0 before os ls ++ widths_of before count os ls)
+    (numbers_of 0 before g ++ numbers_of before count g)
+still before count s p m q os ls h g group gave =
+    gave-append s p m q (widths_of 0 before os ls) (numbers_of 0 before g) (widths_of before count os ls)
+    (numbers_of before count g)
+    (subst (λ (ns : List ℕ). Gave s p m (widths_of 0 before os ls) ns) (sym group.kept) gave) group.gave
+
+fields-gave : (s : List ℕ) (p q os ls : ℕ) (g : FractalHeapHeader) → fields_at s p os ls ≡ Ok (g, q)
+    → Fields s p q os ls g
+fields-gave s p q os ls g e =
+    let a = bind_ok (front_fields nothing_read s p) _ (g, q) e in
+    let b = bind_ok (object_fields a.0.0 s a.0.1 os ls) _ (g, q) a.2 in
+    let c = bind_ok (table_fields b.0.0 s b.0.1 ls) _ (g, q) b.2 in
+    let front = front-group s p a.0.1 os ls nothing_read a.0.0 a.1 in
+    let objects = objects-group s a.0.1 b.0.1 os ls a.0.0 b.0.0 b.1 in
+    let table = table-group s b.0.1 c.0.1 os ls b.0.0 c.0.0 c.1 in
+    let root = root-group s c.0.1 q os ls c.0.0 g c.2 in
+    record {
+      gave =
+          still 20 3 s p c.0.1 q os ls c.0.0 g root
+          (still 12 8 s p b.0.1 c.0.1 os ls b.0.0 c.0.0 table
+          (still 4 8 s p a.0.1 b.0.1 os ls a.0.0 b.0.0 objects front.gave));
+      filters = root.filters ∙ table.filters ∙ objects.filters ∙ front.filters;
+    }
 
 -- ---- the whole header
 
@@ -352,29 +339,27 @@ module _ (h : FractalHeapHeader) (s : List ℕ) (p os ls : ℕ) (bytes : IsBytes
 
 -- ---- the filters
 
--- where there are none, nothing stands for them
-none-at : (s : List ℕ) (p f ls : ℕ) (filters : FilterFields) (q : ℕ) → f ≡ 0 → filters_at s p f ls ≡ Ok (filters, q)
-    → (filters ≡ no_filters) × (q ≡ p)
-none-at s p f ls filters q none e = grind (arith, nat_tests, common_steps)
+-- where there are none, nothing is read of them
+none-at : (h : FractalHeapHeader) (s : List ℕ) (p ls : ℕ) (g : FractalHeapHeader) (q : ℕ)
+    → g.io_filter_encoded_length ≡ 0 → filters_at h s p ls ≡ Ok (g, q) → (h ≡ g) × (p ≡ q)
+none-at h s p ls g q none e = grind (arith, nat_tests, common_steps)
 
 -- what a header is read from: its start, its fields, its filters, its sum
-pub record Parts (h : FractalHeapHeader) (s : List ℕ) (p os ls : ℕ) : Type 0 where
-  pub next : ℕ
-  pub start : start_checked s p ≡ Ok next
-  pub plain : FractalHeapHeader
-  pub end : ℕ
-  pub fields : fields_at s next os ls ≡ Ok (plain, end)
-  pub filters : FilterFields
-  pub place : ℕ
-  pub filtered : filters_at s end plain.io_filter_encoded_length ls ≡ Ok (filters, place)
-  pub sum : sum_checked s p place ≡ Ok tt
-  pub whole : with_filters plain filters ≡ h
+record Parts (h : FractalHeapHeader) (s : List ℕ) (p os ls : ℕ) : Type 0 where
+  next : ℕ
+  start : start_checked s p ≡ Ok next
+  plain : FractalHeapHeader
+  end : ℕ
+  fields : fields_at s next os ls ≡ Ok (plain, end)
+  place : ℕ
+  filtered : filters_at plain s end ls ≡ Ok (h, place)
+  sum : sum_checked s p place ≡ Ok tt
 
-pub parts : (h : FractalHeapHeader) (s : List ℕ) (p os ls : ℕ) → header_at s p os ls ≡ Ok h → Parts h s p os ls
+parts : (h : FractalHeapHeader) (s : List ℕ) (p os ls : ℕ) → header_at s p os ls ≡ Ok h → Parts h s p os ls
 parts h s p os ls e =
     let a = bind_ok (start_checked s p) _ h e in
     let b = bind_ok (fields_at s a.0 os ls) _ h a.2 in
-    let c = bind_ok (filters_at s b.0.1 b.0.0.io_filter_encoded_length ls) _ h b.2 in
+    let c = bind_ok (filters_at b.0.0 s b.0.1 ls) _ h b.2 in
     let d = bind_ok (sum_checked s p c.0.1) _ h c.2 in
     record {
       next = a.0;
@@ -382,53 +367,76 @@ parts h s p os ls e =
       plain = b.0.0;
       end = b.0.1;
       fields = b.1;
-      filters = c.0.0;
       place = c.0.1;
-      filtered = c.1;
+      filtered = subst (λ (y : FractalHeapHeader). filters_at b.0.0 s b.0.1 ls ≡ Ok (y, c.0.1)) (ok_is c.0.0 h d.2) c.1;
       sum = d.1;
-      whole = ok_is (with_filters b.0.0 c.0.0) h d.2;
     }
 
--- the fields that are read first have the three at 0
-fields-plain : (s : List ℕ) (p os ls : ℕ) (h : FractalHeapHeader) (q : ℕ) → fields_at s p os ls ≡ Ok (h, q)
-    → without_filters h ≡ h
-fields-plain s p os ls h q e =
-    let a = bind_ok (front_fields s p) _ (h, q) e in
-    let b = bind_ok (object_fields s a.0.1 os ls) _ (h, q) a.2 in
-    let c = bind_ok (table_fields s b.0.1 ls) _ (h, q) b.2 in
-    let d = bind_ok (root_fields s c.0.1 os) _ (h, q) c.2 in
-    subst (λ (y : FractalHeapHeader × ℕ). without_filters y.0 ≡ y.0) (ok_is _ (h, q) d.2) refl
+-- a header without filters: its fields are all that is read
+record Plain (h : FractalHeapHeader) (s : List ℕ) (p os ls : ℕ) : Type 0 where
+  next : ℕ
+  end : ℕ
+  start : start_checked s p ≡ Ok next
+  fields : fields_at s next os ls ≡ Ok (h, end)
+  sum : sum_checked s p end ≡ Ok tt
+
+plain-parts : (h : FractalHeapHeader) (s : List ℕ) (p os ls : ℕ) → header_at s p os ls ≡ Ok h
+    → h.io_filter_encoded_length ≡ 0 → Plain h s p os ls
+plain-parts h s p os ls e none =
+    let P = parts h s p os ls e in
+    let same = none-at P.plain s P.end ls h P.place none P.filtered in
+    record {
+      next = P.next;
+      end = P.end;
+      start = P.start;
+      fields = subst (λ (y : FractalHeapHeader). fields_at s P.next os ls ≡ Ok (y, P.end)) same.0 P.fields;
+      sum = subst (λ (q : ℕ). sum_checked s p q ≡ Ok tt) (sym same.1) P.sum;
+    }
+
+-- with the three at 0 it is itself
+three-none : (h : FractalHeapHeader) → filter_numbers h ≡ 0 ∷ 0 ∷ 0 ∷ [] → without_filters h ≡ h
+three-none h e = grind arith
 
 -- a header without filters that is read has the three at 0
-pub read-plain : (h : FractalHeapHeader) (s : List ℕ) (p os ls : ℕ) → header_at s p os ls ≡ Ok h
+pub read_plain : (h : FractalHeapHeader) (s : List ℕ) (p os ls : ℕ) → header_at s p os ls ≡ Ok h
     → h.io_filter_encoded_length ≡ 0 → without_filters h ≡ h
-read-plain h s p os ls e none =
+read_plain h s p os ls e none =
+    let P = plain-parts h s p os ls e none in
+    three-none h (fields-gave s P.next P.end os ls h P.fields).filters
+
+-- where a header has filters, their information begins behind the filtered root's size and the mask
+information-at : (h : FractalHeapHeader) (s : List ℕ) (p ls : ℕ) (g : FractalHeapHeader) (q : ℕ)
+    → 0 < g.io_filter_encoded_length → filters_at h s p ls ≡ Ok (g, q)
+    → g.io_filter_information_position ≡ p + ls + 4
+information-at h s p ls g q some e = grind (arith, nat_tests, common_steps)
+
+pub filters_fit : (h : FractalHeapHeader) (s : List ℕ) (p os ls : ℕ) → header_at s p os ls ≡ Ok h → FiltersFit p os ls h
+unfolding span
+filters_fit h s p os ls e =
     let P = parts h s p os ls e in
-    let no_filter : P.plain.io_filter_encoded_length ≡ 0 =
-    ap (λ (y : FractalHeapHeader). y.io_filter_encoded_length) P.whole ∙ none in
-    let f = none-at s P.end P.plain.io_filter_encoded_length ls P.filters P.place no_filter P.filtered in
-    let is : without_filters P.plain ≡ h = ap (with_filters P.plain) (sym f.0) ∙ P.whole in
-    subst (λ (y : FractalHeapHeader). without_filters y ≡ y) is refl
+    let start = start-gave s p P.next P.start in
+    let fields = fields-gave s P.next P.end os ls P.plain P.fields in
+    record {
+      unfiltered = read_plain h s p os ls e;
+      filtered = λ some.
+          let at = information-at P.plain s P.end ls h P.place some P.filtered in
+          omega (arith, at, start.first, fields.gave.end);
+    }
 
 pub read-spelled : ReadIsSpelled
 read-spelled h s p os ls bytes plain e =
-    let P = parts h s p os ls e in
+    let P = plain-parts h s p os ls e plain in
     let start = start-gave s p P.next P.start in
-    let no_filter : P.plain.io_filter_encoded_length ≡ 0 =
-    ap (λ (y : FractalHeapHeader). y.io_filter_encoded_length) P.whole ∙ plain in
-    let f = none-at s P.end P.plain.io_filter_encoded_length ls P.filters P.place no_filter P.filtered in
     let gave : Gave s (p + 5) P.end (field_widths os ls) (header_numbers h) =
     subst (λ (x : ℕ). Gave s x P.end (field_widths os ls) (header_numbers h)) start.first
-    (subst (λ (y : FractalHeapHeader). Gave s P.next P.end (field_widths os ls) (header_numbers y)) P.whole
-    (fields-gave s P.next P.end os ls P.plain P.fields)) in
-    let right : sum_checked s p P.end ≡ Ok tt = ap (sum_checked s p) (sym f.1) ∙ P.sum in
+    (fields-gave s P.next P.end os ls h P.fields).gave in
     let begun : Started s p (p + 5) = record { first = refl; room = start.room; front = start.front } in
-    spelled-here h s p os ls bytes plain P.end begun gave right
+    spelled-here h s p os ls bytes plain P.end begun gave P.sum
 
 pub read-widths : (h : FractalHeapHeader) (s : List ℕ) (p os ls : ℕ) → header_at s p os ls ≡ Ok h
     → (legal os ≡ true) × (legal ls ≡ true)
 read-widths h s p os ls e =
     let P = parts h s p os ls e in
-    let c = bind_ok (front_fields s P.next) _ (P.plain, P.end) P.fields in
-    let d = bind_ok (object_fields s c.0.1 os ls) _ (P.plain, P.end) c.2 in
-    object-widths s c.0.1 d.0.1 os ls d.0.0 d.1
+    let c = bind_ok (front_fields nothing_read s P.next) _ (P.plain, P.end) P.fields in
+    let d = bind_ok (object_fields c.0.0 s c.0.1 os ls) _ (P.plain, P.end) c.2 in
+    object-widths s c.0.1 d.0.1 os ls c.0.0 d.0.0 d.1

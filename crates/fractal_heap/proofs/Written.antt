@@ -1,14 +1,14 @@
 -- What an accepted header fulfils, and what is accepted.
 use Rattle.std.proofs.Common.{◌≡◌, refl, sym, ap, ◌∙◌, take_at, append_assoc, length, length-append, take, drop}
-use Rattle.std.proofs.Common.{drop-drop, ◌++◌, ℕ, ◌+◌, ◌*◌, ◌^◌, ◌≤◌, List, [], ◌∷◌, true, arith}
+use Rattle.std.proofs.Common.{drop-drop, ◌++◌, ℕ, zero, suc, ◌+◌, ◌≤◌, List, [], ◌∷◌, true, arith}
 use Rattle.std.proofs.lemmas.Bool.Decides.{nat_tests}
 use Rattle.std.proofs.lemmas.Grind.{common_steps}
 use Rattle.std.proofs.lemmas.List.{append-nil}
-use Rattle.std.specs.Prelude.{slice_index, nat_lt, nat_le, ◌==◌, Result, Ok, Err, OnOk}
+use Rattle.std.specs.Prelude.{slice_index, nat_le, ◌==◌, Result, Ok, Err, OnOk}
 use Rattle.refusals.specs.Steps.{◌>>=◌, required}
 use Rattle.refusals.specs.declared.FormatError.{FormatError}
 use Rattle.refusals.specs.declared.FormatError.TheVariants.{InvalidOffsetSize, InvalidLengthSize}
-use Rattle.refusals.specs.declared.FormatError.TheVariants.{UnsupportedFilteredHeapObject, HeaderFieldTooLarge}
+use Rattle.refusals.specs.declared.FormatError.TheVariants.{UnsupportedFilteredHeapObject}
 use Rattle.fields.specs.Widths.{legal}
 use Rattle.fields.specs.Writing.{Puts, written, behind}
 use Rattle.fields.specs.declared.stores.writer.Writer.{Writer}
@@ -17,13 +17,14 @@ use Rattle.checksum.specs.Lookup3.{hashlittle}
 use Rattle.fields.specs.LittleEndian.{le, put}
 use Rattle.fields.proofs.LittleEndian.{length-le, put_front}
 use Rattle.fractal_heap.specs.Spelling.{AllFit, spelled, field_widths, unsummed, header_spelled}
-use Rattle.fractal_heap.specs.Writing.{header_length, widths_checked, header_checked, header_written, ReadsBack}
+use Rattle.fractal_heap.specs.Writing.{header_length, field_checked, widths_checked, header_checked, header_written}
+use Rattle.fractal_heap.specs.Writing.{four_from, four_size, ReadsBack}
 use Rattle.fractal_heap.specs.Writing.{ParsedReadsBack, WrittenBack}
 use Rattle.fractal_heap.specs.declared.write.WrittenHeader.{WrittenHeader}
 use Rattle.fractal_heap.specs.declared.header.FractalHeapHeader.{FractalHeapHeader}
 use Rattle.fractal_heap.proofs.Holding.{span, length-spelled}
 use Rattle.fractal_heap.proofs.Spelling.{paired, spelled-read}
-use Rattle.fractal_heap.proofs.Reading.{bind_ok, required_ok, read-plain, read-spelled, read-widths}
+use Rattle.fractal_heap.proofs.Reading.{bind_ok, required_ok, read_plain, read-spelled, read-widths}
 
 pub widths_fit : (place : ℕ) (ws ns : List ℕ) → widths_checked place ws ns ≡ Ok tt → AllFit ws ns
 unfolding widths_checked AllFit
@@ -37,31 +38,36 @@ fit_widths place [] ns f = refl
 fit_widths place (w ∷ ws) [] f = refl
 fit_widths place (w ∷ ws) (n ∷ ns) f = grind (arith, nat_tests, fit_widths (place + 1) ws ns f.1)
 
--- four tests, and those of the fields behind them
-widths_checked-four : (place a b c d x y z v : ℕ) (ws ns : List ℕ)
-    → widths_checked place (a ∷ b ∷ c ∷ d ∷ ws) (x ∷ y ∷ z ∷ v ∷ ns)
-    ≡ (widths_checked place (a ∷ b ∷ c ∷ d ∷ []) (x ∷ y ∷ z ∷ v ∷ []) >>= λ _. widths_checked (place + 4) ws ns)
+-- with no numbers left there is nothing to test
+none_left : (place : ℕ) (ws : List ℕ) → widths_checked place ws [] ≡ Ok tt
 unfolding widths_checked
-widths_checked-four place a b c d x y z v ws ns = grind (arith, common_steps)
+none_left place [] = refl
+none_left place (w ∷ ws) = refl
+
+-- some tests, and those of the fields behind them
+tested_behind : (k place : ℕ) (ws ns : List ℕ)
+    → widths_checked place ws ns
+    ≡ (widths_checked place (take k ws) (take k ns) >>= λ _. widths_checked (place + k) (drop k ws) (drop k ns))
+unfolding widths_checked
+tested_behind zero place ws ns = ap (λ (q : ℕ). widths_checked q ws ns) (omega arith)
+tested_behind (suc k) place [] ns = refl
+tested_behind (suc k) place (w ∷ ws) [] = sym (none_left (place + suc k) (drop k ws))
+tested_behind (suc k) place (w ∷ ws) (n ∷ ns) =
+    let next : place + suc k ≡ place + 1 + k = omega arith in
+    rw next (grind (arith, common_steps, tested_behind k (place + 1) ws ns))
 
 -- the test of the field at a place, and of the four from there on
 abbrev pub one : (ns ws : List ℕ) (place : ℕ) → Result (Unit {0}) FormatError
-one ns ws place =
-    required (nat_lt (slice_index ns place) (2 ^ (8 * slice_index ws place)))
-    (HeaderFieldTooLarge place (slice_index ns place))
+one ns ws place = field_checked place (slice_index ws place) (slice_index ns place)
 
 abbrev pub four : (ns ws : List ℕ) (place : ℕ) → Result (Unit {0}) FormatError
-four ns ws place =
-    widths_checked place
-    (slice_index ws place ∷ slice_index ws (place + 1) ∷ slice_index ws (place + 2) ∷ slice_index ws (place + 3) ∷ [])
-    (slice_index ns place ∷ slice_index ns (place + 1) ∷ slice_index ns (place + 2) ∷ slice_index ns (place + 3) ∷ [])
+four ns ws place = widths_checked place (four_from place ws) (four_from place ns)
 
 -- the fields behind four are tested so
-behind_four : (place a b c d x y z v : ℕ) (ws ns : List ℕ) (r : Result (Unit {0}) FormatError)
-    → widths_checked (place + 4) ws ns ≡ r
-    → widths_checked place (a ∷ b ∷ c ∷ d ∷ ws) (x ∷ y ∷ z ∷ v ∷ ns)
-    ≡ (widths_checked place (a ∷ b ∷ c ∷ d ∷ []) (x ∷ y ∷ z ∷ v ∷ []) >>= λ _. r)
-behind_four place a b c d x y z v ws ns r e = rw (← e) (widths_checked-four place a b c d x y z v ws ns)
+behind_four : (place : ℕ) (ws ns : List ℕ) {r : Result (Unit {0}) FormatError}
+    → widths_checked (place + 4) (drop 4 ws) (drop 4 ns) ≡ r
+    → widths_checked place ws ns ≡ (widths_checked place (take 4 ws) (take 4 ns) >>= λ _. r)
+behind_four place ws ns e = rw (← e) (tested_behind 4 place ws ns)
 
 three : (os ls : ℕ) (ns : List ℕ)
     → widths_checked 20 (2 ∷ os ∷ 2 ∷ []) (slice_index ns 20 ∷ slice_index ns 21 ∷ slice_index ns 22 ∷ [])
@@ -74,11 +80,13 @@ pub by_fours : (os ls : ℕ) (ns ws : List ℕ) → ws ≡ field_widths os ls
     ≡ (four ns ws 0 >>= λ _. four ns ws 4 >>= λ _. four ns ws 8 >>= λ _. four ns ws 12 >>= λ _. four ns ws 16 >>= λ _.
     one ns ws 20 >>= λ _. one ns ws 21 >>= λ _. one ns ws 22)
 by_fours os ls ns ws e =
-    rw e (behind_four 0 _ _ _ _ _ _ _ _ _ _ _
-    (behind_four 4 _ _ _ _ _ _ _ _ _ _ _
-    (behind_four 8 _ _ _ _ _ _ _ _ _ _ _
-    (behind_four 12 _ _ _ _ _ _ _ _ _ _ _
-    (behind_four 16 _ _ _ _ _ _ _ _ _ _ _
+    let W = field_widths os ls in
+    let N = header_numbers (header_of ns) in
+    rw e (behind_four 0 W N
+    (behind_four 4 (drop 4 W) (drop 4 N)
+    (behind_four 8 (drop 8 W) (drop 8 N)
+    (behind_four 12 (drop 12 W) (drop 12 N)
+    (behind_four 16 (drop 16 W) (drop 16 N)
     (three os ls ns))))))
 
 -- what an accepted header fulfils
@@ -115,9 +123,9 @@ acceptable h os ls lent a =
 -- ---- steps of a writer
 
 -- two steps are one
-pub puts-append : (a b c : Writer) (n m : ℕ) (xs ys : List ℕ) → Puts a b n xs → Puts b c m ys
+pub puts-append : {a b c : Writer} {n m : ℕ} {xs ys : List ℕ} → Puts a b n xs → Puts b c m ys
     → Puts a c (n + m) (xs ++ ys)
-puts-append a b c n m xs ys p q =
+puts-append {a} {b} {c} {n} {m} {xs} {ys} p q =
     record {
       same_reference = q.same_reference ∙ p.same_reference;
       at = omega (arith, p.at, q.at);
@@ -127,18 +135,11 @@ puts-append a b c n m xs ys p q =
     }
 
 -- so many bytes, and these, by other words
-pub puts-as : (a b : Writer) (n m : ℕ) (xs ys : List ℕ) → Puts a b n xs → n ≡ m → xs ≡ ys → Puts a b m ys
-puts-as a b n m xs ys p e f = rw (← e, ← f) p
-
-abbrev pub width_of_four : (ws : List ℕ) (place : ℕ) → ℕ
-width_of_four ws place =
-    slice_index ws place + slice_index ws (place + 1) + slice_index ws (place + 2) + slice_index ws (place + 3)
+pub puts-as : {a b : Writer} {n m : ℕ} {xs ys : List ℕ} → Puts a b n xs → n ≡ m → xs ≡ ys → Puts a b m ys
+puts-as p e f = rw (← e, ← f) p
 
 abbrev pub spelled_four : (ns ws : List ℕ) (place : ℕ) → List ℕ
-spelled_four ns ws place =
-    spelled
-    (slice_index ws place ∷ slice_index ws (place + 1) ∷ slice_index ws (place + 2) ∷ slice_index ws (place + 3) ∷ [])
-    (slice_index ns place ∷ slice_index ns (place + 1) ∷ slice_index ns (place + 2) ∷ slice_index ns (place + 3) ∷ [])
+spelled_four ns ws place = spelled (four_from place ws) (four_from place ns)
 
 abbrev pub spelled_one : (ns ws : List ℕ) (place : ℕ) → List ℕ
 spelled_one ns ws place = le (slice_index ws place) (slice_index ns place)
@@ -151,7 +152,7 @@ unfolding spelled
 spelled_by_fours os ls ns ws e = rw e (simp (append_assoc, append-nil))
 
 pub width_by_fours : (os ls : ℕ) (ws : List ℕ) → ws ≡ field_widths os ls
-    → width_of_four ws 0 + (width_of_four ws 4 + (width_of_four ws 8 + (width_of_four ws 12 + (width_of_four ws 16
+    → four_size 0 ws + (four_size 4 ws + (four_size 8 ws + (four_size 12 ws + (four_size 16 ws
     + (slice_index ws 20 + (slice_index ws 21 + slice_index ws 22))))))
     ≡ fields_size os ls
 width_by_fours os ls ws e = rw e (omega arith)
@@ -196,13 +197,13 @@ parsed_is_read_back h os ls lent r e =
     written_then h os ls lent r (ParsedReadsBack h os ls)
     (λ a file pos o l parsed s p rest there.
     spelled-read h s p os ls rest a.offsets a.lengths a.plain a.fits there
-    ∙ ap Ok (read-plain h file pos o l parsed a.plain)) e
+    ∙ ap Ok (read_plain h file pos o l parsed a.plain)) e
 
 -- what holds of a header without what it has of filters: it is written back itself where it is read
 pub filters_unread : (h : FractalHeapHeader) (os ls : ℕ) (r : Result WrittenHeader FormatError) (new : List ℕ)
     → WrittenBack (without_filters h) os ls r new → WrittenBack h os ls r new
 filters_unread h os ls r new back = λ file pos bytes parsed plain room.
-    back file pos bytes (parsed ∙ ap Ok (sym (read-plain h file pos os ls parsed plain))) plain room
+    back file pos bytes (parsed ∙ ap Ok (sym (read_plain h file pos os ls parsed plain))) plain room
 
 pub is_written_back : (h : FractalHeapHeader) (os ls : ℕ) (old new : List ℕ) (r : Result WrittenHeader FormatError)
     → r ≡ header_written h os ls (length old) → length new ≡ length old

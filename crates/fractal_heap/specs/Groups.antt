@@ -1,139 +1,110 @@
 -- The fields of the header in a file, in five groups and in header order. HDF5 File Format
--- Specification 3.0, III.G, 'Fractal Heap Header'. Each group begins at `pos`, gives its fields and
--- where the next group begins, and makes the original's tests in the original's order; the last
--- one, which the original reads otherwise, makes one. Beside each group is how many bytes it has.
+-- Specification 3.0, III.G, 'Fractal Heap Header'. Each group begins at `pos`, gives the header
+-- that it was given with its own fields in it, and where the next group begins, and makes the
+-- original's tests in the original's order; the last one, which the original reads otherwise,
+-- makes one. Beside each group is how many bytes it has.
 use Rattle.std.specs.Prelude.{ℕ, ◌+◌, ◌*◌, ◌==◌, if◌then◌else◌, List, Ok}
 use Rattle.refusals.specs.Steps.{◌>>=◌}
 use Rattle.fields.specs.Fields.{len_ensured}
-use Rattle.fractal_heap.specs.HeaderReader.{Step, plain_field, offset_field, length_field}
+use Rattle.fractal_heap.specs.HeaderReader.{Step, ◌into◌, plain_field, offset_field, length_field}
 use Rattle.fractal_heap.specs.HeaderReader.{untested_field}
-use Rattle.fractal_heap.specs.declared.header_fields.FrontFields.{FrontFields}
-use Rattle.fractal_heap.specs.declared.header_fields.ObjectFields.{ObjectFields}
-use Rattle.fractal_heap.specs.declared.header_fields.TableFields.{TableFields}
-use Rattle.fractal_heap.specs.declared.header_fields.RootFields.{RootFields}
-use Rattle.fractal_heap.specs.declared.header_fields.FilterFields.{FilterFields}
+use Rattle.fractal_heap.specs.declared.header.FractalHeapHeader.{FractalHeapHeader}
 
 -- what stands before the fields whose sizes the file chooses
-abbrev pub front_fields : (file : List ℕ) (pos : ℕ) → Step FrontFields
-front_fields file pos = do
+abbrev pub front_fields : (header : FractalHeapHeader) (file : List ℕ) (pos : ℕ)
+    → Step FractalHeapHeader
+front_fields header file pos = do
   -- Heap ID Length
-  (heap_id_length, pos) ← plain_field file pos 2
+  (header, pos) ← plain_field file pos 2 into (λ n. record header { heap_id_length = n })
   -- I/O Filters' Encoded Length
-  (io_filter_encoded_length, pos) ← plain_field file pos 2
+  (header, pos) ← plain_field file pos 2 into (λ n. record header { io_filter_encoded_length = n })
   -- Flags
-  (flags, pos) ← plain_field file pos 1
+  (header, pos) ← plain_field file pos 1 into (λ n. record header { flags = n })
   -- Maximum Size of Managed Objects
-  (max_managed_object_size, pos) ← plain_field file pos 4
-  Ok (
-    record {
-      heap_id_length = heap_id_length;
-      io_filter_encoded_length = io_filter_encoded_length;
-      flags = flags;
-      max_managed_object_size = max_managed_object_size;
-    },
-    pos,
-  )
+  plain_field file pos 4 into (λ n. record header { max_managed_object_size = n })
 
 abbrev pub front_size : ℕ
 front_size = 9
 
 -- the huge objects' IDs and tree, the managed space, and how many managed objects there are; one
 -- test is made for the five fields between the tree's address and the number of objects
-abbrev pub object_fields : (file : List ℕ) (pos offset_size length_size : ℕ) → Step ObjectFields
-object_fields file pos offset_size length_size = do
+abbrev pub object_fields : (header : FractalHeapHeader) (file : List ℕ)
+    (pos offset_size length_size : ℕ) → Step FractalHeapHeader
+object_fields header file pos offset_size length_size = do
   _ ← len_ensured file pos length_size
   -- Next Huge Object ID
-  (next_huge_object_id, pos) ← untested_field file pos length_size
+  (header, pos) ← untested_field file pos length_size
+      into (λ n. record header { next_huge_object_id = n })
   -- v2 B-tree Address of Huge Objects
-  (btree_huge_objects_address, pos) ← offset_field file pos offset_size
+  (header, pos) ← offset_field file pos offset_size
+      into (λ n. record header { btree_huge_objects_address = n })
   -- the five:
   _ ← len_ensured file pos (4 * length_size + offset_size)
   -- Amount of Free Space in Managed Blocks
-  (free_space_managed_blocks, pos) ← untested_field file pos length_size
+  (header, pos) ← untested_field file pos length_size
+      into (λ n. record header { free_space_managed_blocks = n })
   -- Address of Managed Block Free Space Manager
-  (managed_block_free_space_manager_address, pos) ← untested_field file pos offset_size
+  (header, pos) ← untested_field file pos offset_size
+      into (λ n. record header { managed_block_free_space_manager_address = n })
   -- Amount of Managed Space in Heap
-  (managed_space_in_heap, pos) ← untested_field file pos length_size
+  (header, pos) ← untested_field file pos length_size
+      into (λ n. record header { managed_space_in_heap = n })
   -- Amount of Allocated Managed Space in Heap
-  (allocated_managed_space_in_heap, pos) ← untested_field file pos length_size
+  (header, pos) ← untested_field file pos length_size
+      into (λ n. record header { allocated_managed_space_in_heap = n })
   -- Offset of Direct Block Allocation Iterator in Managed Space
-  (direct_block_allocation_iterator_offset, pos) ← untested_field file pos length_size
+  (header, pos) ← untested_field file pos length_size
+      into (λ n. record header { direct_block_allocation_iterator_offset = n })
   -- Number of Managed Objects in Heap
-  (managed_objects_count, pos) ← length_field file pos length_size
-  Ok (
-    record {
-      next_huge_object_id = next_huge_object_id;
-      btree_huge_objects_address = btree_huge_objects_address;
-      free_space_managed_blocks = free_space_managed_blocks;
-      managed_block_free_space_manager_address = managed_block_free_space_manager_address;
-      managed_space_in_heap = managed_space_in_heap;
-      allocated_managed_space_in_heap = allocated_managed_space_in_heap;
-      direct_block_allocation_iterator_offset = direct_block_allocation_iterator_offset;
-      managed_objects_count = managed_objects_count;
-    },
-    pos,
-  )
+  length_field file pos length_size into (λ n. record header { managed_objects_count = n })
 
 abbrev pub objects_size : (offset_size length_size : ℕ) → ℕ
 objects_size offset_size length_size = 6 * length_size + 2 * offset_size
 
 -- the sizes and numbers of huge and of tiny objects, of which nothing is tested, and the doubling
 -- table, with whose tests they are there, too
-abbrev pub table_fields : (file : List ℕ) (pos length_size : ℕ) → Step TableFields
-table_fields file pos length_size = do
+abbrev pub table_fields : (header : FractalHeapHeader) (file : List ℕ) (pos length_size : ℕ)
+    → Step FractalHeapHeader
+table_fields header file pos length_size = do
   -- Size of Huge Objects in Heap
-  (huge_objects_size, pos) ← untested_field file pos length_size
+  (header, pos) ← untested_field file pos length_size
+      into (λ n. record header { huge_objects_size = n })
   -- Number of Huge Objects in Heap
-  (huge_objects_count, pos) ← untested_field file pos length_size
+  (header, pos) ← untested_field file pos length_size
+      into (λ n. record header { huge_objects_count = n })
   -- Size of Tiny Objects in Heap
-  (tiny_objects_size, pos) ← untested_field file pos length_size
+  (header, pos) ← untested_field file pos length_size
+      into (λ n. record header { tiny_objects_size = n })
   -- Number of Tiny Objects in Heap
-  (tiny_objects_count, pos) ← untested_field file pos length_size
+  (header, pos) ← untested_field file pos length_size
+      into (λ n. record header { tiny_objects_count = n })
   -- Table Width
-  (table_width, pos) ← plain_field file pos 2
+  (header, pos) ← plain_field file pos 2
+      into (λ n. record header { table = record header.table { table_width = n } })
   -- Starting Block Size
-  (starting_block_size, pos) ← length_field file pos length_size
+  (header, pos) ← length_field file pos length_size
+      into (λ n. record header { table = record header.table { starting_block_size = n } })
   -- Maximum Direct Block Size
-  (max_direct_block_size, pos) ← length_field file pos length_size
+  (header, pos) ← length_field file pos length_size
+      into (λ n. record header { table = record header.table { max_direct_block_size = n } })
   -- Maximum Heap Size
-  (max_heap_size, pos) ← plain_field file pos 2
-  Ok (
-    record {
-      huge_objects_size = huge_objects_size;
-      huge_objects_count = huge_objects_count;
-      tiny_objects_size = tiny_objects_size;
-      tiny_objects_count = tiny_objects_count;
-      table =
-          record {
-            table_width = table_width;
-            starting_block_size = starting_block_size;
-            max_direct_block_size = max_direct_block_size;
-            max_heap_size = max_heap_size;
-          };
-    },
-    pos,
-  )
+  plain_field file pos 2
+      into (λ n. record header { table = record header.table { max_heap_size = n } })
 
 abbrev pub table_size : (length_size : ℕ) → ℕ
 table_size length_size = 6 * length_size + 4
 
 -- the root block, and how many rows it has
-abbrev pub root_fields : (file : List ℕ) (pos offset_size : ℕ) → Step RootFields
-root_fields file pos offset_size = do
+abbrev pub root_fields : (header : FractalHeapHeader) (file : List ℕ) (pos offset_size : ℕ)
+    → Step FractalHeapHeader
+root_fields header file pos offset_size = do
   -- Starting # of Rows in Root Indirect Block
-  (start_root_rows, pos) ← plain_field file pos 2
+  (header, pos) ← plain_field file pos 2 into (λ n. record header { start_root_rows = n })
   -- Address of Root Block
-  (root_block_address, pos) ← offset_field file pos offset_size
+  (header, pos) ← offset_field file pos offset_size
+      into (λ n. record header { root_block_address = n })
   -- Current # of Rows in Root Indirect Block
-  (current_rows_in_root_indirect_block, pos) ← plain_field file pos 2
-  Ok (
-    record {
-      start_root_rows = start_root_rows;
-      root_block_address = root_block_address;
-      current_rows_in_root_indirect_block = current_rows_in_root_indirect_block;
-    },
-    pos,
-  )
+  plain_field file pos 2 into (λ n. record header { current_rows_in_root_indirect_block = n })
 
 abbrev pub root_size : (offset_size : ℕ) → ℕ
 root_size offset_size = offset_size + 4
@@ -144,33 +115,22 @@ filters_size filter_length length_size = length_size + 4 + filter_length
 
 -- the filters of such a heap; one test is made for all of the group and for Checksum, which stands
 -- behind it
-abbrev pub filter_fields : (file : List ℕ) (pos filter_length length_size : ℕ) → Step FilterFields
-filter_fields file pos filter_length length_size = do
+abbrev pub filter_fields : (header : FractalHeapHeader) (file : List ℕ) (pos length_size : ℕ)
+    → Step FractalHeapHeader
+filter_fields header file pos length_size = do
+  let filter_length = header.io_filter_encoded_length
   _ ← len_ensured file pos (filters_size filter_length length_size + 4)
   -- Size of Filtered Root Direct Block
-  (filtered_root_direct_block_size, pos) ← untested_field file pos length_size
+  (header, pos) ← untested_field file pos length_size
+      into (λ n. record header { filtered_root_direct_block_size = n })
   -- I/O Filter Mask
-  (io_filter_mask, pos) ← untested_field file pos 4
+  (header, pos) ← untested_field file pos 4 into (λ n. record header { io_filter_mask = n })
   -- I/O Filter Information: where it begins
-  Ok (
-    record {
-      io_filter_information_position = pos;
-      filtered_root_direct_block_size = filtered_root_direct_block_size;
-      io_filter_mask = io_filter_mask;
-    },
-    pos + filter_length,
-  )
-
--- what stands for them where I/O Filters' Encoded Length is 0: they are not there
-abbrev pub no_filters : FilterFields
-no_filters = record {
-  io_filter_information_position = 0;
-  filtered_root_direct_block_size = 0;
-  io_filter_mask = 0;
-}
+  Ok (record header { io_filter_information_position = pos }, pos + filter_length)
 
 -- the filters, if the heap has some
-abbrev pub filters_at : (file : List ℕ) (pos filter_length length_size : ℕ) → Step FilterFields
-filters_at file pos filter_length length_size =
-    if filter_length == 0 then Ok (no_filters, pos)
-    else filter_fields file pos filter_length length_size
+abbrev pub filters_at : (header : FractalHeapHeader) (file : List ℕ) (pos length_size : ℕ)
+    → Step FractalHeapHeader
+filters_at header file pos length_size =
+    if header.io_filter_encoded_length == 0 then Ok (header, pos)
+    else filter_fields header file pos length_size

@@ -31,3 +31,10 @@ length_field file pos length_size = do
 -- the number of `width` bytes, of which nothing is tested: another test says that they are there
 abbrev pub untested_field : (file : List ℕ) (pos width : ℕ) → Step ℕ
 untested_field file pos width = Ok (le_at file pos width, pos + width)
+
+-- a step whose number is taken up into a value
+infixl 20 ◌into◌
+abbrev pub ◌into◌ : {T : Type 0} (step : Step ℕ) (take_up : ℕ → T) → Step T
+step into take_up = do
+  (number, pos) ← step
+  Ok (take_up number, pos)

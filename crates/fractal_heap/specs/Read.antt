@@ -7,7 +7,7 @@ use Rattle.refusals.specs.declared.FormatError.{FormatError}
 use Rattle.refusals.specs.declared.FormatError.TheVariants.{UnsupportedFilteredHeapObject}
 use Rattle.ids.specs.Decoded.{decoded_id}
 use Rattle.ids.specs.declared.decode.ManagedId.{ManagedId}
-use Rattle.reading.specs.Walk.{Taking, as_they_stand, root_by, root_walk}
+use Rattle.reading.specs.Walk.{Taking, unchecked, root_by, root_unchecked}
 use Rattle.checked_reading.specs.declared.Checked.{Checked}
 use Rattle.checked_reading.specs.declared.path.BlockSite.{BlockSite}
 use Rattle.checked_reading.specs.Reading.{checked}
@@ -20,7 +20,7 @@ use Rattle.fractal_heap.specs.Header.{header_at}
 abbrev pub root_at : (header : FractalHeapHeader) (file : List ℕ) (target len offset_size : ℕ)
     → Result Place FormatError
 root_at header file target len offset_size =
-    root_walk header.table file header.root_block_address
+    root_unchecked header.table file header.root_block_address
     header.current_rows_in_root_indirect_block target len offset_size
 
 -- heap offset and length in a managed ID
@@ -43,21 +43,21 @@ managed_by taking header file id offset_size = do
       header.current_rows_in_root_indirect_block object.offset object.length offset_size
 
 -- the same, every block as it stands
-abbrev pub managed_at : (header : FractalHeapHeader) (file id : List ℕ) (offset_size : ℕ)
+abbrev pub managed_unchecked : (header : FractalHeapHeader) (file id : List ℕ) (offset_size : ℕ)
     → Result Place FormatError
-managed_at header file id offset_size =
-    managed_by (as_they_stand file) header file id offset_size
+managed_unchecked header file id offset_size =
+    managed_by (unchecked file) header file id offset_size
 
 -- what the blocks of a heap are tested against, whose header has this address
-abbrev pub heap_of : (header : FractalHeapHeader) (heap_header_address : ℕ) → Checked
-heap_of header heap_header_address =
+abbrev pub tests_of : (header : FractalHeapHeader) (heap_header_address : ℕ) → Checked
+tests_of header heap_header_address =
     record { flags = header.flags; heap_header_address = heap_header_address }
 
 -- the object of a managed ID in the file, every block tested first
 abbrev pub managed_checked : (header : FractalHeapHeader) (heap_header_address : ℕ)
     (file id : List ℕ) (offset_size : ℕ) → Result Place FormatError
 managed_checked header heap_header_address file id offset_size =
-    managed_by (checked (heap_of header heap_header_address) header.table file offset_size) header
+    managed_by (checked (tests_of header heap_header_address) header.table file offset_size) header
     file id offset_size
 
 -- the blocks that such a read comes to, root first; none in a heap with filters or by an ID that is
@@ -71,7 +71,7 @@ abbrev pub managed_path : (header : FractalHeapHeader) (heap_header_address : �
     (file id : List ℕ) (offset_size : ℕ) → List Block
 managed_path header heap_header_address file id offset_size =
     path_to (sought_by header id)
-    (λ target. root_path (heap_of header heap_header_address) header.table file
+    (λ target. root_path (tests_of header heap_header_address) header.table file
     header.root_block_address header.current_rows_in_root_indirect_block target offset_size)
 
 -- the last of them; where there is none, what refuses the read
@@ -79,7 +79,7 @@ abbrev pub stopping_block_by : (header : FractalHeapHeader) (heap_header_address
     (file id : List ℕ) (offset_size : ℕ) → Result BlockSite FormatError
 stopping_block_by header heap_header_address file id offset_size = do
   object ← sought_by header id
-  stopping_block (heap_of header heap_header_address) header.table file header.root_block_address
+  stopping_block (tests_of header heap_header_address) header.table file header.root_block_address
       header.current_rows_in_root_indirect_block object.offset offset_size
 
 -- by the header at `pos` of a file of these sizes: a refusal of the header is the answer
@@ -90,11 +90,11 @@ id_by file pos offset_size length_size id = do
   id_in header id
 
 -- the object's blocks may have addresses of another width
-abbrev pub object_by : (file : List ℕ) (pos offset_size length_size : ℕ) (id : List ℕ)
+abbrev pub unchecked_by : (file : List ℕ) (pos offset_size length_size : ℕ) (id : List ℕ)
     (block_offset_size : ℕ) → Result Place FormatError
-object_by file pos offset_size length_size id block_offset_size = do
+unchecked_by file pos offset_size length_size id block_offset_size = do
   header ← header_at file pos offset_size length_size
-  managed_at header file id block_offset_size
+  managed_unchecked header file id block_offset_size
 
 -- the same, every block tested first
 abbrev pub checked_by : (file : List ℕ) (pos offset_size length_size heap_header_address : ℕ)

@@ -1,9 +1,9 @@
 -- Writing a header without filters: its tests, in their order, what is told of it, and what holds
 -- of its bytes.
-use Rattle.std.specs.Prelude.{ℕ, ◌+◌, ◌*◌, ◌^◌, ◌<◌, ◌≤◌, ◌≡◌, ◌==◌, ◌||◌, Bool}
+use Rattle.std.specs.Prelude.{ℕ, ◌+◌, ◌*◌, ◌^◌, ◌<◌, ◌≤◌, ◌≡◌, ◌==◌, ◌||◌, Bool, true}
 use Rattle.std.specs.Prelude.{List, [], ◌∷◌, ◌++◌}
 use Rattle.std.specs.Prelude.{length, take, drop, slice_index}
-use Rattle.std.specs.Prelude.{nat_lt, nat_le, if◌then◌else◌, Result, Ok, Err, IsOk}
+use Rattle.std.specs.Prelude.{nat_lt, nat_le, Result, Ok, IsOk}
 use Rattle.refusals.specs.Steps.{◌>>=◌, required}
 use Rattle.refusals.specs.Refusals.{answer}
 use Rattle.refusals.specs.declared.answer.Answer.{Answer}
@@ -26,15 +26,37 @@ header_length offset_size length_size = header_end offset_size length_size + 4
 abbrev pub field_width : (width : ℕ) → Bool
 field_width width = (width == 1) || legal width
 
--- the first number that is too large for its width is refused, with its place in header order,
--- which is `place` for the first one here
+-- a number that is too large for its width is refused, with its place in header order
+abbrev pub field_checked : (place width number : ℕ) → Result (Unit {0}) FormatError
+field_checked place width number =
+    required (nat_lt number (2 ^ (8 * width))) (HeaderFieldTooLarge place number)
+
+-- the first of these numbers that is, the first one's place being `place`
 unfoldable pub widths_checked : (place : ℕ) (widths numbers : List ℕ)
     → Result (Unit {0}) FormatError
 widths_checked place [] numbers = Ok tt
 widths_checked place (width ∷ widths) [] = Ok tt
 widths_checked place (width ∷ widths) (number ∷ numbers) =
-    if nat_lt number (2 ^ (8 * width)) then widths_checked (place + 1) widths numbers
-    else Err (HeaderFieldTooLarge place number)
+    field_checked place width number >>= (λ _. widths_checked (place + 1) widths numbers)
+
+-- the four that stand in a list from `place` on
+abbrev pub four_from : (place : ℕ) (list : List ℕ) → List ℕ
+four_from place list =
+    slice_index list place ∷ slice_index list (place + 1) ∷ slice_index list (place + 2)
+    ∷ slice_index list (place + 3) ∷ []
+
+-- how many bytes four fields of such widths have together
+abbrev pub four_size : (place : ℕ) (widths : List ℕ) → ℕ
+four_size place widths =
+    slice_index widths place + slice_index widths (place + 1) + slice_index widths (place + 2)
+    + slice_index widths (place + 3)
+
+-- the four from `place` on are widths that fields may have
+pub record AreWidths (place : ℕ) (widths : List ℕ) : Type 0 where
+  pub first : field_width (slice_index widths place) ≡ true
+  pub second : field_width (slice_index widths (place + 1)) ≡ true
+  pub third : field_width (slice_index widths (place + 2)) ≡ true
+  pub fourth : field_width (slice_index widths (place + 3)) ≡ true
 
 -- the tests of a header of these numbers, in header order, into so many lent bytes
 abbrev pub header_checked : (numbers : List ℕ) (offset_size length_size lent : ℕ)

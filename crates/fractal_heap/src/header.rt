@@ -17,7 +17,7 @@ pub const NUMBER_COUNT: usize = 26;
 /// The header of a fractal heap: every field between version and checksum of one without filters, in header order, then
 /// what is kept of its filters. Of the Rust crate's fields and those that it steps over each has the name that its
 /// source gives it; after each is the format's name. What is called undefined has all bits set.
-#[derive(Clone, Copy, Debug, PartialEq, Eq)]
+#[derive(Clone, Copy, Debug, Default, PartialEq, Eq)]
 pub struct FractalHeapHeader {
     /// How many bytes an ID of this heap has: Heap ID Length.
     pub heap_id_length: u16,
@@ -98,6 +98,7 @@ impl FractalHeapHeader {
     /// The header at `offset` of the file, whose addresses have `offset_size` bytes and whose lengths `length_size`.
     // Inlined, so that a caller reads no field that it does not use.
     #[inline(always)]
+    #[tactic(auto, using(crate::proofs::Reading::filters_fit))]
     pub fn parse(
         file: &[u8],
         offset: usize,
@@ -114,37 +115,10 @@ impl FractalHeapHeader {
             length_size,
         };
         let pos = check_start(file, offset)?;
-        let (front, pos) = reader.front(pos)?;
-        let (objects, pos) = reader.objects(pos)?;
-        let (table, pos) = reader.table(pos)?;
-        let (root, pos) = reader.root(pos)?;
-        let (filters, pos) = reader.filters(pos, front.io_filter_encoded_length)?;
+        let (header, pos) = reader.fields(pos)?;
+        let (header, pos) = reader.filters(header, pos)?;
         check_sum(file, offset, pos)?;
-        Ok(FractalHeapHeader {
-            heap_id_length: front.heap_id_length,
-            io_filter_encoded_length: front.io_filter_encoded_length,
-            flags: front.flags,
-            max_managed_object_size: front.max_managed_object_size,
-            next_huge_object_id: objects.next_huge_object_id,
-            btree_huge_objects_address: objects.btree_huge_objects_address,
-            free_space_managed_blocks: objects.free_space_managed_blocks,
-            managed_block_free_space_manager_address: objects.managed_block_free_space_manager_address,
-            managed_space_in_heap: objects.managed_space_in_heap,
-            allocated_managed_space_in_heap: objects.allocated_managed_space_in_heap,
-            direct_block_allocation_iterator_offset: objects.direct_block_allocation_iterator_offset,
-            managed_objects_count: objects.managed_objects_count,
-            huge_objects_size: table.huge_objects_size,
-            huge_objects_count: table.huge_objects_count,
-            tiny_objects_size: table.tiny_objects_size,
-            tiny_objects_count: table.tiny_objects_count,
-            table: table.table,
-            start_root_rows: root.start_root_rows,
-            root_block_address: root.root_block_address,
-            current_rows_in_root_indirect_block: root.current_rows_in_root_indirect_block,
-            io_filter_information_position: filters.io_filter_information_position,
-            filtered_root_direct_block_size: filters.filtered_root_direct_block_size,
-            io_filter_mask: filters.io_filter_mask,
-        })
+        Ok(header)
     }
 
     /// The fields as numbers, in header order, then what is kept of the filters.

@@ -2,7 +2,7 @@
 ghost use Rattle.std.specs.Prelude.{◌≡◌, ◌+◌, ◌≤◌, length, IfOk};
 ghost use Rattle.ids.specs.IdTypes.{id_type};
 ghost use Rattle.ids.specs.Decoded.{IgnoresPadding};
-ghost use Rattle.fractal_heap.specs.Read.{id_in, sought_by, managed_by, managed_at, heap_of};
+ghost use Rattle.fractal_heap.specs.Read.{id_in, sought_by, managed_by, managed_unchecked, tests_of};
 ghost use Rattle.fractal_heap.specs.Read.{managed_checked, stopping_block_by};
 ghost use Rattle.fractal_heap.specs.CheckedLaws.{IsFoundUnchecked, IsInStoppingBlock, DecidedByPath};
 ghost use Rattle.fractal_heap.specs.CheckedLaws.{TellsRefusal};
@@ -11,7 +11,7 @@ use crate::header::FractalHeapHeader;
 use checked_reading::{BlockSite, Checked};
 use fields::Place;
 use ids::{HeapIdType, ManagedId};
-use reading::{AsTheyStand, BlockReader, Search};
+use reading::{BlockReader, Search, Unchecked};
 use refusals::FormatError;
 
 impl FractalHeapHeader {
@@ -103,7 +103,8 @@ impl FractalHeapHeader {
     /// The block at which `read_managed_object` stops when it is lent the same: the direct block that has the object,
     /// or the block that it refuses, by a test or for an object that ends behind it, or that has no child for the
     /// object. Of a read that is refused for its depth (10) it is the 64th block, the last that was tested. A read that
-    /// comes to no block has its refusal here.
+    /// comes to no block has its refusal here, and no block is named: 8, what refuses its ID, 1 with (1, 0) of a root
+    /// that is undefined, or 2.
     #[tactic(auto, using(crate::proofs::Checked::tells_refusal))]
     pub fn stopping_block(
         self,
@@ -135,7 +136,7 @@ impl FractalHeapHeader {
     // What this heap's blocks are tested against, where its header has this address.
     #[inline(always)]
     fn checked(&self, heap_header_address: u64) -> Checked
-        ensures { result ≡ heap_of self.now heap_header_address }
+        ensures { result ≡ tests_of self.now heap_header_address }
     {
         Checked {
             flags: self.flags,
@@ -152,9 +153,9 @@ impl FractalHeapHeader {
         id: &[u8],
         offset_size: u8,
     ) -> Result<Place, FormatError>
-        ensures found { result ≡ managed_at self file.now id.now offset_size }
+        ensures found { result ≡ managed_unchecked self file.now id.now offset_size }
         ensures in_file { IfOk result (λ place. place.position + place.length ≤ length file.now) }
     {
-        self.read_by(&AsTheyStand, file, id, offset_size)
+        self.read_by(&Unchecked, file, id, offset_size)
     }
 }

@@ -1,14 +1,14 @@
 //! Writing a header without filters: every test comes first, then the fields and their checksum are stored.
-ghost use Rattle.std.specs.Prelude.{◌≡◌, ◌+◌, ◌*◌, ◌^◌, ◌≤◌, [], ◌∷◌, true, length, slice_index};
-ghost use Rattle.std.specs.Prelude.{nat_lt, OnOk, OnErr};
-ghost use Rattle.refusals.specs.Steps.{required};
+ghost use Rattle.std.specs.Prelude.{◌≡◌, ◌+◌, ◌*◌, ◌^◌, ◌<◌, ◌≤◌, true, length, slice_index};
+ghost use Rattle.std.specs.Prelude.{OnOk, OnErr};
 ghost use Rattle.checksum.specs.Lookup3.{hashlittle};
 ghost use Rattle.fields.specs.LittleEndian.{le, put};
 ghost use Rattle.fields.specs.Widths.{legal};
 ghost use Rattle.fields.specs.Writing.{Puts};
 ghost use Rattle.fractal_heap.specs.Header.{fields_size, header_end, header_numbers, header_of};
 ghost use Rattle.fractal_heap.specs.Spelling.{field_widths, spelled, unsummed, header_spelled};
-ghost use Rattle.fractal_heap.specs.Writing.{header_length, field_width, widths_checked};
+ghost use Rattle.fractal_heap.specs.Writing.{header_length, field_width, field_checked};
+ghost use Rattle.fractal_heap.specs.Writing.{widths_checked, four_from, four_size, AreWidths};
 ghost use Rattle.fractal_heap.specs.Writing.{header_checked, header_written};
 ghost use Rattle.fractal_heap.specs.Writing.{ReadsBack, ParsedReadsBack, WrittenBack};
 
@@ -16,6 +16,26 @@ use crate::header::{FIELD_COUNT, FractalHeapHeader};
 use checksum::jenkins_lookup3;
 use fields::{Writer, is_width};
 use refusals::{Answer, FormatError, Reported};
+
+// Places of fields among a header's numbers: of those from which on fields are tested and put by fours, of the last
+// three, which go one by one, and of the length of the filter information.
+const HEAP_ID_LENGTH_PLACE: usize = 0;
+
+const FILTER_LENGTH_PLACE: usize = HEAP_ID_LENGTH_PLACE + 1;
+
+const NEXT_HUGE_OBJECT_ID_PLACE: usize = HEAP_ID_LENGTH_PLACE + 4;
+
+const MANAGED_SPACE_PLACE: usize = NEXT_HUGE_OBJECT_ID_PLACE + 4;
+
+const HUGE_OBJECTS_SIZE_PLACE: usize = MANAGED_SPACE_PLACE + 4;
+
+const TABLE_WIDTH_PLACE: usize = HUGE_OBJECTS_SIZE_PLACE + 4;
+
+const START_ROOT_ROWS_PLACE: usize = TABLE_WIDTH_PLACE + 4;
+
+const ROOT_BLOCK_ADDRESS_PLACE: usize = START_ROOT_ROWS_PLACE + 1;
+
+const CURRENT_ROOT_ROWS_PLACE: usize = ROOT_BLOCK_ADDRESS_PLACE + 1;
 
 /// A header that was written: how many bytes it has, and its checksum, which is their last four.
 #[derive(Clone, Copy, Debug, PartialEq, Eq)]
@@ -39,6 +59,7 @@ impl Reported for WrittenHeader {
 fn header_length(offset_size: u8, length_size: u8) -> usize
     ensures { result ≡ header_length offset_size length_size }
 {
+    // Signature, version, eight fields of one, two or four bytes, and checksum; twelve lengths; three addresses.
     26 + 12 * usize::from(length_size) + 3 * usize::from(offset_size)
 }
 
@@ -64,12 +85,15 @@ fn largest_number(width: u8) -> u64
 
 // Tests that the number of the field at `place` is not too large for its width.
 #[inline(always)]
-fn check_field(place: usize, number: u64, width: u8) -> Result<(), FormatError>
-    requires { field_width width ≡ true }
-    ensures { result ≡ required (nat_lt number (2 ^ (8 * width)))
-        (FormatError.HeaderFieldTooLarge place number) }
+fn check_field(place: usize, numbers: &[u64], widths: &[u8]) -> Result<(), FormatError>
+    requires numbers { place < length numbers.now }
+    requires widths { place < length widths.now }
+    requires width { field_width (slice_index widths.now place) ≡ true }
+    ensures { result ≡ field_checked place (slice_index widths.now place)
+        (slice_index numbers.now place) }
 {
-    if number > largest_number(width) {
+    let number = numbers[place];
+    if number > largest_number(widths[place]) {
         return Err(FormatError::HeaderFieldTooLarge {
             place: place as u64,
             value: number,
@@ -78,14 +102,19 @@ fn check_field(place: usize, number: u64, width: u8) -> Result<(), FormatError>
     Ok(())
 }
 
-// Puts a number of a width that is known only when it is put: a store for each width, and no copy of so many bytes.
+// Puts the field at `place`, of a width that is known only when it is put: a store for each width, and no copy of so
+// many bytes.
 #[inline(always)]
-fn put_field(writer: &mut Writer<'_>, number: u64, width: u8)
-    requires width { field_width width ≡ true }
-    requires room { writer.old.at + width ≤ length writer.old.bytes.now }
-    ensures { Puts writer.old writer.new width (le width number) }
+fn put_field(writer: &mut Writer<'_>, place: usize, numbers: &[u64], widths: &[u8])
+    requires numbers { place < length numbers.now }
+    requires widths { place < length widths.now }
+    requires width { field_width (slice_index widths.now place) ≡ true }
+    requires room { writer.old.at + slice_index widths.now place ≤ length writer.old.bytes.now }
+    ensures { Puts writer.old writer.new (slice_index widths.now place)
+        (le (slice_index widths.now place) (slice_index numbers.now place)) }
 {
-    match width {
+    let number = numbers[place];
+    match widths[place] {
         1 => writer.put_number(number, 1),
         2 => writer.put_number(number, 2),
         4 => writer.put_number(number, 4),
@@ -100,26 +129,14 @@ fn put_field(writer: &mut Writer<'_>, number: u64, width: u8)
 fn check_four(place: usize, numbers: &[u64], widths: &[u8]) -> Result<(), FormatError>
     requires numbers { place + 4 ≤ length numbers.now }
     requires widths { place + 4 ≤ length widths.now }
-    requires first { field_width (slice_index widths.now place) ≡ true }
-    requires second { field_width (slice_index widths.now (place + 1)) ≡ true }
-    requires third { field_width (slice_index widths.now (place + 2)) ≡ true }
-    requires fourth { field_width (slice_index widths.now (place + 3)) ≡ true }
-    ensures { result ≡ widths_checked place
-        (slice_index widths.now place
-        ∷ slice_index widths.now (place + 1)
-        ∷ slice_index widths.now (place + 2)
-        ∷ slice_index widths.now (place + 3)
-        ∷ [])
-        (slice_index numbers.now place
-        ∷ slice_index numbers.now (place + 1)
-        ∷ slice_index numbers.now (place + 2)
-        ∷ slice_index numbers.now (place + 3)
-        ∷ []) }
+    requires fields { AreWidths place widths.now }
+    ensures { result ≡ widths_checked place (four_from place widths.now)
+        (four_from place numbers.now) }
 {
-    check_field(place, numbers[place], widths[place])?;
-    check_field(place + 1, numbers[place + 1], widths[place + 1])?;
-    check_field(place + 2, numbers[place + 2], widths[place + 2])?;
-    check_field(place + 3, numbers[place + 3], widths[place + 3])
+    check_field(place, numbers, widths)?;
+    check_field(place + 1, numbers, widths)?;
+    check_field(place + 2, numbers, widths)?;
+    check_field(place + 3, numbers, widths)
 }
 
 // Puts the four fields from `place` on.
@@ -128,37 +145,16 @@ fn check_four(place: usize, numbers: &[u64], widths: &[u8]) -> Result<(), Format
 fn put_four(writer: &mut Writer<'_>, place: usize, numbers: &[u64], widths: &[u8])
     requires numbers { place + 4 ≤ length numbers.now }
     requires widths { place + 4 ≤ length widths.now }
-    requires first { field_width (slice_index widths.now place) ≡ true }
-    requires second { field_width (slice_index widths.now (place + 1)) ≡ true }
-    requires third { field_width (slice_index widths.now (place + 2)) ≡ true }
-    requires fourth { field_width (slice_index widths.now (place + 3)) ≡ true }
-    requires room { writer.old.at
-        + (slice_index widths.now place
-        + slice_index widths.now (place + 1)
-        + slice_index widths.now (place + 2)
-        + slice_index widths.now (place + 3))
+    requires fields { AreWidths place widths.now }
+    requires room { writer.old.at + four_size place widths.now
         ≤ length writer.old.bytes.now }
-    ensures { Puts writer.old writer.new
-        (slice_index widths.now place
-        + slice_index widths.now (place + 1)
-        + slice_index widths.now (place + 2)
-        + slice_index widths.now (place + 3))
-        (spelled
-        (slice_index widths.now place
-        ∷ slice_index widths.now (place + 1)
-        ∷ slice_index widths.now (place + 2)
-        ∷ slice_index widths.now (place + 3)
-        ∷ [])
-        (slice_index numbers.now place
-        ∷ slice_index numbers.now (place + 1)
-        ∷ slice_index numbers.now (place + 2)
-        ∷ slice_index numbers.now (place + 3)
-        ∷ [])) }
+    ensures { Puts writer.old writer.new (four_size place widths.now)
+        (spelled (four_from place widths.now) (four_from place numbers.now)) }
 {
-    put_field(writer, numbers[place], widths[place]);
-    put_field(writer, numbers[place + 1], widths[place + 1]);
-    put_field(writer, numbers[place + 2], widths[place + 2]);
-    put_field(writer, numbers[place + 3], widths[place + 3]);
+    put_field(writer, place, numbers, widths);
+    put_field(writer, place + 1, numbers, widths);
+    put_field(writer, place + 2, numbers, widths);
+    put_field(writer, place + 3, numbers, widths);
 }
 
 // Tests that each number fits its width.
@@ -171,14 +167,14 @@ fn check_fields(numbers: &[u64], offset_size: u8, length_size: u8) -> Result<(),
         (header_numbers (header_of numbers.now)) }
 {
     let widths = field_widths(offset_size, length_size);
-    check_four(0, numbers, &widths)?;
-    check_four(4, numbers, &widths)?;
-    check_four(8, numbers, &widths)?;
-    check_four(12, numbers, &widths)?;
-    check_four(16, numbers, &widths)?;
-    check_field(20, numbers[20], widths[20])?;
-    check_field(21, numbers[21], widths[21])?;
-    check_field(22, numbers[22], widths[22])
+    check_four(HEAP_ID_LENGTH_PLACE, numbers, &widths)?;
+    check_four(NEXT_HUGE_OBJECT_ID_PLACE, numbers, &widths)?;
+    check_four(MANAGED_SPACE_PLACE, numbers, &widths)?;
+    check_four(HUGE_OBJECTS_SIZE_PLACE, numbers, &widths)?;
+    check_four(TABLE_WIDTH_PLACE, numbers, &widths)?;
+    check_field(START_ROOT_ROWS_PLACE, numbers, &widths)?;
+    check_field(ROOT_BLOCK_ADDRESS_PLACE, numbers, &widths)?;
+    check_field(CURRENT_ROOT_ROWS_PLACE, numbers, &widths)
 }
 
 // Puts all fields, one behind the other.
@@ -194,14 +190,14 @@ fn put_fields(writer: &mut Writer<'_>, numbers: &[u64], offset_size: u8, length_
         (spelled (field_widths offset_size length_size) (header_numbers (header_of numbers.now))) }
 {
     let widths = field_widths(offset_size, length_size);
-    put_four(writer, 0, numbers, &widths);
-    put_four(writer, 4, numbers, &widths);
-    put_four(writer, 8, numbers, &widths);
-    put_four(writer, 12, numbers, &widths);
-    put_four(writer, 16, numbers, &widths);
-    put_field(writer, numbers[20], widths[20]);
-    put_field(writer, numbers[21], widths[21]);
-    put_field(writer, numbers[22], widths[22]);
+    put_four(writer, HEAP_ID_LENGTH_PLACE, numbers, &widths);
+    put_four(writer, NEXT_HUGE_OBJECT_ID_PLACE, numbers, &widths);
+    put_four(writer, MANAGED_SPACE_PLACE, numbers, &widths);
+    put_four(writer, HUGE_OBJECTS_SIZE_PLACE, numbers, &widths);
+    put_four(writer, TABLE_WIDTH_PLACE, numbers, &widths);
+    put_field(writer, START_ROOT_ROWS_PLACE, numbers, &widths);
+    put_field(writer, ROOT_BLOCK_ADDRESS_PLACE, numbers, &widths);
+    put_field(writer, CURRENT_ROOT_ROWS_PLACE, numbers, &widths);
 }
 
 // All before the checksum: signature, version 0 and the fields.
@@ -258,7 +254,7 @@ fn check_header(
     if !is_width(length_size) {
         return Err(FormatError::InvalidLengthSize(length_size));
     }
-    if numbers[1] != 0 {
+    if numbers[FILTER_LENGTH_PLACE] != 0 {
         return Err(FormatError::UnsupportedFilteredHeapObject);
     }
     check_fields(numbers, offset_size, length_size)?;
@@ -319,11 +315,11 @@ pub fn write_numbers(
 
 impl FractalHeapHeader {
     /// Writes the header to the front of `bytes`; addresses have `offset_size` bytes, lengths `length_size`. Refused
-    /// are sizes that are not 2, 4 or 8 (2, 3), filters (8), the first field, by its place in header order, that is too
-    /// large for its width (17), and fewer bytes than the header has (13), in this order; then `bytes` stay as they are.
-    /// No exception is made for the undefined address, which is all ones in its width. What the header has of filters
-    /// behind the root's rows is passed over, neither tested nor written: parsing the bytes gives the header with these
-    /// three at 0, which is itself where it was parsed.
+    /// are sizes that are not 2, 4 or 8 (2, 3), filters (8), the first field, by its place in header order, that is
+    /// too large for its width (17), and fewer bytes than the header has (13), in this order; then `bytes` stay as
+    /// they are. No exception is made for the undefined address, which is all ones in its width. What the header has
+    /// of filters behind the root's rows is passed over, neither tested nor written: parsing the bytes gives the
+    /// header with these three at 0, which is itself where it was parsed.
     pub fn write(
         self,
         offset_size: u8,

@@ -5,7 +5,7 @@ use Rattle.std.proofs.Common.{drop_at}
 use Rattle.std.proofs.lemmas.Bool.Decides.{nat_tests}
 use Rattle.fields.specs.LittleEndian.{le, value, le_at}
 use Rattle.fields.proofs.LittleEndian.{length-le, value-le}
-use Rattle.fields.specs.Slot.{slot_number, slot_bytes}
+use Rattle.fields.specs.Slot.{slot_size, slot_number, slot_bytes}
 use Rattle.refusals.specs.Refusals.{answer, report_of}
 use Rattle.fields.specs.Places.{place_report}
 use Rattle.table.specs.Table.{fixed}
@@ -16,8 +16,8 @@ use Rattle.fractal_heap.specs.declared.header.FractalHeapHeader.{FractalHeapHead
 use Rattle.fractal_heap.specs.Header.{header_at}
 use Rattle.fields.specs.declared.place.Place.{Place}
 use Rattle.refusals.specs.declared.FormatError.{FormatError}
-use Rattle.fractal_heap.specs.Read.{managed_at, managed_checked, id_by, object_by, checked_by}
-use Rattle.heap_kept.specs.Kept.{ForKept, ForKeptChecked, IsPlaceOf}
+use Rattle.fractal_heap.specs.Read.{managed_unchecked, managed_checked, id_by, unchecked_by, checked_by}
+use Rattle.heap_kept.specs.Kept.{ForKeptUnchecked, ForKeptChecked, IsPlaceOf}
 use Rattle.heap_kept.proofs.Keeping.{kept, kept_checked, size-is}
 use Rattle.fractal_heap_c.specs.InSlot.{NamesPlace, NamesPair}
 use Rattle.fractal_heap_c.specs.WrittenIds.{IsWrittenId}
@@ -40,7 +40,7 @@ module _ (slot : List ℕ) (a n : ℕ) where
       ∙ mod-eq_of_lt l
 
 -- two values that are answered with 0, in a slot that has room for them
-named : (slot : List ℕ) (a n : ℕ) → 16 ≤ length slot → a < 2 ^ 64 → n < 2 ^ 64
+named : (slot : List ℕ) (a n : ℕ) → slot_size ≤ length slot → a < 2 ^ 64 → n < 2 ^ 64
     → NamesPair (slot_number slot (answer 0 a n)) (slot_bytes slot (answer 0 a n)) a n
 named slot a n room l m =
     let long : nat_lt (length slot) 16 ≡ false = grind (arith, nat_tests, room) in
@@ -60,7 +60,7 @@ module _ (slot : List ℕ) {file new bytes : List ℕ} {result : ℕ} {answered 
   pub names-place : IsPlaceOf answered file bytes → 0 < length bytes → length file < 2 ^ 64
       → result ≡ slot_number slot (report_of place_report answered)
       → new ≡ slot_bytes slot (report_of place_report answered)
-      → 16 ≤ length slot → NamesPlace result new file bytes
+      → slot_size ≤ length slot → NamesPlace result new file bytes
   names-place P some few u v room =
       let s = in-file P.position file bytes some P.bytes_there in
       let q = ap (report_of place_report) P.place_found in
@@ -77,11 +77,13 @@ module _ (slot file id : List ℕ) (at offset_size length_size : ℕ) {new : Lis
     (g : header_at file at offset_size length_size ≡ Ok header) where
   -- what C is answered of an object where the header parses
   pub names-kept : length file < 2 ^ 64
-      → result ≡ slot_number slot (report_of place_report (object_by file at offset_size length_size id offset_size))
-      → new ≡ slot_bytes slot (report_of place_report (object_by file at offset_size length_size id offset_size))
-      → ForKept header file offset_size id (λ bytes. 16 ≤ length slot → NamesPlace result new file bytes)
+      → result ≡ slot_number slot (report_of place_report (unchecked_by file at offset_size length_size id offset_size))
+      → new ≡ slot_bytes slot (report_of place_report (unchecked_by file at offset_size length_size id offset_size))
+      → ForKeptUnchecked header file offset_size id
+      (λ bytes. slot_size ≤ length slot → NamesPlace result new file bytes)
   names-kept few u v c p k i H I m room =
-      let found : object_by file at offset_size length_size id offset_size ≡ managed_at header file id offset_size =
+      let found : unchecked_by file at offset_size length_size id offset_size
+      ≡ managed_unchecked header file id offset_size =
       rw g in
       names-place slot (kept H I m found) (omega (arith, size-is H I, I.not_empty)) few u v room
 
@@ -91,7 +93,8 @@ module _ (slot file id : List ℕ) (at offset_size length_size : ℕ) {new : Lis
         → result
         ≡ slot_number slot (report_of place_report (checked_by file at offset_size length_size a id offset_size))
         → new ≡ slot_bytes slot (report_of place_report (checked_by file at offset_size length_size a id offset_size))
-        → ForKeptChecked header a file offset_size id (λ bytes. 16 ≤ length slot → NamesPlace result new file bytes)
+        → ForKeptChecked header a file offset_size id
+        (λ bytes. slot_size ≤ length slot → NamesPlace result new file bytes)
     names-checked few u v sums c p k i H address I m room =
         let found : checked_by file at offset_size length_size a id offset_size
         ≡ managed_checked header a file id offset_size = rw g in
@@ -102,7 +105,7 @@ module _ (slot file id : List ℕ) (at offset_size length_size : ℕ) {new : Lis
       → result ≡ slot_number slot (report_of id_report (id_by file at offset_size length_size id))
       → new ≡ slot_bytes slot (report_of id_report (id_by file at offset_size length_size id))
       → (offset len : ℕ) → IsWrittenId id offset len → IsManaged len header.max_managed_object_size
-      → 16 ≤ length slot → NamesPair result new offset len
+      → slot_size ≤ length slot → NamesPair result new offset len
   names-pair geometry u v offset len I m room =
       let S = small I in
       let decoded : id_by file at offset_size length_size id ≡ Ok (record { offset = offset; length = len }) =

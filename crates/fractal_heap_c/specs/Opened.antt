@@ -7,9 +7,9 @@ use Rattle.planner.specs.declared.State.{State}
 use Rattle.plan.specs.Checks.{width_checked}
 
 -- 2, or no values
-abbrev pub opening_report : ℕ → Answer
+abbrev pub opening_report : (offset_size : ℕ) → Answer
 opening_report offset_size = test_report (width_checked offset_size)
 
 -- the heap offset, or 11, or 12
-abbrev pub addition_report : Result (State × ℕ) FormatError → Answer
+abbrev pub addition_report : (addition : Result (State × ℕ) FormatError) → Answer
 addition_report = report_of (λ placed. answer 0 placed.1 0)

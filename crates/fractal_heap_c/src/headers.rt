@@ -2,6 +2,7 @@
 ghost use Rattle.std.specs.Prelude.{◌≡◌, ◌<◌, ◌≤◌, ◌||◌, length, nat_lt};
 ghost use Rattle.fractal_heap.specs.Listed.{is_short};
 ghost use Rattle.fields.specs.LittleEndian.{put};
+ghost use Rattle.fields.specs.Slot.{slot_size};
 ghost use Rattle.fractal_heap.specs.Header.{header_at, header_of, field_count};
 ghost use Rattle.fractal_heap.specs.Spelling.{header_spelled};
 ghost use Rattle.fractal_heap.specs.Writing.{header_written, ReadsBack, WrittenBack};
@@ -78,7 +79,7 @@ pub extern "C" fn fractal_heap_write_header(
     ensures written { result ≡ 0
         → bytes.new ≡ put bytes.old 0 (header_spelled (header_of fields.now) offset_size length_size) }
     ensures reads_back { result ≡ 0 → ReadsBack (header_of fields.now) offset_size length_size }
-    ensures written_back { 16 ≤ length slot.old → field_count ≤ length fields.now
+    ensures written_back { slot_size ≤ length slot.old → field_count ≤ length fields.now
         → WrittenBack (header_of fields.now) offset_size length_size
         (header_written (header_of fields.now) offset_size length_size (length bytes.old)) bytes.new }
     ensures untouched { 0 < result → bytes.new ≡ bytes.old }

@@ -13,7 +13,7 @@ pub mod written_ids;
 
 ghost use Rattle.std.specs.Prelude.{◌≡◌, ◌≤◌, ℕ, length, Ok, Err, ◌+◌, IfOk};
 ghost use Rattle.checksum.specs.Lookup3.{hashlittle};
-ghost use Rattle.fields.specs.Slot.{slot_number, slot_bytes};
+ghost use Rattle.fields.specs.Slot.{slot_size, slot_number, slot_bytes};
 ghost use Rattle.refusals.specs.Refusals.{report_of};
 ghost use Rattle.refusals.specs.declared.FormatError.{FormatError};
 ghost use Rattle.ids.specs.Decoded.{id_report};
@@ -21,7 +21,7 @@ ghost use Rattle.fields.specs.Places.{place_report};
 ghost use Rattle.checked_reading.specs.Path.{site_report};
 ghost use Rattle.fractal_heap.specs.declared.header.FractalHeapHeader.{FractalHeapHeader};
 ghost use Rattle.fractal_heap.specs.Header.{header_at};
-ghost use Rattle.fractal_heap.specs.Read.{id_by, object_by, checked_by, stopped_by};
+ghost use Rattle.fractal_heap.specs.Read.{id_by, unchecked_by, checked_by, stopped_by};
 ghost use Rattle.heap_kept.specs.FromBytes.{ForWrittenChecked};
 ghost use Rattle.heap_kept.specs.Kept.{ForKeptChecked};
 ghost use Rattle.fractal_heap_c.specs.InSlot.{NamesPlace, NamesPair};
@@ -69,14 +69,14 @@ fn read(
     ensures found { result ≡ checked_by file.now at offset_size length_size heap_header_address
         id.now offset_size }
     ensures only_refuses { IfOk result (λ place.
-        object_by file.now at offset_size length_size id.now offset_size ≡ Ok place) }
+        unchecked_by file.now at offset_size length_size id.now offset_size ≡ Ok place) }
     ensures in_file { IfOk result (λ place. place.position + place.length ≤ length file.now) }
 {
     let header = FractalHeapHeader::parse(file, to_usize(at), offset_size, length_size)?;
     header.read_managed_object(file, heap_header_address, id, offset_size)
 }
 
-fn stop(
+fn stopping_block(
     file: &[u8],
     at: u64,
     offset_size: u8,
@@ -84,7 +84,7 @@ fn stop(
     heap_header_address: u64,
     id: &[u8],
 ) -> Result<BlockSite, FormatError>
-    ensures last { result ≡ stopped_by file.now at offset_size length_size heap_header_address
+    ensures stopping { result ≡ stopped_by file.now at offset_size length_size heap_header_address
         id.now }
     ensures refused { (refused : FormatError) → result ≡ Err refused
         → checked_by file.now at offset_size length_size heap_header_address id.now offset_size
@@ -116,7 +116,7 @@ pub extern "C" fn fractal_heap_decode_managed_id(
         → HasTable header.table fixed
         → (offset len : ℕ) → IsWrittenId id.now offset len
         → IsManaged len header.max_managed_object_size
-        → 16 ≤ length slot.old → NamesPair result slot.new offset len }
+        → slot_size ≤ length slot.old → NamesPair result slot.new offset len }
 {
     put_answer(
         slot,
@@ -125,8 +125,8 @@ pub extern "C" fn fractal_heap_decode_managed_id(
 }
 
 /// Position in the file and length of a managed object. Every block on the way is tested, and has to be one of the heap
-/// whose header's address is `heap_header_address`; that is the address in HDF5's terms, `at` less the superblock's base
-/// in an HDF5 file. What this finds `fractal_heap_read_managed_object_unchecked` finds, too.
+/// whose header's address is `heap_header_address`, as its blocks say it: `at`, in a file that is lent from its
+/// superblock on. What this finds `fractal_heap_read_managed_object_unchecked` finds, too.
 ///
 /// Of a heap that our writer wrote with this address, and by an ID that it gave, early or at the end, the file has the
 /// object's bytes there, if the header's flags say that direct blocks have a checksum, and the object is no longer than
@@ -150,17 +150,17 @@ pub extern "C" fn fractal_heap_read_managed_object(
         heap_header_address id.now offset_size)) }
     ensures only_refuses { IfOk
         (checked_by file.now at offset_size length_size heap_header_address id.now offset_size)
-        (λ place. object_by file.now at offset_size length_size id.now offset_size ≡ Ok place) }
+        (λ place. unchecked_by file.now at offset_size length_size id.now offset_size ≡ Ok place) }
     ensures in_file { IfOk
         (checked_by file.now at offset_size length_size heap_header_address id.now offset_size)
         (λ place. place.position + place.length ≤ length file.now) }
     ensures kept { (header : FractalHeapHeader)
         → header_at file.now at offset_size length_size ≡ Ok header
         → ForKeptChecked header heap_header_address file.now offset_size id.now
-        (λ bytes. 16 ≤ length slot.old → NamesPlace result slot.new file.now bytes) }
+        (λ bytes. slot_size ≤ length slot.old → NamesPlace result slot.new file.now bytes) }
     // The same where the file holds the header's bytes, as the header writer leaves them.
     ensures from_bytes { ForWrittenChecked file.now at offset_size length_size heap_header_address id.now
-        (λ bytes. 16 ≤ length slot.old → NamesPlace result slot.new file.now bytes) }
+        (λ bytes. slot_size ≤ length slot.old → NamesPlace result slot.new file.now bytes) }
 {
     let found = read(file, at, offset_size, length_size, heap_header_address, id);
     put_answer(slot, found.answer())
@@ -189,8 +189,8 @@ pub extern "C" fn fractal_heap_stopping_block(
         → checked_by file.now at offset_size length_size heap_header_address id.now offset_size
         ≡ Err refused }
 {
-    let last = stop(file, at, offset_size, length_size, heap_header_address, id);
-    put_answer(slot, last.answer())
+    let block = stopping_block(file, at, offset_size, length_size, heap_header_address, id);
+    put_answer(slot, block.answer())
 }
 
 #[cfg(test)]

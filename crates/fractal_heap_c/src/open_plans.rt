@@ -1,7 +1,7 @@
 //! A plan that is advanced by one size at a time, for a loader that prints IDs while a run is still loading. The caller
 //! lends the plan, and hands in only what opening and additions have left.
 ghost use Rattle.std.specs.Prelude.{◌≡◌, ℕ, ◌+◌, ◌<◌, ◌≤◌, max, List, [], length, Ok, IfOk, IfErr};
-ghost use Rattle.fields.specs.Slot.{slot_number, slot_bytes};
+ghost use Rattle.fields.specs.Slot.{slot_size, slot_number, slot_bytes};
 ghost use Rattle.table.specs.Table.{fixed};
 ghost use Rattle.plan.specs.Answer.{totals as totals_of, planned_for};
 ghost use Rattle.plan.specs.End.{end_state};
@@ -80,7 +80,7 @@ pub extern "C" fn fractal_heap_plan_add(plan: &mut OpenPlan, size: u64, slot: &m
         → IsPlanOf plan.old.planner.offset_size plan.old.planner.state plan.old.objects sizes
         → Extends plan.old.planner.offset_size plan.new.planner.state plan.new.objects
         sizes size placed.1) }
-    ensures refused_as_planned { 16 ≤ length slot.old → IfErr (addition
+    ensures refused_as_planned { slot_size ≤ length slot.old → IfErr (addition
         plan.old.planner.offset_size plan.old.planner.state plan.old.objects size)
         (λ refusal. (sizes : List ℕ)
         → IsPlanOf plan.old.planner.offset_size plan.old.planner.state plan.old.objects sizes

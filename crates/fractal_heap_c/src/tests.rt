@@ -3,8 +3,8 @@
 ghost use Rattle.std.specs.Prelude.{◌≡◌, ◌<◌, ℕ, List, length, Ok, Some, IsSomeAnd};
 ghost use Rattle.fractal_heap.specs.declared.header.FractalHeapHeader.{FractalHeapHeader};
 ghost use Rattle.fractal_heap.specs.Header.{header_at};
-ghost use Rattle.heap_kept.specs.FromBytes.{ForWritten, ForWrittenChecked};
-ghost use Rattle.heap_kept.specs.Kept.{ForKept, ForKeptChecked};
+ghost use Rattle.heap_kept.specs.FromBytes.{ForWrittenUnchecked, ForWrittenChecked};
+ghost use Rattle.heap_kept.specs.Kept.{ForKeptUnchecked, ForKeptChecked};
 ghost use Rattle.ids.specs.Written.{HasTable, IsManaged};
 ghost use Rattle.table.specs.Table.{fixed};
 ghost use Rattle.fractal_heap_c.specs.InSlot.{NamesPlace};
@@ -74,9 +74,9 @@ fn unchecked_bytes<'a>(
 ) -> Option<&'a [u8]>
     ensures kept { (header : FractalHeapHeader)
         → header_at file.now at offset_size length_size ≡ Ok header
-        → ForKept header file.now offset_size id.now
+        → ForKeptUnchecked header file.now offset_size id.now
         (λ bytes. IsSomeAnd result (λ found. found.now ≡ bytes)) }
-    ensures from_bytes { ForWritten file.now at offset_size length_size id.now
+    ensures from_bytes { ForWrittenUnchecked file.now at offset_size length_size id.now
         (λ bytes. IsSomeAnd result (λ found. found.now ≡ bytes)) }
 {
     let mut slot = [0u8; 16];

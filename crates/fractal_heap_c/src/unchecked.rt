@@ -1,14 +1,14 @@
 //! Reading without a test of the blocks on the way, as the original reads: for a file that is damaged, and whose objects
 //! are wanted all the same.
 ghost use Rattle.std.specs.Prelude.{◌≡◌, ◌≤◌, length, Ok, ◌+◌, IfOk};
-ghost use Rattle.fields.specs.Slot.{slot_number, slot_bytes};
+ghost use Rattle.fields.specs.Slot.{slot_size, slot_number, slot_bytes};
 ghost use Rattle.fields.specs.Places.{place_report};
 ghost use Rattle.refusals.specs.Refusals.{report_of};
 ghost use Rattle.fractal_heap.specs.declared.header.FractalHeapHeader.{FractalHeapHeader};
 ghost use Rattle.fractal_heap.specs.Header.{header_at};
-ghost use Rattle.fractal_heap.specs.Read.{object_by};
-ghost use Rattle.heap_kept.specs.FromBytes.{ForWritten};
-ghost use Rattle.heap_kept.specs.Kept.{ForKept};
+ghost use Rattle.fractal_heap.specs.Read.{unchecked_by};
+ghost use Rattle.heap_kept.specs.FromBytes.{ForWrittenUnchecked};
+ghost use Rattle.heap_kept.specs.Kept.{ForKeptUnchecked};
 ghost use Rattle.fractal_heap_c.specs.InSlot.{NamesPlace};
 
 use fields::Place;
@@ -24,7 +24,7 @@ fn read(
     length_size: u8,
     id: &[u8],
 ) -> Result<Place, FormatError>
-    ensures found { result ≡ object_by file.now at offset_size length_size id.now offset_size }
+    ensures found { result ≡ unchecked_by file.now at offset_size length_size id.now offset_size }
     ensures in_file { IfOk result (λ place. place.position + place.length ≤ length file.now) }
 {
     let header = FractalHeapHeader::parse(file, to_usize(at), offset_size, length_size)?;
@@ -48,19 +48,19 @@ pub extern "C" fn fractal_heap_read_managed_object_unchecked(
 ) -> u32
     ensures number { result ≡ slot_number slot.old
         (report_of place_report
-        (object_by file.now at offset_size length_size id.now offset_size)) }
+        (unchecked_by file.now at offset_size length_size id.now offset_size)) }
     ensures slot_after { slot.new ≡ slot_bytes slot.old
         (report_of place_report
-        (object_by file.now at offset_size length_size id.now offset_size)) }
-    ensures in_file { IfOk (object_by file.now at offset_size length_size id.now offset_size)
+        (unchecked_by file.now at offset_size length_size id.now offset_size)) }
+    ensures in_file { IfOk (unchecked_by file.now at offset_size length_size id.now offset_size)
         (λ place. place.position + place.length ≤ length file.now) }
     ensures kept { (header : FractalHeapHeader)
         → header_at file.now at offset_size length_size ≡ Ok header
-        → ForKept header file.now offset_size id.now
-        (λ bytes. 16 ≤ length slot.old → NamesPlace result slot.new file.now bytes) }
+        → ForKeptUnchecked header file.now offset_size id.now
+        (λ bytes. slot_size ≤ length slot.old → NamesPlace result slot.new file.now bytes) }
     // The same where the file holds the header's bytes, as the header writer leaves them.
-    ensures from_bytes { ForWritten file.now at offset_size length_size id.now
-        (λ bytes. 16 ≤ length slot.old → NamesPlace result slot.new file.now bytes) }
+    ensures from_bytes { ForWrittenUnchecked file.now at offset_size length_size id.now
+        (λ bytes. slot_size ≤ length slot.old → NamesPlace result slot.new file.now bytes) }
 {
     put_answer(slot, read(file, at, offset_size, length_size, id).answer())
 }

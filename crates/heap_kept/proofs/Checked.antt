@@ -14,7 +14,7 @@ use Rattle.checked_reading.specs.declared.Checked.{Checked}
 use Rattle.checked_reading.specs.Blocks.{has_checksum, direct_checked}
 use Rattle.checked_reading.specs.Reading.{object_in, object_checked, checked}
 use Rattle.fractal_heap.specs.declared.header.FractalHeapHeader.{FractalHeapHeader}
-use Rattle.fractal_heap.specs.Read.{heap_of, managed_checked}
+use Rattle.fractal_heap.specs.Read.{tests_of, managed_checked}
 use Rattle.heap_kept.specs.HeapKept.{Call, WriterAccepts, HoldsRegion, IsHeaderOf, ObjectIsManaged, object_id}
 use Rattle.heap_kept.specs.Walking.{Opens}
 use Rattle.heap_kept.specs.CheckedKept.{CheckedKept, ObjectIsFound}
@@ -33,7 +33,7 @@ module _ {c : Call} {p : ManagedPlan} (W : WriterAccepts c p) {F : List ℕ} (H 
 
   -- what the blocks are tested against
   abbrev heap : Checked
-  heap = heap_of h c.site.heap_header_address
+  heap = tests_of h c.site.heap_header_address
 
   abbrev d : DoublingTable
   d = numbers_of fixed

@@ -12,7 +12,7 @@ use Rattle.plan.specs.Plans.{object_start}
 use Rattle.numbers.proofs.Saturating.{sat-fits}
 use Rattle.reading.specs.Walk.{direct_at}
 use Rattle.fractal_heap.specs.declared.header.FractalHeapHeader.{FractalHeapHeader}
-use Rattle.fractal_heap.specs.Read.{root_at, managed_at}
+use Rattle.fractal_heap.specs.Read.{root_at, managed_unchecked}
 use Rattle.ids.specs.Checks.{id_checked}
 use Rattle.ids.specs.Written.{managed_id}
 use Rattle.heap_kept.specs.HeapKept.{Call, WriterAccepts, HoldsRegion, IsHeaderOf, EmptyRead, accepts}
@@ -79,7 +79,7 @@ module _ {c : Call} {p : ManagedPlan} (W : WriterAccepts c p) {F : List ℕ} (H 
 
   -- where no placed block holds the offset, and the root has rows
   pub missed-there : (n : ℕ) → n < length (starts W) → 0 < p.root_rows → NoneHolds fixed x (starts W) → x < 2 ^ 40
-      → managed_at h F (managed_id fixed x 0) w ≡ Err (UnexpectedEof x (length F))
+      → managed_unchecked h F (managed_id fixed x 0) w ≡ Err (UnexpectedEof x (length F))
   missed-there n l r C s =
       by-id T F w x 0 s (omega arith) (omega arith) ∙ by-missing W n l H T x 0 r C
       ∙ ap (λ (y : ℕ). Err (UnexpectedEof y (length F))) (sat-fits (x + 0) (omega arith)

@@ -34,7 +34,7 @@ use Rattle.fractal_heap_write.specs.Checks.{Fit}
 use Rattle.fractal_heap_write.proofs.Answering.{written, fit}
 use Rattle.fields.specs.declared.place.Place.{Place}
 use Rattle.refusals.specs.declared.FormatError.{FormatError}
-use Rattle.reading.specs.Walk.{Taking, as_they_stand, direct_at, walk_by, root_by}
+use Rattle.reading.specs.Walk.{Taking, unchecked, direct_at, walk_by, root_by}
 use Rattle.fractal_heap.specs.declared.header.FractalHeapHeader.{FractalHeapHeader}
 use Rattle.fractal_heap.specs.Read.{root_at}
 use Rattle.heap_kept.specs.Walking.{HasBytes, GivesRows, IsToCome, NoneHolds, missed, Opens, Doubles}
@@ -332,7 +332,7 @@ module _ {c : Call} {p : ManagedPlan} (W : WriterAccepts c p) where
         -- ---- as they stand
 
         abbrev plain : Taking
-        plain = as_they_stand F t len
+        plain = unchecked F t len
 
         plain-opens : Opens fixed w header F t plain
         plain-opens = record { is_opened = λ q m at es k e G. refl }

@@ -10,7 +10,7 @@ use Rattle.refusals.specs.declared.FormatError.{FormatError}
 use Rattle.fields.specs.declared.place.Place.{Place}
 use Rattle.fractal_heap.specs.declared.header.FractalHeapHeader.{FractalHeapHeader}
 use Rattle.checked_reading.specs.Blocks.{has_checksum}
-use Rattle.fractal_heap.specs.Read.{managed_at, managed_checked}
+use Rattle.fractal_heap.specs.Read.{managed_unchecked, managed_checked}
 use Rattle.heap_kept.specs.HeapKept.{Call, ObjectIsManaged, ObjectComesBack, object_id, part_of}
 use Rattle.heap_kept.proofs.FromRoot.{tests}
 use Rattle.heap_kept.proofs.Theorem.{heap-kept, early-id-stays}
@@ -47,17 +47,17 @@ module _ {h : FractalHeapHeader} {file : List ℕ} {w : ℕ} {id : List ℕ} {c 
       let g = length-drop s c.objects in
       length-take-le size (drop s c.objects) (omega arith)
 
-  place : ObjectIsManaged h c i → IsPlaceOf (managed_at h file id w) file (part_of c.sizes c.objects i)
+  place : ObjectIsManaged h c i → IsPlaceOf (managed_unchecked h file id w) file (part_of c.sizes c.objects i)
   place m =
       let B = back m in
       record {
         position = B.position;
-        place_found = (λ j. managed_at h file (id-now j) (H.offset_size_is j)) ∙ rw size-is B.reader_accepts;
+        place_found = (λ j. managed_unchecked h file (id-now j) (H.offset_size_is j)) ∙ rw size-is B.reader_accepts;
         bytes_there = ap (λ (n : ℕ). take n (drop B.position file)) size-is ∙ B.bytes_there;
       }
 
   -- what the reader answers by this ID
-  pub kept : {r : Result Place FormatError} → ObjectIsManaged h c i → r ≡ managed_at h file id w
+  pub kept : {r : Result Place FormatError} → ObjectIsManaged h c i → r ≡ managed_unchecked h file id w
       → IsPlaceOf r file (part_of c.sizes c.objects i)
   kept m e = rw e (place m)
 

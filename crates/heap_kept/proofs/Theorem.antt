@@ -19,9 +19,9 @@ use Rattle.plan.specs.Plans.{InPlacedBlock, object_start}
 use Rattle.plan.proofs.Front.{front-part}
 use Rattle.plan.proofs.Kept.{plan-kept}
 use Rattle.region_directs.proofs.Objects.{objects-at}
-use Rattle.reading.specs.Walk.{Taking, as_they_stand, root_by, direct_at}
+use Rattle.reading.specs.Walk.{Taking, unchecked, root_by, direct_at}
 use Rattle.fractal_heap.specs.declared.header.FractalHeapHeader.{FractalHeapHeader}
-use Rattle.fractal_heap.specs.Read.{root_at, managed_by, managed_at}
+use Rattle.fractal_heap.specs.Read.{root_at, managed_by, managed_unchecked}
 use Rattle.ids.specs.Written.{managed_id, IsManaged}
 use Rattle.heap_kept.proofs.Holding.{has_part}
 use Rattle.heap_kept.specs.HeapKept.{Call, WriterAccepts, HoldsRegion, IsHeaderOf, object_id, ComesBack, part_of}
@@ -46,8 +46,8 @@ sought {h = h} T taking F w o x lo hi m =
 
 pub by-id : {h : FractalHeapHeader} {c : Call} {p : ManagedPlan} → IsHeaderOf h c p → (F : List ℕ) (w o x : ℕ)
     → o < 2 ^ 40 → x < 2 ^ 16 → IsManaged x h.max_managed_object_size
-    → managed_at h F (managed_id fixed o x) w ≡ root_at h F o x w
-by-id T F w o x lo hi m = sought T (as_they_stand F) F w o x lo hi m
+    → managed_unchecked h F (managed_id fixed o x) w ≡ root_at h F o x w
+by-id T F w o x lo hi m = sought T (unchecked F) F w o x lo hi m
 
 -- len bytes in a block that the file holds
 pub in_block : (F : List ℕ) (a b t len : ℕ) → a + (t - b) ≤ 2 ^ 64 - 1 → a + (t - b) + len ≤ length F

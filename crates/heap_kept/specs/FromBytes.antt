@@ -6,10 +6,10 @@ use Rattle.fractal_heap.specs.declared.header.FractalHeapHeader.{FractalHeapHead
 use Rattle.fractal_heap.specs.Header.{header_numbers}
 use Rattle.fractal_heap.specs.Spelling.{header_spelled}
 use Rattle.fractal_heap.specs.Writing.{header_length, header_checked}
-use Rattle.fractal_heap.specs.Read.{object_by}
+use Rattle.fractal_heap.specs.Read.{unchecked_by}
 use Rattle.heap_kept.specs.HeapKept.{Call, WriterAccepts, HoldsRegion, IsHeaderOf, ObjectIsManaged}
 use Rattle.heap_kept.specs.HeapKept.{object_id, part_of}
-use Rattle.heap_kept.specs.Kept.{ForKept, ForKeptChecked}
+use Rattle.heap_kept.specs.Kept.{ForKeptUnchecked, ForKeptChecked}
 
 -- the header writer accepts this header at these widths, for some number of lent bytes, and what it
 -- writes stands at this place of the file; its other bytes may be anything, and so may what the
@@ -28,7 +28,7 @@ pub record IsRead (file : List ℕ) (at offset_size length_size : ℕ) (id : Lis
     (bytes : List ℕ) : Type 0 where
   pub position : ℕ
   pub reader_accepts :
-      object_by file at offset_size length_size id offset_size
+      unchecked_by file at offset_size length_size id offset_size
       ≡ Ok (record { position = position; length = size })
   pub bytes_there : take size (drop position file) ≡ bytes
 
@@ -50,11 +50,11 @@ WrittenHeapsAreRead = (call : Call) (plan : ManagedPlan) → WriterAccepts call 
 -- whatever header of ours the file holds at this place, and whatever heap of ours with that header,
 -- and of whatever object of it, managed under the header, this is the ID, given early or at the
 -- end: P holds of that object's bytes
-abbrev pub ForWritten : (file : List ℕ) (at offset_size length_size : ℕ) (id : List ℕ)
+abbrev pub ForWrittenUnchecked : (file : List ℕ) (at offset_size length_size : ℕ) (id : List ℕ)
     (P : (bytes : List ℕ) → Type 0) → Type 0
-ForWritten file at offset_size length_size id P = (header : FractalHeapHeader)
+ForWrittenUnchecked file at offset_size length_size id P = (header : FractalHeapHeader)
     → HoldsHeader file at header offset_size length_size
-    → ForKept header file offset_size id P
+    → ForKeptUnchecked header file offset_size id P
 
 -- the same where every block is tested, and the heap's blocks were written with this address of
 -- their header

@@ -7,7 +7,7 @@ use Rattle.plan.specs.declared.ManagedPlan.{ManagedPlan}
 use Rattle.plan.specs.Answer.{planned_for}
 use Rattle.plan.specs.Plans.{object_start, PlanKept}
 use Rattle.fractal_heap.specs.declared.header.FractalHeapHeader.{FractalHeapHeader}
-use Rattle.fractal_heap.specs.Read.{managed_at}
+use Rattle.fractal_heap.specs.Read.{managed_unchecked}
 use Rattle.region_write.specs.Region.{region}
 use Rattle.region_blocks.specs.declared.Site.{Site}
 use Rattle.fractal_heap_write.specs.declared.checks.Lent.{Lent}
@@ -71,7 +71,7 @@ pub record ComesBack (file : List ℕ) (header : FractalHeapHeader)
   pub id_accepted : (lent : ℕ) → 8 ≤ lent → id_checked fixed offset size lent ≡ Ok tt
   pub position : ℕ
   pub reader_accepts :
-      managed_at header file (managed_id fixed offset size) offset_size
+      managed_unchecked header file (managed_id fixed offset size) offset_size
       ≡ Ok (record { position = position; length = size })
   pub bytes_there : take size (drop position file) ≡ bytes
 
@@ -134,11 +134,11 @@ EarlyIdsHold = (call : Call) (plan : ManagedPlan) → WriterAccepts call plan
 pub data EmptyRead (file : List ℕ) (header : FractalHeapHeader) (offset_size offset root_rows : ℕ)
     : Type 0 where
   accepts : (position : ℕ) → position ≤ length file
-      → managed_at header file (managed_id fixed offset 0) offset_size
+      → managed_unchecked header file (managed_id fixed offset 0) offset_size
       ≡ Ok (record { position = position; length = 0 })
       → EmptyRead file header offset_size offset root_rows
   refuses : 0 < root_rows
-      → managed_at header file (managed_id fixed offset 0) offset_size
+      → managed_unchecked header file (managed_id fixed offset 0) offset_size
       ≡ Err (UnexpectedEof offset (length file))
       → EmptyRead file header offset_size offset root_rows
 

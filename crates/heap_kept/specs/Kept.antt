@@ -30,9 +30,9 @@ pub record IsIdOf (id : List ℕ) (call : Call) (early i : ℕ) : Type 0 where
 
 -- whatever heap of ours the file holds, and of whatever object of it, managed under the header,
 -- this is the ID: P holds of that object's bytes
-abbrev pub ForKept : (header : FractalHeapHeader) (file : List ℕ) (offset_size : ℕ) (id : List ℕ)
-    (P : (bytes : List ℕ) → Type 0) → Type 0
-ForKept header file offset_size id P = (call : Call) (plan : ManagedPlan) (early i : ℕ)
+abbrev pub ForKeptUnchecked : (header : FractalHeapHeader) (file : List ℕ) (offset_size : ℕ)
+    (id : List ℕ) (P : (bytes : List ℕ) → Type 0) → Type 0
+ForKeptUnchecked header file offset_size id P = (call : Call) (plan : ManagedPlan) (early i : ℕ)
     → HoldsHeap header file offset_size call plan → IsIdOf id call early i
     → ObjectIsManaged header call i → P (part_of call.sizes call.objects i)
 

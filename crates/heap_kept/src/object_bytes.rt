@@ -1,6 +1,6 @@
-//! The bytes of an object, by the ID that it was given: `fetch` is lent the file, a header with its address and the ID,
-//! and `fetch_at` the header's place in the file for the header; neither sees what was written. Every block on the way is
-//! tested, but in `unchecked`.
+//! The bytes of an object, by the ID that it was given: `fetch` is lent the file, a header with its address and the
+//! ID, and `fetch_at` the header's place in the file for the header; neither sees what was written. Every block on
+//! the way is tested, but in `unchecked`.
 pub mod unchecked;
 
 ghost use Rattle.std.specs.Prelude.{◌≡◌, ◌+◌, ◌≤◌, ◌++◌, length, take, drop, Ok, IfOk, OnOk, OnErr};
@@ -34,14 +34,14 @@ fn copy_object(place: Place, file: &[u8], found: &mut [u8]) -> Result<usize, For
 }
 
 /// Copies the bytes of the managed object that an ID names into the front of `found`, and answers how many they are.
-/// Refused as `read_managed_object` refuses, which tests every block on the way, and by 13 where they have no room; then
-/// `found` stays as it is.
+/// Refused as `read_managed_object` refuses, which tests every block on the way, and by 13 where they have no room;
+/// then `found` stays as it is.
 ///
-/// Of a heap that our writer wrote, given the header's address that it was written with, and by an ID that it gave, early
-/// or at the end, these are the object's bytes if the header's flags say that direct blocks have a checksum, and the
-/// object is no longer than the header's largest managed object. What was written is not at hand where something is read,
-/// so the clause `kept` says so for every heap of ours that the file may hold, and for every such object of which this is
-/// the ID.
+/// Of a heap that our writer wrote, given the header's address that it was written with, and by an ID that it gave,
+/// early or at the end, these are the object's bytes if the header's flags say that direct blocks have a checksum,
+/// and the object is no longer than the header's largest managed object. What was written is not at hand where
+/// something is read, so the clause `kept` says so for every heap of ours that the file may hold, and for every such
+/// object of which this is the ID.
 pub fn fetch(
     header: &FractalHeapHeader,
     file: &[u8],
@@ -69,13 +69,13 @@ pub fn fetch(
     copy_object(place, file, found)
 }
 
-/// The same by the header at `at` of the file, whose addresses have `offset_size` bytes and whose lengths `length_size`:
-/// it is parsed, and refused as `parse` refuses. What `fetch` answers follows.
+/// The same by the header at `at` of the file, whose addresses have `offset_size` bytes and whose lengths
+/// `length_size`: it is parsed, and refused as `parse` refuses. What `fetch` answers follows.
 ///
-/// Of a file that holds a header and a region of ours, as they were written, given the header's address that the region
-/// was written with, and by an ID that was given, early or at the end, these are the object's bytes if the header's flags
-/// say that direct blocks have a checksum, and the object is no longer than the header's largest managed object: nothing
-/// else of the heap is at hand, neither its header's fields nor its objects.
+/// Of a file that holds a header and a region of ours, as they were written, given the header's address that the
+/// region was written with, and by an ID that was given, early or at the end, these are the object's bytes if the
+/// header's flags say that direct blocks have a checksum, and the object is no longer than the header's largest
+/// managed object: nothing else of the heap is at hand, neither its header's fields nor its objects.
 pub fn fetch_at(
     file: &[u8],
     at: usize,

@@ -8,8 +8,7 @@ use Rattle.std.proofs.lemmas.List.{take_all}
 use Rattle.fields.specs.LittleEndian.{le, value, le_at}
 use Rattle.fields.proofs.LittleEndian.{length-le, value-le, value-append}
 use Rattle.table.specs.Table.{fixed}
-use Rattle.std.specs.Prelude.{slice_index, Ok}
-use Rattle.table.specs.Sizes.{offset_bytes}
+use Rattle.std.specs.Prelude.{slice_index}
 use Rattle.ids.specs.IdTypes.{type_of}
 use Rattle.numbers.specs.Numbers.{bytes_needed}
 use Rattle.numbers.proofs.Bytes.{bytes-fewest}

@@ -56,7 +56,7 @@ fn largest_length(table: DoublingTable, max_managed_object_size: u32) -> u64
 // How many bytes Length has in an ID.
 fn length_bytes(table: DoublingTable, max_managed_object_size: u32) -> u64
     ensures needed { result ≡ length_bytes_in table max_managed_object_size }
-    ensures most { result ≤ 8 }
+    ensures bound { result ≤ 8 }
 {
     bytes_needed(largest_length(table, max_managed_object_size))
 }
@@ -73,18 +73,14 @@ fn split_id(heap_bits: u16, length_bytes: u64, number: u64) -> ManagedId
     }
 }
 
-// The number after the first byte of an ID that has fewer than eight bytes, from its last byte down.
+// The number after the first byte of an ID that has fewer than eight bytes.
 fn short_number(id: &[u8]) -> u64
     requires { (0 < length id.now) × (length id.now < 8) }
     ensures { result ≡ le_at id.now 1 8 }
 {
-    let mut number: u64 = 0;
-    let mut i = id.len();
-    while i > 1 {
-        i -= 1;
-        number = number * BYTE_VALUES + u64::from(id[i]);
-    }
-    number
+    let mut bytes = [0u8; 8];
+    bytes[..id.len() - 1].copy_from_slice(&id[1..]);
+    read_u64_le(&bytes, 0)
 }
 
 // The first eight bytes after byte 0, as one number; IDs of eight bytes, seven after byte 0, are usual.

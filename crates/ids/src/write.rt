@@ -19,7 +19,7 @@ const LENGTH_BYTES: u64 = 2;
 const LENGTH_SPACE: u64 = 1 << (8 * LENGTH_BYTES);
 
 /// Bytes of an ID: Version and Type in one, Offset in as many as a heap offset has in blocks, Length.
-const ID_LENGTH: usize = (1 + BLOCK_OFFSET_BYTES + LENGTH_BYTES) as usize;
+pub const ID_LENGTH: usize = (1 + BLOCK_OFFSET_BYTES + LENGTH_BYTES) as usize;
 
 /// What Offset counts for in the number that an ID is: it stands behind one byte.
 const OFFSET_UNIT: u64 = 1 << 8;

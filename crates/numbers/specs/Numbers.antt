@@ -4,11 +4,11 @@ use Rattle.std.specs.Prelude.{ℕ, zero, suc, ◌-◌, ◌*◌, ◌^◌, ◌≤�
 use Rattle.std.specs.Int.Count.{count_leading_zeros}
 
 -- n, or the largest 64-bit number where n is above it
-abbrev pub saturated : ℕ → ℕ
+abbrev pub saturated : (n : ℕ) → ℕ
 saturated n = min n (2 ^ 64 - 1)
 
 -- the exponent of the largest power of two that is at most v, for v below 2 ^ 64; 0 of 0
-abbrev pub log2 : ℕ → ℕ
+abbrev pub log2 : (v : ℕ) → ℕ
 log2 v = 63 - count_leading_zeros 64 v
 
 -- k is the exponent of the largest power of two that is at most x: the law of `log2`
@@ -23,7 +23,7 @@ bytes_from (suc counts) bytes x =
     elim (nat_lt x (2 ^ (8 * bytes))) [ true ↦ bytes | false ↦ bytes_from counts (suc bytes) x ]
 
 -- how many bytes a number needs: the first count of bytes, from 0 on, that holds it; x bytes hold x
-abbrev pub bytes_needed : ℕ → ℕ
+abbrev pub bytes_needed : (x : ℕ) → ℕ
 bytes_needed x = bytes_from x 0 x
 
 -- so many bytes hold x, and no fewer do: the law of `bytes_needed`

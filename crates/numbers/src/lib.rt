@@ -53,8 +53,8 @@ pub fn log2_floor(v: u64) -> u64
 /// The fewest bytes that hold a number; none hold 0.
 #[tactic(auto, using(crate::proofs::Bytes::fewest))]
 pub fn bytes_needed(x: u64) -> u64
-    ensures value { result ≡ bytes_needed x }
-    ensures most { result ≤ 8 }
+    ensures fewest { result ≡ bytes_needed x }
+    ensures bound { result ≤ 8 }
 {
     if x == 0 {
         return 0;

@@ -15,7 +15,7 @@ use Rattle.plan.specs.Answer.{totals, planned_for}
 use Rattle.open_plan.specs.Open.{IsPlanOf, most_objects}
 
 -- the step of planning, or 12 where the heap space ends at this object
-abbrev pub placed_at : (index : ℕ) → Option (State × ℕ) → Result (State × ℕ) FormatError
+abbrev pub placed_at : (index : ℕ) (step : Option (State × ℕ)) → Result (State × ℕ) FormatError
 placed_at index (Some placed) = Ok placed
 placed_at index None = Err (HeapSpaceExhausted index)
 
@@ -29,7 +29,7 @@ addition offset_size state objects size = do
 
 -- of the sizes that are asked for one after another those that are accepted
 unfoldable pub accepted_sizes : (offset_size : ℕ)
-    → (state : State) (objects : ℕ) (sizes : List ℕ) → List ℕ
+    (state : State) (objects : ℕ) (sizes : List ℕ) → List ℕ
 accepted_sizes offset_size state objects [] = []
 accepted_sizes offset_size state objects (size ∷ sizes) =
     elim (addition offset_size state objects size) [
@@ -39,7 +39,7 @@ accepted_sizes offset_size state objects (size ∷ sizes) =
 
 -- the heap offsets that they are given
 unfoldable pub given_offsets : (offset_size : ℕ)
-    → (state : State) (objects : ℕ) (sizes : List ℕ) → List ℕ
+    (state : State) (objects : ℕ) (sizes : List ℕ) → List ℕ
 given_offsets offset_size state objects [] = []
 given_offsets offset_size state objects (size ∷ sizes) =
     elim (addition offset_size state objects size) [
@@ -49,7 +49,7 @@ given_offsets offset_size state objects (size ∷ sizes) =
 
 -- the state after them
 unfoldable pub state_after : (offset_size : ℕ)
-    → (state : State) (objects : ℕ) (sizes : List ℕ) → State
+    (state : State) (objects : ℕ) (sizes : List ℕ) → State
 state_after offset_size state objects [] = state
 state_after offset_size state objects (size ∷ sizes) =
     elim (addition offset_size state objects size) [
@@ -58,7 +58,7 @@ state_after offset_size state objects (size ∷ sizes) =
     ]
 
 -- what an addition leaves: the plan's totals, all eight, or its refusal
-abbrev pub plan_then : (offset_size : ℕ) → Result (State × ℕ) FormatError
+abbrev pub plan_then : (offset_size : ℕ) (added : Result (State × ℕ) FormatError)
     → Result ManagedPlan FormatError
 plan_then offset_size (Ok (state, offset)) =
     Ok (totals fixed offset_size (end_state fixed offset_size state))

@@ -56,7 +56,7 @@ totals table offset_size state =
     else row_totals table offset_size state (rows_of_root table (block_end state))
 
 -- what a run gives: the plan, or 12 with the index at which the heap space ends
-abbrev pub ran_plan : (offset_size : ℕ) → Result State ℕ → Result ManagedPlan FormatError
+abbrev pub ran_plan : (offset_size : ℕ) (ran : Result State ℕ) → Result ManagedPlan FormatError
 ran_plan offset_size (Ok state) = Ok (totals fixed offset_size (end_state fixed offset_size state))
 ran_plan offset_size (Err index) = Err (HeapSpaceExhausted index)
 
@@ -69,23 +69,23 @@ planned_for sizes offsets blocks offset_size = do
   ran_plan offset_size (run fixed offset_size sizes)
 
 -- a plan's eight numbers
-abbrev pub numbers : ManagedPlan → List ℕ
+abbrev pub numbers : (plan : ManagedPlan) → List ℕ
 numbers plan =
     plan.block_count ∷ plan.region_size ∷ plan.root_rows ∷ plan.root_place ∷ plan.managed_space
     ∷ plan.allocated_space ∷ plan.free_space ∷ plan.allocation_iterator ∷ []
 
 -- the number of an answer: 0, or the refusal's
-abbrev pub planned_number : Result ManagedPlan FormatError → ℕ
+abbrev pub planned_number : (planned : Result ManagedPlan FormatError) → ℕ
 planned_number (Ok plan) = 0
 planned_number (Err error) = (refusal error).number
 
 -- its values: the plan's numbers, or the refusal's pair
-abbrev pub planned_values : Result ManagedPlan FormatError → List ℕ
+abbrev pub planned_values : (planned : Result ManagedPlan FormatError) → List ℕ
 planned_values (Ok plan) = numbers plan
 planned_values (Err error) = (refusal error).first ∷ (refusal error).second ∷ []
 
 -- what a lent list holds after the call: new numbers in front where the plan is accepted, else what
 -- it held
-abbrev pub list_after : Result ManagedPlan FormatError → (new old : List ℕ) → List ℕ
+abbrev pub list_after : (planned : Result ManagedPlan FormatError) (new old : List ℕ) → List ℕ
 list_after (Ok plan) new old = put old 0 new
 list_after (Err error) new old = old

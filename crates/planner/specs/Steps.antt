@@ -34,7 +34,7 @@ abbrev pub open_at : (table : Table) (needed cursor : ℕ) → Option Slot
 open_at table needed cursor = open_in table (heap_space table - cursor) needed cursor
 
 -- where the current block ends, and the next slot begins
-abbrev pub block_end : State → ℕ
+abbrev pub block_end : (state : State) → ℕ
 block_end state = state.start + state.size
 
 -- before the first object: no block, so that nothing fits
@@ -68,14 +68,14 @@ in_new table offset_size state size slot = record {
 
 -- an object in a new block, if there is a slot for it: the state after it and its heap offset
 abbrev pub opened : (table : Table) (offset_size : ℕ)
-    → (state : State) (size : ℕ) → Option Slot → Option (State × ℕ)
+    (state : State) (size : ℕ) (slot : Option Slot) → Option (State × ℕ)
 opened table offset_size state size (Some slot) =
     Some (in_new table offset_size state size slot, slot.start + direct_header table offset_size)
 opened table offset_size state size None = None
 
 -- one object: the state after it and its heap offset, or the heap space ends
 abbrev pub step_of : (table : Table) (offset_size : ℕ)
-    → (state : State) (size : ℕ) → Option (State × ℕ)
+    (state : State) (size : ℕ) → Option (State × ℕ)
 step_of table offset_size state size =
     elim (nat_le (state.fill + size) state.size) [
       | true ↦ Some (filled state size, state.start + state.fill)

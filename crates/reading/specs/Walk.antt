@@ -35,8 +35,8 @@ pub record Taking : Type 0 where
   pub object : (address size start : ℕ) → Result Place FormatError
 
 -- every block as it stands
-abbrev pub as_they_stand : (file : List ℕ) (target len : ℕ) → Taking
-as_they_stand file target len = record {
+abbrev pub unchecked : (file : List ℕ) (target len : ℕ) → Taking
+unchecked file target len = record {
   opened = λ address rows start. Ok tt;
   object = λ address size start. direct_at file address start target len;
 }
@@ -49,6 +49,10 @@ abbrev pub by_child : (child : Option HeapChild)
 by_child (Some (Direct address size start)) direct indirect missing = direct address size start
 by_child (Some (Indirect address rows start)) direct indirect missing = indirect address rows start
 by_child None direct indirect missing = Err missing
+
+-- how many indirect blocks a walk comes to at most: the original's depth counter at the root
+abbrev pub max_depth : ℕ
+max_depth = 64
 
 -- the object below an indirect block of so many rows at this address that begins at heap offset
 -- start, with so many blocks to go, each taken so
@@ -71,10 +75,10 @@ root_by taking table file address rows target len offset_size = do
   _ ← required (not (is_undefined_addr address offset_size)) (UnexpectedEof 1 0)
   if rows == 0
       then taking.object address table.starting_block_size 0
-      else walk_by taking table file offset_size target len 64 address rows 0
+      else walk_by taking table file offset_size target len max_depth address rows 0
 
 -- the same, every block as it stands
-abbrev pub root_walk : (table : DoublingTable) (file : List ℕ)
+abbrev pub root_unchecked : (table : DoublingTable) (file : List ℕ)
     (address rows target len offset_size : ℕ) → Result Place FormatError
-root_walk table file address rows target len offset_size =
-    root_by (as_they_stand file target len) table file address rows target len offset_size
+root_unchecked table file address rows target len offset_size =
+    root_by (unchecked file target len) table file address rows target len offset_size

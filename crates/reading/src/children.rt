@@ -59,7 +59,7 @@ impl DoublingTable {
     /// How many bytes the heap offset that a block stores has: the heap's bits divided by 8 and rounded up.
     #[inline(always)]
     pub fn block_offset_size(self) -> usize
-        ensures value { result ≡ block_offset_size self }
+        ensures bytes { result ≡ block_offset_size self }
         ensures bound { result < 2 ^ 14 }
     {
         (usize::from(self.max_heap_size) + 7) / 8
@@ -69,7 +69,7 @@ impl DoublingTable {
     /// the block's start.
     #[inline(always)]
     pub fn entries_place(self, offset_size: u8) -> usize
-        ensures value { result ≡ entries_place self offset_size }
+        ensures place { result ≡ entries_place self offset_size }
         ensures bound { result < 2 ^ 15 }
     {
         5 + usize::from(offset_size) + self.block_offset_size()

@@ -8,7 +8,8 @@ pub mod walk;
 
 pub use children::HeapChild;
 pub use rows::DoublingTable;
-pub use taking::{AsTheyStand, BlockReader};
+pub use taking::{BlockReader, Unchecked};
+pub use walk::MAX_DEPTH;
 
 /// What is sought below a heap's header, and where: the `len` bytes at the heap offset `target`, in a file whose
 /// addresses have `offset_size` bytes.

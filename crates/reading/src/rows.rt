@@ -8,7 +8,7 @@ ghost use Rattle.reading.specs.Rows.{SpansDouble};
 use numbers::{log2_floor, saturating_mul, saturating_shl};
 
 /// The header's fields that shape the heap, with the format's name after each.
-#[derive(Clone, Copy, Debug, PartialEq, Eq)]
+#[derive(Clone, Copy, Debug, Default, PartialEq, Eq)]
 pub struct DoublingTable {
     /// How many slots a row has: Table Width. The format asks for a power of two; reading takes any number.
     pub table_width: u16,

@@ -42,12 +42,12 @@ pub trait BlockReader {
 
 /// Every block as it stands: none of its fields is tested but an indirect block's signature, which every walk tests.
 #[derive(Clone, Copy, Debug, PartialEq, Eq)]
-pub struct AsTheyStand;
+pub struct Unchecked;
 
-impl BlockReader for AsTheyStand {
-    ghost use Rattle.reading.specs.Walk.{as_they_stand};
+impl BlockReader for Unchecked {
+    ghost use Rattle.reading.specs.Walk.{unchecked};
 
-    ghost taking = { λ _ table file offset_size target len. as_they_stand file target len };
+    ghost taking = { λ _ table file offset_size target len. unchecked file target len };
 
     #[inline(always)]
     fn open(

@@ -1,7 +1,7 @@
 //! From the root block of a heap down to an object's bytes: one walk, whatever is tested of the blocks on the way.
 ghost use Rattle.std.specs.Prelude.{◌≡◌, ◌+◌, ◌≤◌, length, IfOk};
 ghost use Rattle.reading.specs.Blocks.{child_at};
-ghost use Rattle.reading.specs.Walk.{direct_at, walk_by, root_by};
+ghost use Rattle.reading.specs.Walk.{direct_at, max_depth, walk_by, root_by};
 
 use crate::Search;
 use crate::children::HeapChild;
@@ -10,10 +10,13 @@ use fields::convert::{is_undefined_addr, to_usize};
 use fields::{Place, ensure_len};
 use refusals::FormatError;
 
+/// How many indirect blocks a walk comes to at most: the original's counter, 64 at the root and one less at each child.
+pub const MAX_DEPTH: u64 = 64;
+
 impl Search<'_> {
     /// The object in the direct block at `addr` that begins at the heap offset `start`, as the block stands. The target
     /// is never before it; the difference is cut at 0, so that this need not be asked.
-    // Without `inline(always)`, as `object` of `AsTheyStand`: inlined before it was optimized, the walk took a tenth
+    // Without `inline(always)`, as `object` of `Unchecked`: inlined before it was optimized, the walk took a tenth
     // longer.
     pub fn read_from_direct_block(&self, addr: u64, start: u64) -> Result<Place, FormatError>
         ensures placed { result
@@ -36,7 +39,7 @@ impl Search<'_> {
 
     // The child that holds the target, of an indirect block that the walk may go on in. Each kind of walk has a function
     // of its own, with one call, so that it is inlined when it has been optimized. `find_child_at` in its place, which
-    // is inlined before, took 3 to 13 % longer.
+    // is inlined before, took 3 to 24 % longer.
     fn find_child_below<B: BlockReader>(
         &self,
         addr: u64,
@@ -49,9 +52,8 @@ impl Search<'_> {
         self.find_child_at(addr, nrows, start)
     }
 
-    // The object below the indirect root block at `root`: child by child, in a loop over the original's counter, which
-    // is 64 at the root and one less at each child. It is not inlined, so that a direct root, which has no walk, does
-    // not pay for the loop's registers.
+    // The object below the indirect root block at `root`: child by child, in a loop over the original's counter. It is
+    // not inlined, so that a direct root, which has no walk, does not pay for the loop's registers.
     #[inline(never)]
     #[tactic(auto, using(crate::proofs::Walking::walking))]
     fn read_from_indirect_block<B: BlockReader>(
@@ -62,7 +64,7 @@ impl Search<'_> {
     ) -> Result<Place, FormatError>
         ensures walked { result ≡ walk_by (B.taking blocks.now self.now.table self.now.file.now
             self.now.offset_size self.now.target self.now.len) self.now.table self.now.file.now
-            self.now.offset_size self.now.target self.now.len 64 root root_rows 0 }
+            self.now.offset_size self.now.target self.now.len max_depth root root_rows 0 }
         ensures in_file { IfOk result (λ place. place.position + place.length
             ≤ length self.now.file.now) }
     {
@@ -70,7 +72,7 @@ impl Search<'_> {
         // is lent the original.
         let search = *self;
         let (mut block, mut rows, mut start) = (root, root_rows, 0);
-        for _depth in 0..64u64 {
+        for _depth in 0..MAX_DEPTH {
             blocks.open(&search, block, rows, start)?;
             let Some(child) = search.find_child_below::<B>(block, rows, start)? else {
                 return Err(FormatError::UnexpectedEof {

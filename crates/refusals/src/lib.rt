@@ -47,7 +47,7 @@ pub enum FormatError {
     HeaderFieldTooLarge { place: u64, value: u64 },
     #[error("a block's checksum differs: {stored} is stored, {computed} computed")]
     BlockChecksumMismatch { stored: u32, computed: u32 },
-    #[error("the block belongs to another heap or place: {stored} is stored in it, {wanted} wanted")]
+    #[error("a block belongs to another header, or to another place in the heap: {stored} is stored, {wanted} wanted")]
     ForeignBlock { stored: u64, wanted: u64 },
     #[error("{0} is outside the heap: no offset below its end, or no number of rows that a root has")]
     OutsideHeap(u64),

@@ -50,11 +50,11 @@ slot_of walk row offset cursor =
     slot fixed offset_size header (block fixed offset_size header) row offset
     (drop cursor.index walk.starts.now) (site.region_address + cursor.place) cursor.next
 
--- an outcome of a walk from where `out` stands, and `more` bytes behind it, fit into the region
-pub record Fits (walk : Walk) (out : Output) (outcome : Walked) (more : ℕ) : Type 0 where
+-- an outcome of a walk from where `out` stands, and so many bytes `behind` it, fit into the region
+pub record Fits (walk : Walk) (out : Output) (outcome : Walked) (behind : ℕ) : Type 0 where
   pub narrow : walk.site.offset_size ≤ 8
   pub index_in_starts : out.cursor.index ≤ length walk.starts.now
-  pub room : out.cursor.place + length outcome.bytes + more ≤ length out.region.now
+  pub room : out.cursor.place + length outcome.bytes + behind ≤ length out.region.now
   pub addresses_fit : walk.site.region_address + length out.region.now < 2 ^ 64
   pub next_fits : outcome.next < 2 ^ 64
 
@@ -70,11 +70,11 @@ abbrev pub entry_bytes : (offset_size : ℕ) (entry : Option ℕ) → List ℕ
 entry_bytes offset_size (Some address) = le offset_size address
 entry_bytes offset_size None = replicate offset_size 0xFF
 
--- an outcome was written from where `old` stood, and this is its entry
-pub record Wrote (walk : Walk) (old : Output) (outcome : Walked) (written : Option ℕ) (new : Output)
+-- an outcome was written from where `old` stood, and to it leads this `child`
+pub record Wrote (walk : Walk) (old : Output) (outcome : Walked) (child : Option ℕ) (new : Output)
     : Type 0 where
   pub bytes : new.region.now ≡ put old.region.now old.cursor.place outcome.bytes
-  pub entry : entry_bytes walk.site.offset_size written ≡ outcome.entries
+  pub entry : entry_bytes walk.site.offset_size child ≡ outcome.entries
   pub moved : Moved walk old.cursor outcome new.cursor
 
 -- the outcome of some slots was written: their blocks, and then their entries, `from` bytes into

@@ -140,6 +140,8 @@ impl Walk<'_> {
             out.cursor.next += size;
             return Some(address);
         }
+        // A block of two rows fewer fills the slot: a row has four slots, and each row but the
+        // first twice the bytes of the one before.
         Some(self.block(out, row - 2, offset))
     }
 }

@@ -6,7 +6,7 @@ use Rattle.ids.specs.Written.{managed_id}
 use Rattle.ids.proofs.Ids.{id-length}
 use Rattle.ids.specs.Checks.{id_checked}
 use Rattle.fractal_heap.specs.declared.header.FractalHeapHeader.{FractalHeapHeader}
-use Rattle.fractal_heap.specs.Read.{managed_at}
+use Rattle.fractal_heap.specs.Read.{managed_unchecked}
 use Rattle.round_trip.specs.Objects.{object_at}
 
 pub id_written : (s : List ℕ) (o n : ℕ) → length s ≡ 8 → put s 0 (managed_id fixed o n) ≡ managed_id fixed o n
@@ -17,5 +17,5 @@ id_written s o n e =
 
 -- an object is read by the ID that the writer accepts
 pub read-by : (h : FractalHeapHeader) (s : List ℕ) (w o n : ℕ) → id_checked fixed o n 8 ≡ Ok tt
-    → object_at h s w o n ≡ managed_at h s (managed_id fixed o n) w
+    → object_at h s w o n ≡ managed_unchecked h s (managed_id fixed o n) w
 read-by h s w o n e = rw e refl

@@ -9,7 +9,8 @@ use Rattle.round_trip.specs.InFile.{file_with}
 
 -- the file with the region of the plan in it, and then the plan's own header at its address,
 -- lengths of eight bytes
-abbrev pub file_with_both : Site → ManagedPlan → List ℕ → List ℕ → List ℕ → List ℕ
+abbrev pub file_with_both : (site : Site) (plan : ManagedPlan) (sizes objects file : List ℕ)
+    → List ℕ
 file_with_both site plan sizes objects file =
     put (file_with site plan sizes objects file) site.heap_header_address
     (header_spelled (planned_header site plan (length sizes)) site.offset_size 8)

@@ -12,18 +12,19 @@ use Rattle.fractal_heap_write.specs.declared.checks.Lent.{Lent}
 use Rattle.fractal_heap_write.specs.Serialize.{lent_for}
 use Rattle.fractal_heap_write.specs.Answer.{serialized_for}
 
-abbrev pub lent_in : Site → List ℕ → List ℕ → List ℕ → List ℕ → Lent
+-- what is lent to the writer: both lists, the objects, and the file's part
+abbrev pub lent_in : (site : Site) (offsets blocks objects file : List ℕ) → Lent
 lent_in site offsets blocks objects file =
     lent_for offsets blocks objects (drop site.region_address file)
 
 -- what the writer answers for these sizes, with these lists, objects and file lent
-unfoldable pub serialized_in : Site → List ℕ → List ℕ → List ℕ → List ℕ → List ℕ
+unfoldable pub serialized_in : (site : Site) (sizes offsets blocks objects file : List ℕ)
     → Result ManagedPlan FormatError
 serialized_in site sizes offsets blocks objects file =
     serialized_for sizes (lent_in site offsets blocks objects file) site
 
 -- the file with the region of the plan in it
-abbrev pub file_with : Site → ManagedPlan → List ℕ → List ℕ → List ℕ → List ℕ
+abbrev pub file_with : (site : Site) (plan : ManagedPlan) (sizes objects file : List ℕ) → List ℕ
 file_with site plan sizes objects file =
     put file site.region_address (region site plan.root_rows sizes objects)
 

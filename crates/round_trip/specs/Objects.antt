@@ -8,7 +8,7 @@ use Rattle.plan.specs.declared.ManagedPlan.{ManagedPlan}
 use Rattle.region_blocks.specs.declared.Site.{Site}
 use Rattle.fields.specs.declared.place.Place.{Place}
 use Rattle.fractal_heap.specs.declared.header.FractalHeapHeader.{FractalHeapHeader}
-use Rattle.fractal_heap.specs.Read.{managed_at}
+use Rattle.fractal_heap.specs.Read.{managed_unchecked}
 use Rattle.ids.specs.Written.{managed_id}
 use Rattle.ids.specs.Checks.{id_length, id_checked}
 
@@ -47,13 +47,14 @@ fixed_header offset_size root_address root_rows = record {
 }
 
 -- that of the heap of a plan
-abbrev pub root_header : Site → ManagedPlan → FractalHeapHeader
+abbrev pub root_header : (site : Site) (plan : ManagedPlan) → FractalHeapHeader
 root_header site plan =
     fixed_header site.offset_size (site.region_address + plan.root_place) plan.root_rows
 
 -- what the file answers for the object of `size` bytes at the heap offset `offset`, by its ID; in
 -- eight bytes an ID is refused by 16 alone
-abbrev pub object_at : FractalHeapHeader → List ℕ → ℕ → ℕ → ℕ → Result Place FormatError
+abbrev pub object_at : (header : FractalHeapHeader) (file : List ℕ) (offset_size offset size : ℕ)
+    → Result Place FormatError
 object_at header file offset_size offset size = do
   _ ← id_checked fixed offset size (id_length fixed)
-  managed_at header file (managed_id fixed offset size) offset_size
+  managed_unchecked header file (managed_id fixed offset size) offset_size

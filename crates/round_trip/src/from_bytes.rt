@@ -1,5 +1,5 @@
-//! The whole way from bytes: a heap's header and its region are written into a file, each at its place, and an object is
-//! fetched from the file, by the header's place and the object's ID alone, every block on the way tested.
+//! The whole way from bytes: a heap's header and its region are written into a file, each at its place, and an object
+//! is fetched from the file, by the header's place and the object's ID alone, every block on the way tested.
 ghost use Rattle.std.specs.Prelude.{◌≡◌, ◌+◌, ◌^◌, ◌<◌, ◌≤◌, ◌++◌, true, length, drop, slice_index};
 ghost use Rattle.std.specs.Prelude.{IfOk, OnOk, OnErr};
 ghost use Rattle.fields.specs.LittleEndian.{put};
@@ -14,6 +14,8 @@ ghost use Rattle.round_trip.specs.RoundTrip.{came_back};
 
 use crate::by_id::early_id;
 use crate::region::serialize_at;
+use fields::Width;
+use fields::convert::undefined_address;
 use fractal_heap::{FractalHeapHeader, WrittenHeader};
 use heap_kept::object_bytes::fetch_at;
 use plan::ManagedPlan;
@@ -23,6 +25,9 @@ use region_blocks::Site;
 use table::block_sizes::max_managed_object;
 use table::{MAX_DIRECT_BLOCK_SIZE, MAX_HEAP_SIZE_BITS, STARTING_BLOCK_SIZE, TABLE_WIDTH};
 
+/// The file's Size of Lengths, in bytes: in eight every number of a header has room.
+pub const LENGTH_SIZE: u8 = 8;
+
 /// The header of a plan itself, at a site, with so many objects and nothing else.
 pub fn planned_header(site: Site, plan: ManagedPlan, objects: u64) -> FractalHeapHeader
     requires width { legal site.offset_size ≡ true }
@@ -30,11 +35,11 @@ pub fn planned_header(site: Site, plan: ManagedPlan, objects: u64) -> FractalHea
     requires rows_fit { plan.root_rows < 2 ^ 16 }
     ensures { result ≡ planned_header site plan objects }
 {
-    let undefined = u64::MAX >> (64 - 8 * site.offset_size);
+    let undefined = undefined_address(Width::new(site.offset_size).unwrap());
     FractalHeapHeader {
         heap_id_length: 8,
         io_filter_encoded_length: 0,
-        flags: 2,
+        flags: 2, // the direct blocks have checksums
         max_managed_object_size: max_managed_object(site.offset_size) as u32,
         next_huge_object_id: 0,
         btree_huge_objects_address: undefined,
@@ -54,7 +59,7 @@ pub fn planned_header(site: Site, plan: ManagedPlan, objects: u64) -> FractalHea
             max_direct_block_size: MAX_DIRECT_BLOCK_SIZE,
             max_heap_size: MAX_HEAP_SIZE_BITS as u16,
         },
-        start_root_rows: 1,
+        start_root_rows: 1, // no reader heeds it
         root_block_address: site.region_address + plan.root_place,
         current_rows_in_root_indirect_block: plan.root_rows as u16,
         io_filter_information_position: 0,
@@ -63,21 +68,21 @@ pub fn planned_header(site: Site, plan: ManagedPlan, objects: u64) -> FractalHea
     }
 }
 
-// Writes a header into the file at its address, lengths of eight bytes.
+// Writes a header into the file at its address.
 fn write_header_at(
     header: FractalHeapHeader,
     site: Site,
     file: &mut [u8],
 ) -> Result<WrittenHeader, FormatError>
     requires { site.heap_header_address ≤ length file.old }
-    ensures answered { result ≡ header_written header site.offset_size 8
+    ensures answered { result ≡ header_written header site.offset_size LENGTH_SIZE
         (length (drop site.heap_header_address file.old)) }
     ensures written { OnOk result (file.new ≡ put file.old site.heap_header_address
-        (header_spelled header site.offset_size 8)) }
+        (header_spelled header site.offset_size LENGTH_SIZE)) }
 {
     header.write(
         site.offset_size,
-        8,
+        LENGTH_SIZE,
         &mut file[site.heap_header_address as usize..],
     )
 }
@@ -101,8 +106,10 @@ pub fn write_and_fetch_at(
     requires early_in_list { early ≤ length sizes.now }
     requires not_empty { 0 < slice_index sizes.now i }
     requires room { slice_index sizes.now i ≤ length found.old }
-    requires header_in_file { site.heap_header_address + header_length site.offset_size 8 ≤ length file.old }
-    requires header_before { site.heap_header_address + header_length site.offset_size 8 ≤ site.region_address }
+    requires header_in_file { site.heap_header_address + header_length site.offset_size LENGTH_SIZE
+        ≤ length file.old }
+    requires header_before { site.heap_header_address + header_length site.offset_size LENGTH_SIZE
+        ≤ site.region_address }
     ensures answer { result ≡ came_back
         (serialized_in site sizes.now offsets.old blocks.old objects.now file.old)
         (slice_index sizes.now i) }
@@ -125,7 +132,7 @@ pub fn write_and_fetch_at(
         file,
         at,
         site.offset_size,
-        8,
+        LENGTH_SIZE,
         site.heap_header_address,
         &id,
         found,

@@ -1,7 +1,8 @@
 //! The whole way of a list of objects: its region is written into a part of a file, every nonempty object gets its ID
 //! and is read by it. `passing` lets anything happen to the file between writing and reading, so that what is read
 //! has to come from the file. Where nothing happens to it, `round_trip` counts all objects, and `write_and_fetch`
-//! hands out one whose bytes are the object's. `from_bytes` writes the header into the file, too, and fetches by its place.
+//! hands out one whose bytes are the object's. `from_bytes` writes the header into the file, too, and fetches by its
+//! place.
 #![tactic(auto)]
 
 pub mod by_id;

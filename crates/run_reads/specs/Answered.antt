@@ -9,7 +9,7 @@ use Rattle.ids.specs.declared.decode.ManagedId.{ManagedId}
 use Rattle.fields.specs.Places.{place_report}
 use Rattle.fields.specs.declared.place.Place.{Place}
 use Rattle.fractal_heap.specs.Header.{header_at}
-use Rattle.fractal_heap.specs.Read.{id_by, object_by}
+use Rattle.fractal_heap.specs.Read.{id_by, unchecked_by}
 use Rattle.fractal_heap.specs.declared.header.FractalHeapHeader.{FractalHeapHeader}
 use Rattle.run_reads.specs.Head.{kind_in, offset_size_in, length_size_in, read_size_in}
 use Rattle.run_reads.specs.Head.{id_length_in, header_place_in}
@@ -29,7 +29,7 @@ id_of head file id =
 -- a managed object by it
 abbrev pub object_of : (head file id : List ℕ) → Result Place FormatError
 object_of head file id =
-    object_by file (header_place_in head) (offset_size_in head) (length_size_in head) id
+    unchecked_by file (header_place_in head) (offset_size_in head) (length_size_in head) id
     (read_size_in head)
 
 -- a tiny object

@@ -26,6 +26,6 @@ abbrev pub is_answer : (head : List ℕ) (answer : Answer) → Bool
 is_answer head answer = is_recorded head answer.number (answer.first ∷ answer.second ∷ [])
 
 -- what parsing gave: of an accepted header number 0 and its numbers
-abbrev pub is_parsed : (head : List ℕ) → Result FractalHeapHeader FormatError → Bool
+abbrev pub is_parsed : (head : List ℕ) (parsed : Result FractalHeapHeader FormatError) → Bool
 is_parsed head (Ok header) = is_recorded head 0 (parsed_numbers header)
 is_parsed head (Err error) = is_answer head (refusal error)

@@ -4,9 +4,9 @@
 //! every kind of place and width. The file stdout beside src/ holds what the original answers.
 #![tactic(auto)]
 
-use checksum::jenkins_lookup3;
-use checksum::mixing::{State, final_mix, mix};
+use checksum::mixing::{final_mix, mix};
 use checksum::unmixing::{unfinal_mix, unmix};
+use checksum::{MixState, jenkins_lookup3};
 use fields::convert::is_undefined_addr;
 use fields::stores::{write_offset, write_undef_offset};
 use fields::{read_length, read_offset};
@@ -65,29 +65,29 @@ impl fmt::Display for InHex {
 const PUBLISHED: [&str; 2] = ["", "Four score and seven years ago"];
 
 // States that are mixed.
-const STATES: [State; 6] = [
-    State { a: 0, b: 0, c: 0 },
-    State {
+const STATES: [MixState; 6] = [
+    MixState { a: 0, b: 0, c: 0 },
+    MixState {
         a: 1,
         b: 0,
         c: 0x8000_0000,
     },
-    State {
+    MixState {
         a: 0xFFFF_FFFF,
         b: 0xFFFF_FFFF,
         c: 0xFFFF_FFFF,
     },
-    State {
+    MixState {
         a: 0xDEAD_BEEF,
         b: 0xDEAD_BEEF,
         c: 0xDEAD_BEEF,
     },
-    State {
+    MixState {
         a: 0x0123_4567,
         b: 0x89AB_CDEF,
         c: 0xFEDC_BA98,
     },
-    State {
+    MixState {
         a: 0x9E37_79B9,
         b: 0x7F4A_7C15,
         c: 0xF39C_C060,
@@ -96,7 +96,7 @@ const STATES: [State; 6] = [
 
 // A state's three words.
 #[derive(Clone, Copy)]
-struct Words(State);
+struct Words(MixState);
 
 impl fmt::Display for Words {
     fn fmt<W: fmt::Write>(&self, f: &mut fmt::Formatter<W>) -> fmt::Result {
@@ -106,29 +106,29 @@ impl fmt::Display for Words {
 }
 
 // The i-th 12 bytes, or those that are left, as three words.
-fn words_at(bytes: &[u8], i: usize) -> State {
+fn words_at(bytes: &[u8], i: usize) -> MixState {
     let mut group = [0u8; 12];
     let behind = bytes.get(i.saturating_mul(12)..).unwrap_or(b"");
     for (to, from) in group.iter_mut().zip(behind) {
         *to = *from;
     }
-    State {
+    MixState {
         a: u32::from_le_bytes([group[0], group[1], group[2], group[3]]),
         b: u32::from_le_bytes([group[4], group[5], group[6], group[7]]),
         c: u32::from_le_bytes([group[8], group[9], group[10], group[11]]),
     }
 }
 
-fn add(s: State, t: State) -> State {
-    State {
+fn add(s: MixState, t: MixState) -> MixState {
+    MixState {
         a: s.a.wrapping_add(t.a),
         b: s.b.wrapping_add(t.b),
         c: s.c.wrapping_add(t.c),
     }
 }
 
-fn take(s: State, t: State) -> State {
-    State {
+fn take(s: MixState, t: MixState) -> MixState {
+    MixState {
         a: s.a.wrapping_sub(t.a),
         b: s.b.wrapping_sub(t.b),
         c: s.c.wrapping_sub(t.c),
@@ -205,7 +205,7 @@ impl<'a, R: Print> Runner<'a, R> {
         let rt = self.rt;
         let bytes = text.as_bytes();
         let first = 0xDEAD_BEEFu32.wrapping_add((bytes.len() as u64 % 0x1_0000_0000) as u32);
-        let mut s = State {
+        let mut s = MixState {
             a: first,
             b: first,
             c: first,

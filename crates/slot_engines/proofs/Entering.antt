@@ -24,7 +24,6 @@ pub record OnWay (offset place base x left : ℕ) : Type 0 where
   pub rest : slice_get (way fixed offset) place ≡ slice_get (way_in fixed fuel base x) left
 
 pub way_start : (offset place : ℕ) → offset < 2 ^ 40 → OnWay offset place 0 offset place
-unfolding way
 way_start offset place h = record { heap = h; sum = omega arith; fuel = 40; enough = h; rest = refl }
 
 module _ {offset place base x left : ℕ} (I : OnWay offset place base x left) where
@@ -97,7 +96,8 @@ pub entered_above : (offset place : ℕ) → 2 ^ 40 ≤ offset
     → ◌≡◌ {A = Result (Option EnteredBlock) FormatError} (Err (OutsideHeap offset)) (entered_in fixed offset place)
 entered_above offset place l = grind (arith, nat_tests)
 
-module _ {offset place base x left : ℕ} (I : OnWay offset place base x left) {at : TableSlot} (e : at ≡ table_slot fixed x) where
+module _ {offset place base x left : ℕ} (I : OnWay offset place base x left)
+    {at : TableSlot} (e : at ≡ table_slot fixed x) where
   pub entered_none : true ≡ nat_le (row_bits fixed at.row) 16
       → ◌≡◌ {A = Result (Option EnteredBlock) FormatError} (Ok None) (entered_in fixed offset place)
   entered_none d = told offset place None I.heap (way_done I (direct-slot x e d))

@@ -12,7 +12,8 @@ use Rattle.refusals.specs.declared.FormatError.{FormatError}
 use Rattle.table.specs.Table.{Table, fixed, row_bits, row_offset, row_of, place_of, max_rows}
 use Rattle.table.specs.Slots.{Direct, own, inner, slot_start}
 use Rattle.table.specs.declared.Slot.{Slot}
-use Rattle.table.proofs.Rows.{row, row-lo, row_up, row_lt, row-of-is, row-mono, heap-rows, top-row, slot-start-is, slot-rows}
+use Rattle.table.proofs.Rows.{row, row-lo, row_up, row_lt, row-of-is, row-mono, heap-rows, top-row, slot-start-is}
+use Rattle.table.proofs.Rows.{slot-rows}
 use Rattle.table_laws.specs.Laws.{IsTable}
 use Rattle.table_laws.proofs.Format.{heap-span}
 use Rattle.slot_walk.specs.Blocks.{IsNested}
@@ -166,14 +167,14 @@ module _ (t : Table) (T : IsTable t) where
       ]
 
   way-leads : (x : ℕ) → x < 2 ^ t.heap_bits → WayLeads t x
-  unfolding way
   way-leads x h =
       let span = heap-span t T.row_in_heap in
       let L = led-by t.heap_bits x (max_rows t) 0 x (omega arith) (omega arith) h h in
       let R = reached L.leads in
       let H = holds L.leads in
       let D : Direct t (max_rows t) L.slot.start L.slot.size =
-      subst (λ (s : ℕ). Direct t (max_rows t) s L.slot.size) (let e : R.rest ≡ L.slot.start = omega (arith, R.sum_is) in e)
+      subst (λ (s : ℕ). Direct t (max_rows t) s L.slot.size)
+      (let e : R.rest ≡ L.slot.start = omega (arith, R.sum_is) in e)
       R.direct in
       subst (Leads t x (max_rows t) 0 (way t x)) (holds-is T x D (omega arith) H.0 H.1) L.leads
 
@@ -187,11 +188,12 @@ pub fixed-leads : (x place : ℕ) (r : Result (Option EnteredBlock) FormatError)
 fixed-leads x place (Ok b) e = ways-lead fixed fixed-is-table x (grind (arith, nat_tests))
 fixed-leads x place (Err f) e = tt
 
-pub fixed-most : (x place : ℕ) → 7 ≤ place → (r : Result (Option EnteredBlock) FormatError) → r ≡ entered_in fixed x place
+pub fixed-seven : (x place : ℕ) → 7 ≤ place → (r : Result (Option EnteredBlock) FormatError)
+    → r ≡ entered_in fixed x place
     → IfOk r (λ block. block ≡ None)
-fixed-most x place l (Ok b) e =
+fixed-seven x place l (Ok b) e =
     let h : x < 2 ^ 40 = grind (arith, nat_tests) in
-    let is : b ≡ slice_get (way fixed x) place = grind (arith, nat_tests) in
-    is ∙ slice_get_past (way fixed x) place
+    let block : b ≡ slice_get (way fixed x) place = grind (arith, nat_tests) in
+    block ∙ slice_get_past (way fixed x) place
     (omega (arith, depth 8 eight-enough (ways-lead fixed fixed-is-table x h)))
-fixed-most x place l (Err f) e = tt
+fixed-seven x place l (Err f) e = tt

@@ -20,10 +20,12 @@ agreed (Ok one) (Ok other) = nat_eq one.start other.start && nat_eq one.size oth
 agreed (Ok one) (Err refusal) = false
 agreed (Err refusal) located = false
 
--- below the heap's end both engines name a slot, and it is the same; from there on both refuse by the same
+-- below the heap's end both engines name a slot, and it is the same; from there on both refuse by
+-- the same
 pub record Agree (table : Table) (offset : ℕ) : Type 0 where
   pub inside : offset < heap_space table
-      → (slot : Slot) × (counted_slot table offset ≡ Ok slot) × (located_slot table offset ≡ Ok slot)
+      → (slot : Slot) × (counted_slot table offset ≡ Ok slot)
+      × (located_slot table offset ≡ Ok slot)
   pub outside : heap_space table ≤ offset
       → (counted_slot table offset ≡ Err (OutsideHeap offset))
       × (located_slot table offset ≡ Err (OutsideHeap offset))

@@ -1,6 +1,6 @@
 -- The way to an offset's slot: the indirect blocks that hold it, from the root's child down.
-use Rattle.std.specs.Prelude.{ℕ, zero, suc, ◌+◌, ◌-◌, ◌*◌, ◌^◌, ◌≤◌, ◌<◌, ◌≡◌, true, false, List, [], ◌∷◌}
-use Rattle.std.specs.Prelude.{Option, Result, Ok, Err}
+use Rattle.std.specs.Prelude.{ℕ, zero, suc, ◌+◌, ◌-◌, ◌*◌, ◌^◌, ◌≤◌, ◌<◌, ◌≡◌, true, false}
+use Rattle.std.specs.Prelude.{List, [], ◌∷◌, Option, Result, Ok, Err}
 use Rattle.std.specs.Prelude.{nat_le, nat_lt, if◌then◌else◌}
 use Rattle.std.specs.List.{slice_get}
 use Rattle.refusals.specs.declared.FormatError.{FormatError}
@@ -11,8 +11,8 @@ use Rattle.table.specs.declared.Slot.{Slot}
 use Rattle.table_laws.specs.Laws.{IsTable}
 use Rattle.slot_engines.specs.declared.way.EnteredBlock.{EnteredBlock}
 
--- those in the block at `base`, so many levels deep, the offset lying so many bytes past its start: the one whose slot
--- holds it, and those on the way in there
+-- those in the block at `base`, so many levels deep, the offset lying so many bytes past its start:
+-- the one whose slot holds it, and those on the way in there
 unfoldable pub way_in : (table : Table) (levels base past : ℕ) → List EnteredBlock
 way_in table zero base past = []
 way_in table (suc levels) base past =
@@ -28,19 +28,21 @@ way_in table (suc levels) base past =
     ]
 
 -- from the root on; each level leaves fewer bytes, so there are no more than a heap offset has bits
-unfoldable pub way : (table : Table) (offset : ℕ) → List EnteredBlock
+abbrev pub way : (table : Table) (offset : ℕ) → List EnteredBlock
 way table offset = way_in table table.heap_bits 0 offset
 
 -- the one of a place on the way, if it is as long
-abbrev pub entered_in : (table : Table) (offset place : ℕ) → Result (Option EnteredBlock) FormatError
+abbrev pub entered_in : (table : Table) (offset place : ℕ)
+    → Result (Option EnteredBlock) FormatError
 entered_in table offset place =
     if nat_lt offset (heap_space table)
     then Ok (slice_get (way table offset) place)
     else Err (OutsideHeap offset)
 
--- by the format, in a block of so many rows at `base`: to reach the direct slot that holds the offset these blocks are
--- entered, one after another. It is a slot of a direct row, and none is entered; or the block in a slot of a later row
--- is, which holds the offset and lies inside the block at `base`, and the others are entered in there
+-- by the format, in a block of so many rows at `base`: to reach the direct slot that holds the
+-- offset these blocks are entered, one after another. It is a slot of a direct row, and none is
+-- entered; or the block in a slot of a later row is, which holds the offset and lies inside the
+-- block at `base`, and the others are entered in there
 pub data Leads (table : Table) (offset : ℕ) :
     (rows base : ℕ) (entered : List EnteredBlock) (slot : Slot) → Type 0 where
   ends : {rows base : ℕ} {slot : Slot} (row col : ℕ) → row < rows

@@ -11,12 +11,12 @@ use table::Slot;
 
 /// What each engine answers.
 #[derive(Clone, Copy)]
-pub struct Answers {
+pub struct EngineAnswers {
     pub counted: Result<Slot, FormatError>,
     pub located: Result<Slot, FormatError>,
 }
 
-impl Answers {
+impl EngineAnswers {
     /// Whether both engines name a slot, and the same: two refusals are no agreement.
     pub fn agree(&self) -> bool
         ensures { result ≡ agreed self.now.counted self.now.located }
@@ -29,12 +29,12 @@ impl Answers {
 }
 
 /// Both engines' answers for a heap offset: they agree on each offset below the heap's end, and on no other.
-pub fn ask_both(offset: u64) -> Answers
+pub fn ask_both(offset: u64) -> EngineAnswers
     ensures counted { result.counted ≡ counted_slot fixed offset }
     ensures located { result.located ≡ located_slot fixed offset }
     ensures agree { agreed result.counted result.located ≡ nat_lt offset (heap_space fixed) }
 {
-    Answers {
+    EngineAnswers {
         counted: count_to(offset),
         located: locate(offset),
     }

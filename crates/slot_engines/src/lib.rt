@@ -10,8 +10,10 @@ ghost use Rattle.std.specs.Prelude.{◌≡◌};
 ghost use Rattle.table.specs.Table.{fixed};
 ghost use Rattle.slot_engines.specs.Engines.{located_slot, EnginesAgree};
 
+pub use asking::EngineAnswers;
 use refusals::FormatError;
 use table::{MAX_HEAP_SPACE, Slot, slot_places};
+pub use way::EnteredBlock;
 
 /// The direct slot of a heap offset, by descent: its heap offset and its bytes. An offset at or above 2^40 is refused
 /// by `OutsideHeap`.

@@ -20,9 +20,9 @@ pub struct EnteredBlock {
 /// offset; none where the way is shorter. By the format each lies inside the one before, the last has the slot in one of
 /// its direct rows, and there are at most seven. An offset at or above 2^40 is refused by `OutsideHeap`.
 pub fn entered(offset: u64, place: u64) -> Result<Option<EnteredBlock>, FormatError>
-    ensures value { result ≡ entered_in fixed offset place }
+    ensures block { result ≡ entered_in fixed offset place }
     ensures leads { OnOk result (WayLeads fixed offset) }
-    ensures most { 7 ≤ place → IfOk result (λ block. block ≡ None) }
+    ensures seven_at_most { 7 ≤ place → IfOk result (λ block. block ≡ None) }
 {
     if offset >= MAX_HEAP_SPACE {
         return Err(FormatError::OutsideHeap(offset));

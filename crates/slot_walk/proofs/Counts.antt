@@ -11,7 +11,7 @@ use Rattle.table.specs.Slots.{Direct, own, inner}
 use Rattle.table_laws.specs.Laws.{IsTable}
 use Rattle.table_laws.specs.Count.{count}
 use Rattle.table_laws.proofs.Counting.{count-ext, count_none, count-or, count-interval}
-use Rattle.slot_walk.specs.Walk.{sizes, of_size, of_sizes, bytes_of}
+use Rattle.slot_walk.specs.HeapOrder.{sizes, of_size, of_sizes, bytes_of}
 use Rattle.slot_walk.specs.Laws.{SlotsOfSize, SlotsCounted, CountsFill}
 use Rattle.slot_walk.proofs.Rows.{pow-same}
 use Rattle.slot_walk.proofs.Sums.{sizes-sum}
@@ -89,7 +89,7 @@ module _ (s : ℕ) (ss : List ℕ) where
 -- a size of the table
 record Sized (b k z : ℕ) : Type 0 where
   bits : ℕ
-  is : z ≡ 2 ^ bits
+  size_is : z ≡ 2 ^ bits
   lo : b ≤ bits
   hi : bits < b + k
 
@@ -104,18 +104,19 @@ unfolding sum
 bytes-all b k a [] h = bytes-none b k
 bytes-all b k a (y ∷ ys) h =
     let S = h a y (now refl refl) in
-    bytes_one y ys b k S.bits S.is S.lo S.hi
+    bytes_one y ys b k S.bits S.size_is S.lo S.hi
     ∙ ap (λ (v : ℕ). y + v) (bytes-all b k (a + y) ys (λ s z m. h s z (after m)))
 
 direct-sized : (t : Table) (k : ℕ) {n s z : ℕ} → t.direct_bits < t.start_bits + k → Direct t n s z
     → Sized t.start_bits k z
 direct-sized t k h (own r c l d u e f) =
-    record { bits = t.start_bits + (r - 1); is = f; lo = omega arith; hi = omega arith }
+    record { bits = t.start_bits + (r - 1); size_is = f; lo = omega arith; hi = omega arith }
 direct-sized t k h (inner r c s' l d u e D) = direct-sized t k h D
 
 pub counts-fill : CountsFill
 counts-fill t T k n h =
-    bytes-all t.start_bits k 0 (sizes t n) (λ s z m. direct-sized t k h (among-direct t T.start_in_direct T.row_in_indirect n m))
+    bytes-all t.start_bits k 0 (sizes t n) (λ s z m.
+    direct-sized t k h (among-direct t T.start_in_direct T.row_in_indirect n m))
     ∙ sizes-sum t T.start_in_direct T.row_in_indirect n
 
 -- ---- of the format's slots there are as many

@@ -11,7 +11,7 @@ use Rattle.table.specs.Slots.{Direct, own, inner}
 use Rattle.table.specs.declared.Slot.{Slot}
 use Rattle.table.proofs.Rows.{row}
 use Rattle.slot_walk.specs.Laws.{Listed, SlotsListed}
-use Rattle.slot_walk.specs.Walk.{copies, slot_sizes, row_sizes, sizes, slots_from, slots, Chain, none, more}
+use Rattle.slot_walk.specs.HeapOrder.{copies, slot_sizes, row_sizes, sizes, slots_from, slots, Chain, none, more}
 use Rattle.slot_walk.proofs.Sums.{slot-own, slot-block, block-rows, sizes-sum, slot-sum, row-sum}
 
 -- a slot of z bytes at s is among slots of the given sizes that follow each other from a on

@@ -35,6 +35,6 @@ fixed_permitted = record {
   start = refl;
   largest = refl;
   heap = omega arith;
-  most = omega arith;
+  direct_in_heap = omega arith;
   table = fixed-is-table;
 }

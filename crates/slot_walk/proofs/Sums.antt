@@ -8,7 +8,7 @@ use Rattle.numbers.specs.Sums.{sum}
 use Rattle.numbers.proofs.Sums.{sum-append}
 use Rattle.table.specs.Table.{Table, row_bits, row_offset}
 use Rattle.table.proofs.Rows.{row, slot-rows}
-use Rattle.slot_walk.specs.Walk.{copies, slot_sizes, row_sizes, block_sizes, sizes}
+use Rattle.slot_walk.specs.HeapOrder.{copies, slot_sizes, row_sizes, block_sizes, sizes}
 
 pub sum-copies : (n : ℕ) (xs : List ℕ) → sum (copies n xs) ≡ n * sum xs
 unfolding copies sum
@@ -20,7 +20,6 @@ sum-copies (suc n) xs = omega (arith, sum-append xs (copies n xs), sum-copies n 
 module _ (t : Table) where
   module _ (i j : ℕ → List ℕ) where
     slot_ext : (r : ℕ) → i (r - t.width_bits) ≡ j (r - t.width_bits) → slot_sizes t i r ≡ slot_sizes t j r
-    unfolding slot_sizes
     slot_ext r h = ap (λ (y : List ℕ). if nat_le (row_bits t r) t.direct_bits then 2 ^ row_bits t r ∷ [] else y) h
 
     rows_ext : (r k : ℕ) → ((m : ℕ) → m < r + k → i m ≡ j m) → row_sizes t i r k ≡ row_sizes t j r k
@@ -42,7 +41,7 @@ module _ (t : Table) where
 
   -- a block is its rows, whose indirect slots are blocks
   pub block-rows : (n : ℕ) → sizes t n ≡ row_sizes t (sizes t) 0 n
-  unfolding sizes block_sizes row_sizes
+  unfolding block_sizes row_sizes
   block-rows zero = refl
   block-rows (suc n) =
       rows_ext (block_sizes t n) (sizes t) 0 (suc n) (λ m l. levels n m m (omega arith) (omega arith))
@@ -50,11 +49,9 @@ module _ (t : Table) where
   -- ---- a slot: its own block, or the block that it opens
 
   pub slot-own : (r : ℕ) → row_bits t r ≤ t.direct_bits → slot_sizes t (sizes t) r ≡ 2 ^ row_bits t r ∷ []
-  unfolding slot_sizes
   slot-own r l = grind (arith, nat_tests)
 
   pub slot-block : (r : ℕ) → t.direct_bits < row_bits t r → slot_sizes t (sizes t) r ≡ sizes t (r - t.width_bits)
-  unfolding slot_sizes
   slot-block r l = grind (arith, nat_tests)
 
 -- ---- rows fill their block
@@ -62,7 +59,7 @@ module _ (t : Table) where
 module _ (t : Table) (g : t.start_bits ≤ t.direct_bits) (w : t.width_bits + t.start_bits ≤ suc t.direct_bits) where
   slot-sum-by : (r : ℕ) → sum (sizes t (r - t.width_bits)) ≡ row_offset t (r - t.width_bits)
       → sum (slot_sizes t (sizes t) r) ≡ 2 ^ row_bits t r
-  unfolding slot_sizes sum
+  unfolding sum
   slot-sum-by r h = grind (arith, nat_tests, h, slot-rows t r g w)
 
   rows-sum-by : (r k : ℕ) → ((m : ℕ) → m < r + k → sum (sizes t m) ≡ row_offset t m)

@@ -6,7 +6,8 @@ use Rattle.std.proofs.Math.Pow.{pow_mono}
 use Rattle.std.proofs.Math.ListN.{get_or-eq_default}
 use Rattle.std.proofs.lemmas.Bool.{cases_lt}
 use Rattle.std.proofs.lemmas.Bool.Decides.{nat_tests}
-use Rattle.std.proofs.lemmas.List.{set-set, set-get_or, get_or-set_same, get_or-set_other, get_or-replicate, length-replicate, ext_get_or}
+use Rattle.std.proofs.lemmas.List.{set-set, set-get_or, get_or-set_same, get_or-set_other, get_or-replicate}
+use Rattle.std.proofs.lemmas.List.{length-replicate, ext_get_or}
 use Rattle.std.proofs.lemmas.Nat.{pow_pos}
 use Rattle.std.specs.Prelude.{slice_index, Ok, Err, Some, None}
 use Rattle.refusals.specs.declared.FormatError.TheVariants.{OutsideHeap}
@@ -15,8 +16,8 @@ use Rattle.table.specs.Table.{Table, row_bits, row_offset, max_rows}
 use Rattle.table.proofs.Rows.{row, row-mono, slot-rows}
 use Rattle.table_laws.specs.Laws.{IsTable}
 use Rattle.table_laws.proofs.Format.{heap-span}
-use Rattle.slot_walk.specs.Walk.{slot_sizes, sizes, of_size, of_sizes, bytes_of}
-use Rattle.slot_walk.specs.Blocks.{IsNested, RowSlot}
+use Rattle.slot_walk.specs.HeapOrder.{slot_sizes, sizes, of_size, of_sizes, bytes_of}
+use Rattle.slot_walk.specs.Blocks.{IsNested}
 use Rattle.slot_walk.specs.Counting.{Tallied, CountBlock, BlockCounted, slot_counts}
 use Rattle.slot_walk.specs.Counting.{heap_rows_end}
 use Rattle.slot_walk.specs.Laws.{SlotsOfSize, FormatCounts}
@@ -25,8 +26,9 @@ use Rattle.slot_walk.proofs.Levels.{nested-fewer}
 use Rattle.slot_walk.proofs.Sums.{slot-own, slot-block, slot-sum}
 use Rattle.slot_walk.proofs.Counts.{of-size-append, of-size-one, of-size-none, of-size-le, of-sizes-length}
 use Rattle.slot_walk.proofs.Counts.{of-sizes-at, counts-fill, slots-counted}
-use Rattle.slot_walk.proofs.Walking.{AtRow, InRow, rows_are, walk_start, walk_end, row_start, row-end, row_in, next_small}
-use Rattle.slot_walk.proofs.Walking.{slot_in, slot_next, slot_done, direct-bits, deep-bits}
+use Rattle.slot_walk.proofs.Walking.{AtRow, InRow, rows_are, walk_start, walk_end, row_start, row-end, row_in}
+use Rattle.slot_walk.proofs.Walking.{next_small}
+use Rattle.slot_walk.proofs.Walking.{RowSlot, slot_in, slot_next, slot_done, direct-bits, deep-bits}
 use Rattle.slot_walk.proofs.Walking.{slot-is-block}
 
 -- a slot of the k-th size, likewise
@@ -38,35 +40,41 @@ pub record CountSlot (table : Table) (levels at size k : ℕ) (counts : List ℕ
 
 -- its slots counted in, whatever row it is of
 pub record SlotCounted (table : Table) (size : ℕ) (before after : List ℕ) : Type 0 where
-  pub is : (row : ℕ) → size ≡ 2 ^ row_bits table row
+  pub at_any_row : (row : ℕ) → size ≡ 2 ^ row_bits table row
       → Tallied table (slot_sizes table (sizes table) row) before after
 
 -- what the loops keep, l being the counts at the block's start and c those now
 pub record Kept (t : Table) (l c : List ℕ) (here : ℕ) (whole left : List ℕ) : Type 0 where
   pub places : length c ≡ length l
   pub up_to_bytes : (k : ℕ) → slice_index c k ≤ here
-  pub each : (k : ℕ) → k < length l
-      → slice_index l k + of_size (2 ^ (t.start_bits + k)) whole ≡ slice_index c k + of_size (2 ^ (t.start_bits + k)) left
+  pub each_size : (k : ℕ) → k < length l
+      → slice_index l k + of_size (2 ^ (t.start_bits + k)) whole
+      ≡ slice_index c k + of_size (2 ^ (t.start_bits + k)) left
 
 module _ {t : Table} where
   kept-all : {l : List ℕ} {a : ℕ} → ((k : ℕ) → slice_index l k ≤ a) → (whole : List ℕ) → Kept t l l a whole whole
-  kept-all h whole = record { places = refl; up_to_bytes = h; each = λ k u. refl }
+  kept-all h whole = record { places = refl; up_to_bytes = h; each_size = λ k u. refl }
 
   kept_slot : (l c r xs whole left : List ℕ) (here size : ℕ) → Kept t l c here whole (xs ++ left) → Tallied t xs c r
       → sum xs ≡ size → Kept t l r (here + size) whole left
   kept_slot l c r xs whole left here size K T e = record {
     places = T.places ∙ K.places;
     up_to_bytes = still;
-    each = λ k u.
+    each_size = λ k u.
         let d = of-size-append (2 ^ (t.start_bits + k)) xs left in
-        omega (arith, K.places, K.each k u, T.each k (omega (arith, K.places)));
+        omega (arith, K.places, K.each_size k u, T.each_size k (omega (arith, K.places)));
   }
     where
       still : (k : ℕ) → slice_index r k ≤ here + size
       still k =
           elim (cases_lt k (length c)) [
             | inl u ↦
-                omega (arith, T.each k u, K.up_to_bytes k, of-size-le (2 ^ (t.start_bits + k)) xs (pow_pos (t.start_bits + k)))
+                omega (
+                  arith,
+                  T.each_size k u,
+                  K.up_to_bytes k,
+                  of-size-le (2 ^ (t.start_bits + k)) xs (pow_pos (t.start_bits + k)),
+                )
             | inr u ↦
                 let z : slice_index r k ≡ 0 = get_or-eq_default r 0 {n = k} (omega (arith, T.places)) in
                 omega arith
@@ -74,7 +82,7 @@ module _ {t : Table} where
 
   kept-end : {l c whole : List ℕ} {here : ℕ} → Kept t l c here whole [] → Tallied t whole l c
   unfolding of_size
-  kept-end K = record { places = K.places; each = λ k u. omega (arith, K.each k u) }
+  kept-end K = record { places = K.places; each_size = λ k u. omega (arith, K.each_size k u) }
 
 -- before a row, with the size's place among the sizes
 pub record Rows (t : Table) (l c : List ℕ) (levels a e here size next place next_place : ℕ) : Type 0 where
@@ -147,7 +155,7 @@ module _ {t : Table} {levels a e : ℕ} where
   pub rows_done : {l c : List ℕ} {here size next place next_place : ℕ}
       → Rows t l c levels a e here size next place next_place → e ≤ here → BlockCounted t a e l c
   rows_done {l} {c} B u = record {
-    is = λ n f.
+    at_any_rows = λ n f.
         subst (λ (k : ℕ). Tallied t (sizes t k) l c) (rows_are B.at.block n f) (kept-end (walk_end B.at u));
   }
 
@@ -159,7 +167,8 @@ module _ {t : Table} {levels a e : ℕ} where
           let i = I.go l A in
           slot_done i some (Kept t l r (here + size)) (here + size) refl
           (λ left K.
-          kept_slot l c r (slot_sizes t (sizes t) i.row) (sizes t i.block.rows) left here size K (S.is i.row i.size_is)
+          kept_slot l c r (slot_sizes t (sizes t) i.row) (sizes t i.block.rows) left here size K
+          (S.at_any_row i.row i.size_is)
           (slot-sum t g w i.row ∙ sym i.size_is));
     }
 
@@ -170,10 +179,10 @@ module _ {t : Table} where
     pub block-counted : {a z : ℕ} {l r : List ℕ} → 2 ^ t.direct_bits < z → BlockCounted t a (a + z) l r
         → SlotCounted t z l r
     block-counted {a} {z} {l} {r} d B = record {
-      is = λ n e.
+      at_any_row = λ n e.
           let b = deep-bits t z n e d in
           subst (λ (y : List ℕ). Tallied t y l r) (sym (slot-block t n b))
-          (B.is (n - t.width_bits) (omega (arith, slot-rows t n g w b)));
+          (B.at_any_rows (n - t.width_bits) (omega (arith, slot-rows t n g w b)));
     }
 
     pub block-asked : {levels a z k : ℕ} {l : List ℕ} → 2 ^ t.direct_bits < z → CountSlot t levels a z k l
@@ -191,14 +200,15 @@ module _ {t : Table} where
 
     direct-counted : SlotCounted t z l (set l p (slice_index l p + 1))
     direct-counted = record {
-      is = λ n e.
+      at_any_row = λ n e.
           subst (λ (y : List ℕ). Tallied t y l (set l p (slice_index l p + 1)))
           (sym (slot-own t n (direct-bits t z n e d) ∙ ap (λ (y : ℕ). y ∷ []) (sym e)))
-          (record { places = length-set l p (slice_index l p + 1); each = each });
+          (record { places = length-set l p (slice_index l p + 1); each_size = counted_in });
     }
       where
         other : (k : ℕ) → (k ≡ p → ⊥)
-            → slice_index (set l p (slice_index l p + 1)) k ≡ slice_index l k + of_size (2 ^ (t.start_bits + k)) (z ∷ [])
+            → slice_index (set l p (slice_index l p + 1)) k
+            ≡ slice_index l k + of_size (2 ^ (t.start_bits + k)) (z ∷ [])
         other k h =
             let c = of-size-none z (2 ^ (t.start_bits + k))
             (λ q. h (omega (arith, pow-same (t.start_bits + k) (t.start_bits + p) (sym q ∙ S.nth)))) in
@@ -206,9 +216,10 @@ module _ {t : Table} where
             get_or-set_other l p k (slice_index l p + 1) 0 h in
             omega arith
 
-        each : (k : ℕ) → k < length l
-            → slice_index (set l p (slice_index l p + 1)) k ≡ slice_index l k + of_size (2 ^ (t.start_bits + k)) (z ∷ [])
-        each k v =
+        counted_in : (k : ℕ) → k < length l
+            → slice_index (set l p (slice_index l p + 1)) k
+            ≡ slice_index l k + of_size (2 ^ (t.start_bits + k)) (z ∷ [])
+        counted_in k v =
             elim (cases_lt k p) [
               | inl h ↦ other k (λ q. omega arith)
               | inr h ↦ elim (cases_lt p k) [
@@ -278,7 +289,7 @@ module _ {t : Table} {levels a e : ℕ} where
 
 pub record Ends (t : Table) (rows end size next row : ℕ) : Type 0 where
   pub some : 0 < rows
-  pub most : row ≤ max_rows t
+  pub up_to_largest : row ≤ max_rows t
   pub end_is : end ≡ row_offset t row
   pub size_is : size ≡ 2 ^ row_bits t row
   pub next-is : next ≡ 2 ^ row_bits t (suc row)
@@ -287,7 +298,7 @@ module _ {t : Table} {rows : ℕ} where
   pub ends_start : {start : ℕ} → 0 < rows → start ≡ 2 ^ t.start_bits → Ends t rows 0 start start 0
   ends_start p s = record {
     some = p;
-    most = zero-le;
+    up_to_largest = zero-le;
     end_is = refl;
     size_is = s ∙ sym (ap (λ (k : ℕ). 2 ^ k) (add-zero t.start_bits));
     next-is = s ∙ sym (ap (λ (k : ℕ). 2 ^ k) (add-zero t.start_bits));
@@ -308,12 +319,13 @@ module _ {t : Table} {rows : ℕ} where
     pub row-small : end + width * size ≤ 2 ^ t.heap_bits + 2 ^ t.heap_bits
     row-small =
         let m : 2 ^ (t.start_bits + t.width_bits + row') ≤ 2 ^ suc t.heap_bits =
-        pow_mono (omega (arith, I.most, T.row_in_heap)) in
+        pow_mono (omega (arith, I.up_to_largest, T.row_in_heap)) in
         omega (arith, row-added)
 
     pub next-small : next ≤ 2 ^ t.heap_bits + 2 ^ t.heap_bits
     next-small =
-        let m : 2 ^ (t.start_bits + (suc row' - 1)) ≤ 2 ^ suc t.heap_bits = pow_mono (omega (arith, I.most, T.row_in_heap)) in
+        let m : 2 ^ (t.start_bits + (suc row' - 1)) ≤ 2 ^ suc t.heap_bits =
+        pow_mono (omega (arith, I.up_to_largest, T.row_in_heap)) in
         omega (arith, I.next-is)
 
     -- a row that ends past the heap is one too many
@@ -331,7 +343,7 @@ module _ {t : Table} {rows : ℕ} where
         omega (arith, row-strict t (max_rows t) (suc row') m, heap-span t T.row_in_heap, row-added) in
         record {
           some = I.some;
-          most = omega arith;
+          up_to_largest = omega arith;
           end_is = row-added ∙ ap (row_offset t) e;
           size_is = I.next-is ∙ ap (λ (y : ℕ). 2 ^ row_bits t y) e;
           next-is = omega (arith, I.next-is, double t row', ap (λ (y : ℕ). 2 ^ row_bits t (suc y)) e);
@@ -340,7 +352,7 @@ module _ {t : Table} {rows : ℕ} where
   pub ends-done : {end size next row' : ℕ} → Ends t rows end size next row' → row' ≡ rows
       → Some end ≡ heap_rows_end t rows
   ends-done I e =
-      let m = I.most in
+      let m = I.up_to_largest in
       let p = I.some in
       let s : Some (row_offset t rows) ≡ heap_rows_end t rows = grind (arith, nat_tests) in
       ap Some (I.end_is ∙ ap (row_offset t) e) ∙ s
@@ -360,7 +372,7 @@ zeros n k =
 -- what the rows that a heap has span, as their end is told
 record Rooted (t : Table) (rows end : ℕ) : Type 0 where
   some : 0 < rows
-  most : rows ≤ max_rows t
+  up_to_largest : rows ≤ max_rows t
   end_is : end ≡ row_offset t rows
 
 rooted : (t : Table) (rows end : ℕ) → Some end ≡ heap_rows_end t rows → Rooted t rows end
@@ -379,8 +391,8 @@ module _ {t : Table} (T : IsTable t) (rows : ℕ) where
           block = record {
             rows = rows;
             ends = omega (arith, R.end_is);
-            in_heap = omega (arith, R.end_is, row-mono t rows (max_rows t) R.most, heap-span t T.row_in_heap);
-            nested = nested-fewer t levels rows (max_rows t) R.most N;
+            in_heap = omega (arith, R.end_is, row-mono t rows (max_rows t) R.up_to_largest, heap-span t T.row_in_heap);
+            nested = nested-fewer t levels rows (max_rows t) R.up_to_largest N;
           };
           places = omega (arith, length-replicate {A = ℕ} places 0);
           up_to_bytes = zeros places;
@@ -396,7 +408,7 @@ module _ {t : Table} (T : IsTable t) (rows : ℕ) where
         let v : i < places = omega (arith, Y.places) in
         let z : slice_index (replicate {A = ℕ} places 0) i ≡ 0 = get_or-replicate places i 0 0 v in
         let c : slice_index r i ≡ of_size (2 ^ (t.start_bits + i)) (sizes t rows) =
-        omega (arith, Y.each i (omega arith)) in
+        omega (arith, Y.each_size i (omega arith)) in
         c ∙ sym (of-sizes-at t.start_bits places i (sizes t rows) v))
 
     pub counted : (places : ℕ) {r : List ℕ} → BlockCounted t 0 end (replicate places 0) r
@@ -404,10 +416,10 @@ module _ {t : Table} (T : IsTable t) (rows : ℕ) where
     counted places {r} B =
         let R = of-rows in
         let s = R.some in
-        let m = R.most in
+        let m = R.up_to_largest in
         let is : Ok (of_sizes t.start_bits places (sizes t rows)) ≡ slot_counts t places rows =
         grind (arith, nat_tests) in
-        ap Ok (counts-are places r (B.is rows (omega (arith, R.end_is)))) ∙ is
+        ap Ok (counts-are places r (B.at_any_rows rows (omega (arith, R.end_is)))) ∙ is
 
   pub not-counted : (places : ℕ) → None ≡ heap_rows_end t rows → Err (OutsideHeap rows) ≡ slot_counts t places rows
   not-counted places e = grind (arith, nat_tests)

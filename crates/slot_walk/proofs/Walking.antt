@@ -4,13 +4,21 @@ use Rattle.std.proofs.Common.{ℕ, zero, suc, ◌+◌, ◌-◌, ◌*◌, ◌^◌
 use Rattle.std.proofs.Common.{List, [], ◌++◌, append_assoc, arith}
 use Rattle.std.proofs.Math.Nat.{add-zero, zero-add, mul-le-mul_right}
 use Rattle.std.proofs.Math.Pow.{pow_mono}
-use Rattle.table.specs.Table.{Table, row_bits, row_offset}
+use Rattle.table.specs.Table.{Table, row_bits, row_offset, heap_space}
 use Rattle.table.proofs.Rows.{row, row-mono, slot-rows}
-use Rattle.slot_walk.specs.Walk.{copies, slot_sizes, row_sizes, sizes}
-use Rattle.slot_walk.specs.Blocks.{Block, RowSlot}
+use Rattle.slot_walk.specs.HeapOrder.{copies, slot_sizes, row_sizes, sizes}
+use Rattle.slot_walk.specs.Blocks.{IsNested, Block}
 use Rattle.slot_walk.proofs.Rows.{pow-below, pow-upto, row-strict, row-same, double}
 use Rattle.slot_walk.proofs.Levels.{nested-inside}
 use Rattle.slot_walk.proofs.Sums.{block-rows}
+
+-- a slot at a heap offset in a block of so many levels at most: of a row's size, in the heap
+pub record RowSlot (table : Table) (levels at size : ℕ) : Type 0 where
+  pub row : ℕ
+  pub size_is : size ≡ 2 ^ row_bits table row
+  pub in_heap : at + size ≤ heap_space table
+  pub nested : table.direct_bits < row_bits table row
+      → (0 < levels) × IsNested table (levels - 1) (row - table.width_bits)
 
 -- before row `row`, with `left` rows to come
 pub record AtRow (t : Table) (R : List ℕ → List ℕ → Type 0) (levels a e here size next : ℕ) : Type 0 where

@@ -1,8 +1,9 @@
--- What the engine walks: blocks of whole rows, and slots of a row.
-use Rattle.std.specs.Prelude.{ℕ, zero, suc, ◌+◌, ◌-◌, ◌^◌, ◌≤◌, ◌<◌, ◌≡◌}
+-- What the engine walks: blocks of whole rows.
+use Rattle.std.specs.Prelude.{ℕ, zero, suc, ◌+◌, ◌-◌, ◌≤◌, ◌<◌, ◌≡◌}
 use Rattle.table.specs.Table.{Table, row_bits, row_offset, heap_space}
 
--- the indirect blocks in a block of so many rows stand no more than so many levels in one another, itself the first
+-- the indirect blocks in a block of so many rows stand no more than so many levels in one another,
+-- itself the first
 unfoldable pub IsNested : (table : Table) (levels rows : ℕ) → Type 0
 IsNested table zero rows = rows ≡ 0
 IsNested table (suc levels) rows =
@@ -15,11 +16,3 @@ pub record Block (table : Table) (levels at end : ℕ) : Type 0 where
   pub ends : end ≡ at + row_offset table rows
   pub in_heap : end ≤ heap_space table
   pub nested : IsNested table levels rows
-
--- a slot at a heap offset in a block of so many levels at most: of a row's size, in the heap
-pub record RowSlot (table : Table) (levels at size : ℕ) : Type 0 where
-  pub row : ℕ
-  pub size_is : size ≡ 2 ^ row_bits table row
-  pub in_heap : at + size ≤ heap_space table
-  pub nested : table.direct_bits < row_bits table row
-      → (0 < levels) × IsNested table (levels - 1) (row - table.width_bits)

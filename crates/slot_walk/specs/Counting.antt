@@ -1,12 +1,12 @@
--- Counting slots by size along the walk, into lent places: place k is that of the k-th size, the starting block's being
--- the 0th.
+-- Counting slots by size along the walk, into lent places: place k is that of the k-th size, the
+-- starting block's being the 0th.
 use Rattle.std.specs.Prelude.{ℕ, ◌+◌, ◌-◌, ◌^◌, ◌≤◌, ◌<◌, ◌≡◌, ◌&&◌, List}
 use Rattle.std.specs.Prelude.{Bool, Result, Ok, Err, Option, Some, None}
 use Rattle.std.specs.Prelude.{length, slice_index, nat_lt, nat_le, if◌then◌else◌}
 use Rattle.refusals.specs.declared.FormatError.{FormatError}
 use Rattle.refusals.specs.declared.FormatError.TheVariants.{OutsideHeap}
 use Rattle.table.specs.Table.{Table, row_offset, max_rows}
-use Rattle.slot_walk.specs.Walk.{sizes, of_size, of_sizes}
+use Rattle.slot_walk.specs.HeapOrder.{sizes, of_size, of_sizes}
 use Rattle.slot_walk.specs.Blocks.{Block}
 
 -- a heap has 1 row up to the largest root's
@@ -29,10 +29,11 @@ heap_rows_end table rows = if heap_has table rows then Some (row_offset table ro
 -- `after` is `before` with slots of the passed sizes counted in
 pub record Tallied (table : Table) (passed before after : List ℕ) : Type 0 where
   pub places : length after ≡ length before
-  pub each : (k : ℕ) → k < length before
+  pub each_size : (k : ℕ) → k < length before
       → slice_index after k ≡ slice_index before k + of_size (2 ^ (table.start_bits + k)) passed
 
--- a block, with a place for each size of a direct slot, and no more slots counted so far than bytes passed
+-- a block, with a place for each size of a direct slot, and no more slots counted so far than bytes
+-- passed
 pub record CountBlock (table : Table) (levels at end : ℕ) (counts : List ℕ) : Type 0 where
   pub block : Block table levels at end
   pub places : table.direct_bits - table.start_bits < length counts
@@ -40,5 +41,5 @@ pub record CountBlock (table : Table) (levels at end : ℕ) (counts : List ℕ) 
 
 -- its slots counted in, whatever number of rows fills it
 pub record BlockCounted (table : Table) (at end : ℕ) (before after : List ℕ) : Type 0 where
-  pub is : (rows : ℕ) → end ≡ at + row_offset table rows
+  pub at_any_rows : (rows : ℕ) → end ≡ at + row_offset table rows
       → Tallied table (sizes table rows) before after

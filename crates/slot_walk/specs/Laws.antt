@@ -6,10 +6,11 @@ use Rattle.table.specs.Table.{Table, fixed, row_offset, max_rows}
 use Rattle.table.specs.Slots.{Direct}
 use Rattle.table_laws.specs.Laws.{IsTable}
 use Rattle.table_laws.specs.Count.{count}
-use Rattle.slot_walk.specs.Walk.{sizes, slots, Chain, of_size, of_sizes, bytes_of}
+use Rattle.slot_walk.specs.HeapOrder.{sizes, slots, Chain, of_size, of_sizes, bytes_of}
 use Rattle.slot_walk.specs.Blocks.{IsNested}
 
--- the list has the format's direct slots of so many rows, and no others, each once, in order and without a gap
+-- the list has the format's direct slots of so many rows, and no others, each once, in order and
+-- without a gap
 pub record Listed (table : Table) (rows : ℕ) : Type 0 where
   pub chain : Chain 0 (slots table rows) (row_offset table rows)
   pub formats : (start size : ℕ)
@@ -19,8 +20,8 @@ pub record Listed (table : Table) (rows : ℕ) : Type 0 where
 abbrev pub SlotsListed : Type 0
 SlotsListed = (table : Table) → IsTable table → (rows : ℕ) → Listed table rows
 
--- in so many rows the format has so many direct slots of a size: a test that passes just the heap offsets at which such
--- a slot begins passes so many of them, and there is one
+-- in so many rows the format has so many direct slots of a size: a test that passes just the heap
+-- offsets at which such a slot begins passes so many of them, and there is one
 pub record SlotsOfSize (table : Table) (rows size number : ℕ) : Type 0 where
   pub test : ℕ → Bool
   pub passes : (start : ℕ) → (test start ≡ true) ↔ Direct table rows start size
@@ -38,7 +39,8 @@ SlotsCounted =
     (table : Table) → IsTable table → (rows size : ℕ)
     → SlotsOfSize table rows size (of_size size (sizes table rows))
 
--- the counts of all sizes up to the largest direct block's, each times its size, are what the rows span
+-- the counts of all sizes up to the largest direct block's, each times its size, are what the rows
+-- span
 abbrev pub CountsFill : Type 0
 CountsFill =
     (table : Table) → IsTable table → (places rows : ℕ)

@@ -1,5 +1,5 @@
 pub mod Geometry
-pub mod Walk
+pub mod HeapOrder
 pub mod Blocks
 pub mod Search
 pub mod Counting

@@ -1,13 +1,13 @@
 -- Finding a slot by counting: the first of the plain list that ends past the offset.
-use Rattle.std.specs.Prelude.{ℕ, ◌+◌, ◌^◌, ◌≤◌, ◌<◌, ◌≡◌, List, [], ◌∷◌, Option, Some, None, Result}
+use Rattle.std.specs.Prelude.{ℕ, ◌+◌, ◌≤◌, ◌<◌, ◌≡◌, List, [], ◌∷◌, Option, Some, None, Result}
 use Rattle.std.specs.Prelude.{nat_lt, if◌then◌else◌}
 use Rattle.std.specs.Option.{ok_or}
 use Rattle.refusals.specs.declared.FormatError.{FormatError}
 use Rattle.refusals.specs.declared.FormatError.TheVariants.{OutsideHeap}
-use Rattle.table.specs.Table.{Table, row_bits, row_offset, max_rows}
+use Rattle.table.specs.Table.{Table, row_offset, max_rows}
 use Rattle.table.specs.Slots.{Direct, slot_end}
 use Rattle.table.specs.declared.Slot.{Slot}
-use Rattle.slot_walk.specs.Walk.{sizes, slot_sizes, slots_from, slots}
+use Rattle.slot_walk.specs.HeapOrder.{sizes, slots_from, slots}
 
 -- the first of the slots that ends past the offset, if one does
 unfoldable pub first_past : (offset : ℕ) (slots : List Slot) → Option Slot
@@ -30,10 +30,5 @@ pub record Holds (table : Table) (offset : ℕ) (slot : Slot) : Type 0 where
 
 -- what is found in the block from `at` to `end`, whatever number of rows fills it
 pub record BlockSearched (table : Table) (offset at end : ℕ) (found : Option Slot) : Type 0 where
-  pub is : (rows : ℕ) → end ≡ at + row_offset table rows
+  pub at_any_rows : (rows : ℕ) → end ≡ at + row_offset table rows
       → found ≡ first_past offset (slots_from at (sizes table rows))
-
--- what is found in a slot of so many bytes at `at`, whatever row it is of
-pub record SlotSearched (table : Table) (offset at size : ℕ) (found : Option Slot) : Type 0 where
-  pub is : (row : ℕ) → size ≡ 2 ^ row_bits table row
-      → found ≡ first_past offset (slots_from at (slot_sizes table (sizes table) row))

@@ -3,12 +3,12 @@
 ghost use Rattle.std.specs.Prelude.{◌≡◌, ◌-◌, ◌<◌, IfOk};
 ghost use Rattle.table.specs.Table.{fixed, row_offset, max_rows};
 ghost use Rattle.slot_walk.specs.Geometry.{table_of, IsPermitted};
-ghost use Rattle.slot_walk.specs.Walk.{bytes_of};
+ghost use Rattle.slot_walk.specs.HeapOrder.{bytes_of};
 ghost use Rattle.slot_walk.specs.Laws.{FormatCounts};
 ghost use Rattle.slot_walk.specs.Blocks.{IsNested};
 ghost use Rattle.slot_walk.specs.Counting.{slot_counts, heap_rows_end, CountBlock, BlockCounted};
 
-use crate::MOST_LEVELS;
+use crate::MAX_LEVELS;
 use crate::geometry::Geometry;
 use refusals::FormatError;
 
@@ -84,7 +84,7 @@ pub fn count_slots_in<const N: usize>(
     requires table { IsPermitted geometry.now }
     requires levels { IsNested (table_of geometry.now) levels (max_rows (table_of geometry.now)) }
     requires places { (table_of geometry.now).direct_bits - (table_of geometry.now).start_bits < N }
-    ensures value { result ≡ slot_counts (table_of geometry.now) N rows }
+    ensures counts { result ≡ slot_counts (table_of geometry.now) N rows }
     ensures formats { IfOk result (λ counts. FormatCounts (table_of geometry.now) N rows counts) }
     ensures fill { IfOk result (λ counts. bytes_of (table_of geometry.now).start_bits counts
         ≡ row_offset (table_of geometry.now) rows) }
@@ -101,11 +101,11 @@ pub fn count_slots_in<const N: usize>(
 /// a root has, are refused by `OutsideHeap`. Each count is the number of the format's slots of its size, and together
 /// they fill the managed space; no more indirect blocks are open at once than there are levels.
 pub fn count_slots(rows: u64) -> Result<[u64; SIZES], FormatError>
-    ensures value { result ≡ slot_counts fixed SIZES rows }
+    ensures counts { result ≡ slot_counts fixed SIZES rows }
     ensures formats { IfOk result (λ counts. FormatCounts fixed SIZES rows counts) }
     ensures fill { IfOk result (λ counts. bytes_of fixed.start_bits counts ≡ row_offset fixed rows) }
-    ensures levels { IsNested fixed MOST_LEVELS (max_rows fixed) }
-    ensures eight_levels { MOST_LEVELS ≡ 8 }
+    ensures levels { IsNested fixed MAX_LEVELS (max_rows fixed) }
+    ensures eight_levels { MAX_LEVELS ≡ 8 }
 {
-    count_slots_in(&Geometry::fixed(), MOST_LEVELS, rows)
+    count_slots_in(&Geometry::fixed(), MAX_LEVELS, rows)
 }

@@ -9,6 +9,8 @@ pub mod finding;
 pub mod geometry;
 pub mod laws;
 
+pub use geometry::Geometry;
+
 /// So many indirect blocks stand in one another at most in a heap of the fixed table, the root being the first: as deep
 /// does a walk go.
-pub const MOST_LEVELS: u64 = 8;
+pub const MAX_LEVELS: u64 = 8;

@@ -8,14 +8,13 @@ use Rattle.std.proofs.lemmas.Bool.{le-leb, lt-leb, leb-true, leb-false}
 use Rattle.std.proofs.lemmas.Bool.Decides.{nat_tests}
 use Rattle.std.proofs.lemmas.Nat.{pow_pos, shr_split, same_from_place}
 use Rattle.std.specs.Prelude.{if◌then◌else◌, nat_le}
-use Rattle.table.specs.Table.{Table, fixed, row_bits, row_offset, row_of, place_of}
+use Rattle.table.specs.Table.{Table, fixed, row_bits, row_offset, row_of}
 use Rattle.table.specs.Slots.{slot_bits, slot_at, slot_start, table_slot, entered_bytes_in, entered_bytes}
 use Rattle.table.specs.Sizes.{indirect_size}
-use Rattle.table.specs.declared.RowCol.{RowCol}
 use Rattle.table.specs.declared.Slot.{Slot}
 use Rattle.table.specs.declared.TableSlot.{TableSlot}
 use Rattle.table.proofs.Powers.{join}
-use Rattle.table.proofs.Rows.{Top, heap-rows, top-row, row-le, row-29, row-of-is, slot-start-is, slot-rows}
+use Rattle.table.proofs.Rows.{Top, heap-rows, top-row, row-le, row-29, row-of-is, slot-rows}
 use Rattle.table.proofs.Slots.{Slotted, top, sub, top_unique, slotted-unique, slotted-hi, slot-bits-is}
 
 module _ (t : Table) where
@@ -38,28 +37,18 @@ module _ (t : Table) where
 pub start-le : (x : ℕ) → slot_start fixed x ≤ x
 start-le x = omega (arith, shr_split x (row_bits fixed (row_of fixed x)))
 
--- the row's start and the column's give the slot
-module _ (x : ℕ) {at : RowCol} (e : at ≡ place_of fixed x) where
-  pub placed_row : x < 2 ^ 40 → at.row ≤ 29
-  placed_row h = omega (arith, ap (λ (y : RowCol). y.row) e, row-29 x h)
+-- the offset rounded down to a multiple of its row's size gives the slot
+pub slot_of_row : (x : ℕ) {row size : ℕ} → row ≡ row_of fixed x → size ≡ 2 ^ row_bits fixed row
+    → ◌≡◌ {A = TableSlot} (record { row = row; start = x - x % size; size = size }) (table_slot fixed x)
+slot_of_row x e s =
+    let b = row_bits fixed (row_of fixed x) in
+    let begins : x - x % 2 ^ b ≡ slot_start fixed x = omega (arith, shr_split x b) in
+    rw s (rw e (ap (λ (y : ℕ). record { row = row_of fixed x; start = y; size = 2 ^ b }) begins))
 
-  module _ {size : ℕ} (s : size ≡ 2 ^ row_bits fixed at.row) where
-    pub placed_size : x < 2 ^ 40 → size ≤ 2 ^ 40
-    placed_size h =
-        let r = placed_row h in
-        let le : 2 ^ row_bits fixed at.row ≤ 2 ^ 40 = pow_mono {j = 40} (omega arith) in
-        omega arith
-
-    module _ {start : ℕ} (f : start ≡ row_offset fixed at.row) where
-      pub placed_slot : ◌≡◌ {A = TableSlot} (record { row = at.row; start = start + at.col * size; size = size })
-          (table_slot fixed x)
-      placed_slot =
-          let b = row_bits fixed (row_of fixed x) in
-          let begins = slot-start-is fixed x in
-          rw s (rw f (rw e (ap (λ (y : ℕ). record { row = row_of fixed x; start = y; size = 2 ^ b }) begins)))
-
-      pub placed_below : start + at.col * size ≤ x
-      placed_below = omega (arith, ap (λ (y : TableSlot). y.start) placed_slot, start-le x)
+pub size_of_row : {row size : ℕ} → row ≤ 29 → size ≡ 2 ^ row_bits fixed row → size ≤ 2 ^ 40
+size_of_row {row} l s =
+    let le : 2 ^ row_bits fixed row ≤ 2 ^ 40 = pow_mono {j = 40} (omega arith) in
+    omega arith
 
 -- what the test of the slot's row tells
 pub direct-slot : (x : ℕ) {at : TableSlot} → at ≡ table_slot fixed x → true ≡ nat_le (row_bits fixed at.row) 16
@@ -100,50 +89,47 @@ deep_start x e h l =
 
 -- ---- `locate`
 
--- the slot of offset is that of x in the indirect block at base
-pub record Loc (offset base x : ℕ) : Type 0 where
+-- the slot of offset is that of x in the indirect block that begins x bytes before it
+pub record Loc (offset x : ℕ) : Type 0 where
   pub heap : offset < 2 ^ 40
-  pub sum : base + x ≡ offset
   pub slotted : Slotted fixed x (slot_bits fixed offset)
   pub nth : ℕ
-  pub mult : base ≡ nth * 2 ^ slot_bits fixed offset
+  pub rest : offset ≡ nth * 2 ^ slot_bits fixed offset + x
 
-pub loc_start : (offset : ℕ) → offset < 2 ^ 40 → Loc offset 0 offset
-loc_start o h =
-    record { heap = h; sum = omega arith; slotted = slot-bits-is fixed o (omega arith) h; nth = 0; mult = omega arith }
+pub loc_start : (offset : ℕ) → offset < 2 ^ 40 → Loc offset offset
+loc_start o h = record { heap = h; slotted = slot-bits-is fixed o (omega arith) h; nth = 0; rest = omega arith }
 
-module _ {o base x : ℕ} (L : Loc o base x) where
+module _ {o x : ℕ} (L : Loc o x) where
   pub loc_direct : row_bits fixed (row_of fixed x) ≤ 16
-      → ◌≡◌ {A = Slot} (record { start = base + slot_start fixed x; size = 2 ^ row_bits fixed (row_of fixed x) })
+      → ◌≡◌ {A = Slot} (record { start = o - (x - slot_start fixed x); size = 2 ^ row_bits fixed (row_of fixed x) })
       (slot_at fixed o)
   loc_direct l =
       let b = row_bits fixed (row_of fixed x) in
       let c = slot_bits fixed o in
-      let h : x < 2 ^ 40 = omega (arith, L.heap, L.sum) in
+      let h : x < 2 ^ 40 = omega (arith, L.heap, L.rest) in
       let T = top-row fixed x (heap-rows fixed x h) in
       let r : x % 2 ^ b < 2 ^ b = mod-lt x (pow_pos b) in
       let e : c ≡ b = inv-direct fixed (x / 2 ^ b) b (x % 2 ^ b) L.slotted T l r (sym (shr_split x b)) in
-      let m : base ≡ L.nth * 2 ^ b = L.mult ∙ ap (λ (k : ℕ). L.nth * 2 ^ k) e in
-      let oe : o ≡ L.nth * 2 ^ b + x = sym L.sum ∙ ap (λ (k : ℕ). k + x) m in
+      let oe : o ≡ L.nth * 2 ^ b + x = L.rest ∙ ap (λ (k : ℕ). L.nth * 2 ^ k + x) e in
       let d : o / 2 ^ b ≡ L.nth + x / 2 ^ b = rw oe (mul-add-div_right (pow_pos b) L.nth x) in
-      let w : base + x / 2 ^ b * 2 ^ b ≡ o / 2 ^ b * 2 ^ b = omega (arith, ap (λ (k : ℕ). k * 2 ^ b) d) in
+      let w : o - (x - x / 2 ^ b * 2 ^ b) ≡ o / 2 ^ b * 2 ^ b =
+      omega (arith, ap (λ (k : ℕ). k * 2 ^ b) d, shr_split x b) in
       rw e (λ i. record { start = w i; size = 2 ^ b })
 
-  pub loc_deeper : 16 < row_bits fixed (row_of fixed x) → Loc o (base + slot_start fixed x) (x - slot_start fixed x)
+  pub loc_deeper : 16 < row_bits fixed (row_of fixed x) → Loc o (x - slot_start fixed x)
   loc_deeper l =
       let b = row_bits fixed (row_of fixed x) in
       let c = slot_bits fixed o in
-      let h : x < 2 ^ 40 = omega (arith, L.heap, L.sum) in
+      let h : x < 2 ^ 40 = omega (arith, L.heap, L.rest) in
       let T = top-row fixed x (heap-rows fixed x h) in
       let m : x % 2 ^ b < 2 ^ b = mod-lt x (pow_pos b) in
       let s : Slotted fixed (x % 2 ^ b) c =
       inv-sub fixed (x / 2 ^ b) b (x % 2 ^ b) L.slotted T l m (sym (shr_split x b)) in
       record {
         heap = L.heap;
-        sum = omega (arith, L.sum, start-le x);
         slotted = rw (rest_is x h l) s;
         nth = x / 2 ^ b * 2 ^ (b - c) + L.nth;
-        mult = omega (arith, L.mult, join (x / 2 ^ b) b c L.nth (slotted-hi fixed s b T.lo m));
+        rest = omega (arith, L.rest, start-le x, join (x / 2 ^ b) b c L.nth (slotted-hi fixed s b T.lo m));
       }
 
 -- ---- the indirect blocks on the way

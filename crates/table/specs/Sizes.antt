@@ -5,7 +5,7 @@ use Rattle.std.specs.Prelude.{ℕ, ◌+◌, ◌-◌, ◌*◌, ◌/◌, ◌^◌, 
 use Rattle.table.specs.Table.{Table, fixed}
 
 -- Block Offset takes as many bytes as the bits of Maximum Heap Size need
-abbrev pub offset_bytes : Table → ℕ
+abbrev pub offset_bytes : (table : Table) → ℕ
 offset_bytes table = (table.heap_bits + 7) / 8
 
 -- Signature, Version, Heap Header Address, Block Offset, Checksum

@@ -54,7 +54,7 @@ slot_at table offset = record {
   size = 2 ^ slot_bits table offset;
 }
 
-abbrev pub slot_end : Slot → ℕ
+abbrev pub slot_end : (slot : Slot) → ℕ
 slot_end slot = slot.start + slot.size
 
 -- the bytes of the indirect blocks, with addresses of offset_size bytes, that a direct block at

@@ -18,10 +18,10 @@ abbrev pub fixed : Table
 fixed = record { width_bits = 2; start_bits = 10; direct_bits = 16; heap_bits = 40 }
 
 -- in bytes: a block of the first rows, and the heap space, below whose end all heap offsets lie
-abbrev pub starting_size : Table → ℕ
+abbrev pub starting_size : (table : Table) → ℕ
 starting_size table = 2 ^ table.start_bits
 
-abbrev pub heap_space : Table → ℕ
+abbrev pub heap_space : (table : Table) → ℕ
 heap_space table = 2 ^ table.heap_bits
 
 -- a block of a row has 2 ^ row_bits bytes: rows 0 and 1 the starting size, each later row twice the
@@ -53,7 +53,7 @@ place_of table offset =
 -- the most rows that a root has: as many as the heap space holds ('Fractal Heap Header': Starting #
 -- of Rows in Root Indirect Block, its value 0). The format does not give their number; it is our
 -- rule (docs/RULES.md)
-abbrev pub max_rows : Table → ℕ
+abbrev pub max_rows : (table : Table) → ℕ
 max_rows table = table.heap_bits - (table.start_bits + table.width_bits) + 1
 
 -- of so many row counts from this one on the first whose rows span at least so many bytes

@@ -8,43 +8,44 @@ ghost use Rattle.table.specs.Slots.{table_slot, slot_at, entered_bytes};
 
 use crate::block_sizes::indirect_block_size;
 use crate::row_counts::size_to_rows;
-use crate::{MAX_HEAP_SPACE, Slot, TableSlot, is_direct, lookup, row_block_size, row_offset};
+use crate::{MAX_HEAP_SPACE, Slot, TableSlot, is_direct, row_block_size, row_of};
 
 /// The table's own slot that holds an offset, direct or indirect: what `locate` and
-/// `entered_blocks` do at each level.
+/// `entered_blocks` do at each level. A slot begins at a multiple of its size, so no column is
+/// reckoned.
+#[tactic(auto, using(crate::proofs::Locating::slot_of_row, crate::proofs::Locating::size_of_row))]
 pub fn table_slot(offset: u64) -> TableSlot
     requires { offset < MAX_HEAP_SPACE }
     ensures slot { result ≡ table_slot fixed offset }
     ensures before { result.start ≤ offset }
     ensures size_in_heap { result.size ≤ MAX_HEAP_SPACE }
 {
-    let at = lookup(offset);
-    let size = row_block_size(at.row);
+    let row = row_of(offset);
+    let size = row_block_size(row);
     TableSlot {
-        row: at.row,
-        start: row_offset(at.row) + at.col * size,
+        row,
+        start: offset - offset % size,
         size,
     }
 }
 
 /// The direct slot that holds an offset. It goes down through indirect slots, so that planning can
-/// go through the direct ones in order although the table is a tree.
+/// go through the direct ones in order although the table is a tree. The offset lies `past` bytes
+/// behind the start of the slot that was gone into last.
 pub fn locate(offset: u64) -> Slot
     requires { offset < MAX_HEAP_SPACE }
     ensures { result ≡ slot_at fixed offset }
 {
-    let mut base = 0;
-    let mut local = offset;
+    let mut past = offset;
     loop {
-        let at = table_slot(local);
+        let at = table_slot(past);
+        past -= at.start;
         if is_direct(at.row) {
             return Slot {
-                start: base + at.start,
+                start: offset - past,
                 size: at.size,
             };
         }
-        base += at.start;
-        local -= at.start;
     }
 }
 

@@ -2,7 +2,7 @@ pub mod Reports
 pub mod MixTools
 pub mod StoreTools
 pub mod WriteTools
-pub mod HeaderTools
+pub mod Lists
 pub mod ObjectNumbers
 pub mod ObjectTools
 pub mod SlotTools

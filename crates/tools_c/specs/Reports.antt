@@ -5,5 +5,5 @@ use Rattle.refusals.specs.declared.answer.Answer.{Answer}
 use Rattle.refusals.specs.declared.FormatError.{FormatError}
 
 -- a number that is read is the first value
-abbrev pub number_report : Result ℕ FormatError → Answer
+abbrev pub number_report : (result : Result ℕ FormatError) → Answer
 number_report = report_of (λ n. answer 0 n 0)

@@ -4,9 +4,8 @@ ghost use Rattle.checksum.specs.Lookup3.{hashlittle};
 ghost use Rattle.checksum.specs.Unmix.{unmixed, unfinal_mixed};
 ghost use Rattle.tools_c.specs.MixTools.{state_of, state_words, put_state, mix_number};
 
-use checksum::jenkins_lookup3;
-use checksum::mixing::State;
 use checksum::unmixing::{unfinal_mix, unmix};
+use checksum::{MixState, jenkins_lookup3};
 use refusals::SLICE_TOO_SHORT;
 
 // How many words a state of lookup3 has.
@@ -20,18 +19,18 @@ pub extern "C" fn tools_jenkins_lookup3(bytes: &[u8]) -> u32
     jenkins_lookup3(bytes)
 }
 
-fn state_of(words: &[u32]) -> State
+fn state_of(words: &[u32]) -> MixState
     requires { state_words ≤ length words.now }
     ensures { result ≡ state_of words.now }
 {
-    State {
+    MixState {
         a: words[0],
         b: words[1],
         c: words[2],
     }
 }
 
-fn put_state(words: &mut [u32], s: State)
+fn put_state(words: &mut [u32], s: MixState)
     requires { state_words ≤ length words.old }
     ensures { words.new ≡ put_state words.old s }
 {

@@ -1,12 +1,13 @@
 //! Headers.
 ghost use Rattle.std.specs.Prelude.{◌≡◌};
-ghost use Rattle.fractal_heap.specs.Header.{header_at};
+ghost use Rattle.fractal_heap.specs.Header.{header_at, parsed_numbers};
 ghost use Rattle.fractal_heap.specs.Listed.{header_number};
-ghost use Rattle.tools_c.specs.HeaderTools.{header_list};
+ghost use Rattle.tools_c.specs.Lists.{listed_by};
 
+use crate::lists::put_refusal;
 use fields::convert::to_usize;
 use fractal_heap::{FractalHeapHeader, NUMBER_COUNT};
-use refusals::{Reported, SLICE_TOO_SHORT};
+use refusals::SLICE_TOO_SHORT;
 
 /// The header's 23 fields in header order, then what is kept of its filters: where their information begins in the file,
 /// the filtered root direct block's size, and the mask, all 0 where there are none; or the refusal's pair. They go into
@@ -23,7 +24,8 @@ pub extern "C" fn tools_parse_header(
     ensures number { result
         ≡ header_number fields.old (header_at file.now at offset_size length_size) }
     ensures fields_after { fields.new
-        ≡ header_list fields.old (header_at file.now at offset_size length_size) }
+        ≡ listed_by NUMBER_COUNT parsed_numbers fields.old
+        (header_at file.now at offset_size length_size) }
 {
     if fields.len() < NUMBER_COUNT {
         return SLICE_TOO_SHORT;
@@ -33,10 +35,6 @@ pub extern "C" fn tools_parse_header(
             header.put_numbers(fields);
             0
         }
-        Err(refusal) => {
-            let answer = refusal.answer();
-            fields[..2].copy_from_slice(&[answer.first, answer.second]);
-            answer.number
-        }
+        Err(refused) => put_refusal(fields, refused),
     }
 }

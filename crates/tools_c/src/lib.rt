@@ -5,6 +5,7 @@
 pub mod checksums;
 pub mod field_reads;
 pub mod headers;
+mod lists;
 pub mod objects;
 pub mod slots;
 pub mod stores;

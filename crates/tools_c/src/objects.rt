@@ -12,13 +12,13 @@ ghost use Rattle.ids.specs.IdTypes.{id_type, type_report};
 ghost use Rattle.ids.specs.Tiny.{tiny_at};
 ghost use Rattle.tools_c.specs.ObjectTools.{each_number, each_list};
 
-use crate::objects::id_lists::{Tested, read_each};
+use crate::objects::id_lists::{CheckedFile, read_list};
 use fields::Place;
 use fields::convert::to_usize;
 use fields::slot::put_answer;
 use fractal_heap::FractalHeapHeader;
 use ids::tiny::read_tiny_object;
-use refusals::{FormatError, Reported, SLICE_TOO_SHORT};
+use refusals::{FormatError, Reported};
 
 fn read(
     file: &[u8],
@@ -111,20 +111,10 @@ pub extern "C" fn tools_read_each(
         (λ header id. managed_checked header heap_header_address file.now id offset_size)
         (header_at file.now at offset_size length_size) }
 {
-    if found.len() / 3 < ids.len() / 8 {
-        return SLICE_TOO_SHORT;
-    }
-    match FractalHeapHeader::parse(file, to_usize(at), offset_size, length_size) {
-        Ok(header) => {
-            let objects = Tested {
-                header: &header,
-                heap_header_address,
-                file,
-                offset_size,
-            };
-            read_each(&objects, ids, found);
-            0
-        }
-        Err(e) => e.answer().number,
-    }
+    let objects = CheckedFile {
+        heap_header_address,
+        file,
+        offset_size,
+    };
+    read_list(&objects, file, at, offset_size, length_size, ids, found)
 }

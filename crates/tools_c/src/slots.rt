@@ -1,5 +1,5 @@
 //! Direct slots: both engines, the blocks on the way, and how many slots there are.
-ghost use Rattle.std.specs.Prelude.{◌≡◌, length, nat_lt, if◌then◌else◌, slice_index};
+ghost use Rattle.std.specs.Prelude.{◌≡◌, ◌-◌, length, nat_lt, if◌then◌else◌, slice_index};
 ghost use Rattle.refusals.specs.Refusals.{report_of, slice_too_short};
 ghost use Rattle.fields.specs.Slot.{slot_number, slot_bytes};
 ghost use Rattle.table.specs.Table.{fixed, heap_space};
@@ -7,8 +7,11 @@ ghost use Rattle.slot_walk.specs.Search.{counted_slot};
 ghost use Rattle.slot_walk.specs.Counting.{slot_counts};
 ghost use Rattle.slot_engines.specs.Engines.{located_slot};
 ghost use Rattle.slot_engines.specs.Way.{entered_in};
-ghost use Rattle.tools_c.specs.SlotTools.{slot_report, asked_by, listed_number, entered_numbers, listed_by};
+ghost use Rattle.tools_c.specs.Lists.{listed_number, listed_by};
+ghost use Rattle.tools_c.specs.SlotTools.{slot_report, asked_places, asked_by};
+ghost use Rattle.tools_c.specs.SlotTools.{entered_places, entered_numbers};
 
+use crate::lists::put_refusal;
 use fields::slot::put_answer;
 use refusals::{Answer, FormatError, Reported, SLICE_TOO_SHORT};
 use slot_engines::asking::ask_both;
@@ -17,6 +20,12 @@ use slot_engines::way::entered;
 use slot_walk::counting::{SIZES, count_slots};
 use slot_walk::finding::count_to;
 use table::Slot;
+
+// How many numbers tell what both engines answer: number and pair of each, and whether they agree.
+const ASKED_PLACES: usize = 7;
+
+// And how many a block on the way: whether there is one, and its row, column and heap offset.
+const ENTERED_PLACES: usize = 4;
 
 fn answer_of(found: Result<Slot, FormatError>) -> Answer
     ensures { result ≡ report_of slot_report found }
@@ -54,19 +63,19 @@ pub extern "C" fn tools_count_to(offset: u64, slot: &mut [u8]) -> u32
 #[tactic(auto, unfolding(fields::specs::LittleEndian::put))]
 #[unsafe(no_mangle)]
 pub extern "C" fn tools_ask_both(offset: u64, answers: &mut [u64]) -> u32
-    ensures number { result ≡ if nat_lt (length answers.old) 7 then slice_too_short else 0 }
+    ensures number { result ≡ if nat_lt (length answers.old) asked_places then slice_too_short else 0 }
     ensures answers_after { answers.new
         ≡ asked_by answers.old (counted_slot fixed offset) (located_slot fixed offset) }
     ensures agree { result ≡ 0
-        → slice_index answers.new 6 ≡ (if nat_lt offset (heap_space fixed) then 1 else 0) }
+        → slice_index answers.new (asked_places - 1) ≡ (if nat_lt offset (heap_space fixed) then 1 else 0) }
 {
-    if answers.len() < 7 {
+    if answers.len() < ASKED_PLACES {
         return SLICE_TOO_SHORT;
     }
     let asked = ask_both(offset);
     let counted = answer_of(asked.counted);
     let located = answer_of(asked.located);
-    answers[..7].copy_from_slice(&[
+    answers[..ASKED_PLACES].copy_from_slice(&[
         u64::from(counted.number),
         counted.first,
         counted.second,
@@ -84,27 +93,23 @@ pub extern "C" fn tools_ask_both(offset: u64, answers: &mut [u64]) -> u32
 #[tactic(auto, unfolding(fields::specs::LittleEndian::put))]
 #[unsafe(no_mangle)]
 pub extern "C" fn tools_entered(offset: u64, place: u64, block: &mut [u64]) -> u32
-    ensures number { result ≡ listed_number 4 block.old (entered_in fixed offset place) }
+    ensures number { result ≡ listed_number entered_places block.old (entered_in fixed offset place) }
     ensures block_after { block.new
-        ≡ listed_by 4 entered_numbers block.old (entered_in fixed offset place) }
+        ≡ listed_by entered_places entered_numbers block.old (entered_in fixed offset place) }
 {
-    if block.len() < 4 {
+    if block.len() < ENTERED_PLACES {
         return SLICE_TOO_SHORT;
     }
     match entered(offset, place) {
         Ok(Some(b)) => {
-            block[..4].copy_from_slice(&[1, b.row, b.col, b.start]);
+            block[..ENTERED_PLACES].copy_from_slice(&[1, b.row, b.col, b.start]);
             0
         }
         Ok(None) => {
-            block[..4].copy_from_slice(&[0; 4]);
+            block[..ENTERED_PLACES].copy_from_slice(&[0; ENTERED_PLACES]);
             0
         }
-        Err(refusal) => {
-            let answer = refusal.answer();
-            block[..2].copy_from_slice(&[answer.first, answer.second]);
-            answer.number
-        }
+        Err(refused) => put_refusal(block, refused),
     }
 }
 
@@ -125,10 +130,6 @@ pub extern "C" fn tools_count_slots(rows: u64, counts: &mut [u64]) -> u32
             counts[..SIZES].copy_from_slice(&numbers);
             0
         }
-        Err(refusal) => {
-            let answer = refusal.answer();
-            counts[..2].copy_from_slice(&[answer.first, answer.second]);
-            answer.number
-        }
+        Err(refused) => put_refusal(counts, refused),
     }
 }

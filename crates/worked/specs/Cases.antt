@@ -25,8 +25,8 @@ use Rattle.fields.specs.declared.place.Place.{Place}
 use Rattle.ids.specs.Decoded.{decoded_id}
 use Rattle.ids.specs.Tiny.{tiny_at}
 use Rattle.fractal_heap.specs.declared.header.FractalHeapHeader.{FractalHeapHeader}
-use Rattle.fractal_heap.specs.Header.{header_at, header_of, with_filters}
-use Rattle.fractal_heap.specs.Read.{managed_at}
+use Rattle.fractal_heap.specs.Header.{header_at, header_of}
+use Rattle.fractal_heap.specs.Read.{managed_unchecked}
 use Rattle.fractal_heap.specs.Spelling.{unsummed}
 use Rattle.fractal_heap.specs.Writing.{header_checked}
 use Rattle.heap_kept.specs.HeapKept.{Call, WriterAccepts, HoldsRegion, IsHeaderOf}
@@ -99,7 +99,7 @@ pub record EmptyUnfound (offset_size : ℕ) (sizes : List ℕ) (i : ℕ) : Type 
       WriterAccepts call plan → (file : List ℕ) → HoldsRegion file call plan
       → (header : FractalHeapHeader) → IsHeaderOf header call plan
       → let offset = object_start offset_size sizes i in
-      managed_at header file (managed_id fixed offset 0) offset_size
+      managed_unchecked header file (managed_id fixed offset 0) offset_size
       ≡ Err (UnexpectedEof offset (length file))
 
 -- planned in lists of just enough places
@@ -178,12 +178,11 @@ beginning_with first second numbers = first ∷ second ∷ drop 2 numbers
 -- size, the mask
 abbrev pub filtered : (numbers : List ℕ) (position size mask : ℕ) → FractalHeapHeader
 filtered numbers position size mask =
-    with_filters (header_of numbers)
-    (record {
+    record (header_of numbers) {
       io_filter_information_position = position;
       filtered_root_direct_block_size = size;
       io_filter_mask = mask;
-    })
+    }
 
 -- worked heaps 3 and 6
 abbrev pub third_heap : ManagedPlan

@@ -1,4 +1,5 @@
-//! Why a call is refused: the one table of causes, each with its number, its values and its words.
+//! Why a call is refused: the words for each number and its values. Which they are for a cause is defined in the crate
+//! `refusals` alone, as `refusal`.
 use crate::header::name_of;
 use crate::numbers::{count, grouped};
 use fractal_heap_sys as sys;

@@ -2,9 +2,9 @@
 //! objects are wanted all the same.
 ghost use Rattle.std.specs.Prelude.{◌≡◌, ◌+◌, ◌≤◌, ◌++◌, length, take, drop, Ok, IfOk, OnOk, OnErr};
 ghost use Rattle.fields.specs.declared.place.Place.{Place};
-ghost use Rattle.fractal_heap.specs.Read.{managed_at, object_by};
-ghost use Rattle.heap_kept.specs.FromBytes.{ForWritten};
-ghost use Rattle.heap_kept.specs.Kept.{ForKept, IsFetched, fetched};
+ghost use Rattle.fractal_heap.specs.Read.{managed_unchecked, unchecked_by};
+ghost use Rattle.heap_kept.specs.FromBytes.{ForWrittenUnchecked};
+ghost use Rattle.heap_kept.specs.Kept.{ForKeptUnchecked, IsFetched, fetched};
 
 use super::copy_object;
 use fractal_heap::FractalHeapHeader;
@@ -24,14 +24,14 @@ pub fn fetch_unchecked(
     offset_size: u8,
     found: &mut [u8],
 ) -> Result<usize, FormatError>
-    ensures kept { ForKept header.now file.now offset_size id.now
+    ensures kept { ForKeptUnchecked header.now file.now offset_size id.now
         (λ bytes. length bytes ≤ length found.old → IsFetched result found.old found.new bytes) }
 
-    ensures in_file { IfOk (managed_at header.now file.now id.now offset_size)
+    ensures in_file { IfOk (managed_unchecked header.now file.now id.now offset_size)
         (λ place. place.position + place.length ≤ length file.now) }
     ensures answer { result
-        ≡ fetched (managed_at header.now file.now id.now offset_size) (length found.old) }
-    ensures copied { (place : Place) → managed_at header.now file.now id.now offset_size ≡ Ok place
+        ≡ fetched (managed_unchecked header.now file.now id.now offset_size) (length found.old) }
+    ensures copied { (place : Place) → managed_unchecked header.now file.now id.now offset_size ≡ Ok place
         → OnOk result (found.new ≡ take place.length (drop place.position file.now)
         ++ drop place.length found.old) }
     ensures untouched { OnErr result (found.new ≡ found.old) }
@@ -40,8 +40,8 @@ pub fn fetch_unchecked(
     copy_object(place, file, found)
 }
 
-/// The same by the header at `at` of the file, whose addresses have `offset_size` bytes and whose lengths `length_size`:
-/// it is parsed, and refused as `parse` refuses. What `fetch_unchecked` answers follows.
+/// The same by the header at `at` of the file, whose addresses have `offset_size` bytes and whose lengths
+/// `length_size`: it is parsed, and refused as `parse` refuses. What `fetch_unchecked` answers follows.
 ///
 /// Of a file that holds a header and a region of ours, as they were written, and by an ID that was given, early or at
 /// the end, these are the object's bytes if the object is no longer than the header's largest managed object: nothing
@@ -54,15 +54,15 @@ pub fn fetch_at_unchecked(
     id: &[u8],
     found: &mut [u8],
 ) -> Result<usize, FormatError>
-    ensures kept { ForWritten file.now at offset_size length_size id.now
+    ensures kept { ForWrittenUnchecked file.now at offset_size length_size id.now
         (λ bytes. length bytes ≤ length found.old → IsFetched result found.old found.new bytes) }
 
-    ensures in_file { IfOk (object_by file.now at offset_size length_size id.now offset_size)
+    ensures in_file { IfOk (unchecked_by file.now at offset_size length_size id.now offset_size)
         (λ place. place.position + place.length ≤ length file.now) }
     ensures answer { result
-        ≡ fetched (object_by file.now at offset_size length_size id.now offset_size) (length found.old) }
+        ≡ fetched (unchecked_by file.now at offset_size length_size id.now offset_size) (length found.old) }
     ensures copied { (place : Place)
-        → object_by file.now at offset_size length_size id.now offset_size ≡ Ok place
+        → unchecked_by file.now at offset_size length_size id.now offset_size ≡ Ok place
         → OnOk result (found.new ≡ take place.length (drop place.position file.now)
         ++ drop place.length found.old) }
     ensures untouched { OnErr result (found.new ≡ found.old) }

@@ -4,15 +4,15 @@ ghost use Rattle.refusals.specs.Refusals.{report_of};
 ghost use Rattle.fields.specs.Slot.{slot_number, slot_bytes};
 ghost use Rattle.fields.specs.Places.{place_report};
 ghost use Rattle.fractal_heap.specs.Header.{header_at};
-ghost use Rattle.fractal_heap.specs.Read.{managed_at, object_by};
+ghost use Rattle.fractal_heap.specs.Read.{managed_unchecked, unchecked_by};
 ghost use Rattle.tools_c.specs.ObjectTools.{each_number, each_list};
 
-use super::id_lists::{Untested, read_each};
+use super::id_lists::{UncheckedFile, read_list};
 use fields::Place;
 use fields::convert::to_usize;
 use fields::slot::put_answer;
 use fractal_heap::FractalHeapHeader;
-use refusals::{FormatError, Reported, SLICE_TOO_SHORT};
+use refusals::{FormatError, Reported};
 
 fn read(
     file: &[u8],
@@ -22,7 +22,7 @@ fn read(
     read_size: u8,
     id: &[u8],
 ) -> Result<Place, FormatError>
-    ensures object { result ≡ object_by file.now at offset_size length_size id.now read_size }
+    ensures object { result ≡ unchecked_by file.now at offset_size length_size id.now read_size }
     ensures in_file { IfOk result (λ place. place.position + place.length ≤ length file.now) }
 {
     let header = FractalHeapHeader::parse(file, to_usize(at), offset_size, length_size)?;
@@ -42,11 +42,11 @@ pub extern "C" fn tools_read_managed_object_unchecked(
 ) -> u32
     ensures number { result ≡ slot_number slot.old
         (report_of place_report
-        (object_by file.now at offset_size length_size id.now read_size)) }
+        (unchecked_by file.now at offset_size length_size id.now read_size)) }
     ensures slot_after { slot.new ≡ slot_bytes slot.old
         (report_of place_report
-        (object_by file.now at offset_size length_size id.now read_size)) }
-    ensures in_file { IfOk (object_by file.now at offset_size length_size id.now read_size)
+        (unchecked_by file.now at offset_size length_size id.now read_size)) }
+    ensures in_file { IfOk (unchecked_by file.now at offset_size length_size id.now read_size)
         (λ place. place.position + place.length ≤ length file.now) }
 {
     put_answer(
@@ -68,22 +68,9 @@ pub extern "C" fn tools_read_each_unchecked(
     ensures number { result
         ≡ each_number found.old ids.now (header_at file.now at offset_size length_size) }
     ensures found_after { found.new ≡ each_list found.old ids.now
-        (λ header id. managed_at header file.now id offset_size)
+        (λ header id. managed_unchecked header file.now id offset_size)
         (header_at file.now at offset_size length_size) }
 {
-    if found.len() / 3 < ids.len() / 8 {
-        return SLICE_TOO_SHORT;
-    }
-    match FractalHeapHeader::parse(file, to_usize(at), offset_size, length_size) {
-        Ok(header) => {
-            let objects = Untested {
-                header: &header,
-                file,
-                offset_size,
-            };
-            read_each(&objects, ids, found);
-            0
-        }
-        Err(e) => e.answer().number,
-    }
+    let objects = UncheckedFile { file, offset_size };
+    read_list(&objects, file, at, offset_size, length_size, ids, found)
 }

@@ -9,12 +9,12 @@ returns c =
     let width = width_by_fours a.offset_size a.length_size _ e in
     let bytes = spelled_by_fours a.offset_size a.length_size a.numbers.now _ e in
     let all =
-    puts-append _ _ _ _ _ _ _ c.put_four.ensures
-    (puts-append _ _ _ _ _ _ _ c.put_four-2.ensures
-    (puts-append _ _ _ _ _ _ _ c.put_four-3.ensures
-    (puts-append _ _ _ _ _ _ _ c.put_four-4.ensures
-    (puts-append _ _ _ _ _ _ _ c.put_four-5.ensures
-    (puts-append _ _ _ _ _ _ _ c.put_field.ensures
-    (puts-append _ _ _ _ _ _ _ c.put_field-2.ensures
+    puts-append c.put_four.ensures
+    (puts-append c.put_four-2.ensures
+    (puts-append c.put_four-3.ensures
+    (puts-append c.put_four-4.ensures
+    (puts-append c.put_four-5.ensures
+    (puts-append c.put_field.ensures
+    (puts-append c.put_field-2.ensures
     c.put_field-3.ensures)))))) in
-    puts-as _ _ _ _ _ _ all width bytes
+    puts-as all width bytes

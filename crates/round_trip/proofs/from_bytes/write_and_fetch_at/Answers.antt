@@ -53,8 +53,8 @@ returns c =
     let B = header-held A (omega arith) g n q.header_in_file q.header_before c.planned_header-header.ensures there in
     let H = heap-held A (omega arith) g n q.header_in_file q.header_before c.planned_header-header.ensures there in
     let M =
-    heap-managed A (omega arith) g n q.header_in_file q.header_before c.planned_header-header.ensures there q.among_early
-    q.early_in_list in
+    heap-managed A (omega arith) g n q.header_in_file q.header_before c.planned_header-header.ensures there
+    q.among_early q.early_in_list in
     let sums = header-sums c.args.site c.in_ok-plan.plan _ c.planned_header-header.ensures in
     let K = c.fetch_at.ensures.kept _ B sums _ _ _ _ H refl I M (omega (arith, size-is H I, q.room)) in
     let F = came A (omega arith) g n q.header_in_file q.header_before c.planned_header-header.ensures there

@@ -2,7 +2,7 @@
 use Rattle.std.proofs.Common.{Result, sym, ap, ◌∙◌, arith, length}
 use Rattle.plan.specs.declared.ManagedPlan.{ManagedPlan}
 use Rattle.refusals.specs.declared.FormatError.{FormatError}
-use Rattle.fractal_heap.specs.Read.{managed_at}
+use Rattle.fractal_heap.specs.Read.{managed_unchecked}
 use Rattle.heap_kept.specs.Kept.{fetched}
 use Rattle.round_trip.specs.Passed.{fetched_in}
 use Rattle.heap_kept.proofs.Keeping.{size-is}
@@ -31,7 +31,8 @@ returns-clause-answer g c =
     let d = given-is A D c.in_ok-id.ensures.answer in
     let file = c.serialize_and_pass.new.file in
     c.fetch_unchecked.ensures.answer
-    ∙ (λ j. fetched (managed_at (c.root_header.ensures j) file (d j) c.args.site.offset_size) (length c.args.found.now))
+    ∙ (λ j. fetched (managed_unchecked (c.root_header.ensures j) file (d j) c.args.site.offset_size)
+    (length c.args.found.now))
     ∙ ap (λ (r : Result ManagedPlan FormatError).
     fetched_in r c.args.site c.args.sizes.now c.args.early c.args.i file (length c.args.found.now)) (sym A.answer)
 
@@ -45,7 +46,7 @@ returns-clause-copied g c =
     if-accepted A _
     (if-answered _ _ (λ place e.
     c.fetch_unchecked.ensures.copied place
-    ((λ j. managed_at (c.root_header.ensures j) file (d j) c.args.site.offset_size) ∙ e)))
+    ((λ j. managed_unchecked (c.root_header.ensures j) file (d j) c.args.site.offset_size) ∙ e)))
 
 pub returns-clause-kept : goal.returns-clause-kept
 returns-clause-kept g c =

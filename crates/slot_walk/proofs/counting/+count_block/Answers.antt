@@ -6,7 +6,8 @@ use Rattle.slot_walk.proofs.Tallying.{Cols, rows_start, cols_start, next_fits, p
 use Rattle.slot_walk.proofs.Tallying.{rows_done, cols_more, block-counted, block-asked, direct_start, row-bits}
 use Rattle.slot_walk.proofs.Tallying.{row-place, slots-fit, one-slot, cols_over}
 use Rattle.slot_walk.proofs.counting.+count_block.Goals as goal
-use Rattle.slot_walk.proofs.counting.+count_block.Goals.{then-size-geometry+else-indirect-test, else-size-geometry+else-direct-test}
+use Rattle.slot_walk.proofs.counting.+count_block.Goals.{then-size-geometry+else-indirect-test}
+use Rattle.slot_walk.proofs.counting.+count_block.Goals.{else-size-geometry+else-direct-test}
 
 pub rows-init : goal.rows-init
 rows-init t c = rows_start c.requires.table.start c.requires.block
@@ -69,7 +70,7 @@ direct-preserved t c =
 pub offset_bounds-counts-place : goal.offset_bounds-counts-place
 offset_bounds-counts-place t c =
     let p = c.requires.table in
-    omega (arith, row-bits c.rows.invariant (shallow p _ c.if-size-geometry.false), p.most, p.heap)
+    omega (arith, row-bits c.rows.invariant (shallow p _ c.if-size-geometry.false), p.direct_in_heap, p.heap)
 
 pub bounds-counts-place : goal.bounds-counts-place
 bounds-counts-place t c = row-place c.rows.invariant (shallow c.requires.table _ c.if-size-geometry.false)

@@ -3,7 +3,7 @@ use Rattle.std.proofs.Common.{◌≡◌, ◌-◌, ◌<◌, sym, subst, arith}
 use Rattle.std.specs.Prelude.{IfOk}
 use Rattle.table.specs.Table.{Table, row_offset, max_rows}
 use Rattle.slot_walk.specs.Blocks.{IsNested}
-use Rattle.slot_walk.specs.Walk.{bytes_of}
+use Rattle.slot_walk.specs.HeapOrder.{bytes_of}
 use Rattle.slot_walk.specs.Laws.{FormatCounts}
 use Rattle.slot_walk.proofs.Levels.{eight-enough}
 use Rattle.slot_walk.proofs.counting.count_slots.Goals as goal

@@ -12,9 +12,9 @@ count_block-requires-clause-block g c =
 pub returns : goal.returns
 returns g c =
     let T = c.requires.table.table in
-    let is = counted T c.args.rows (sym c.in-Some.is ∙ c.heap_rows_end.ensures) g.row.N c.count_block.ensures in
+    let counts = counted T c.args.rows (sym c.in-Some.is ∙ c.heap_rows_end.ensures) g.row.N c.count_block.ensures in
     record {
-      value = is;
-      formats = counts-format T c.args.rows g.row.N is;
-      fill = counts-span T c.args.rows g.row.N is (omega (arith, c.requires.places, T.start_in_direct));
+      counts = counts;
+      formats = counts-format T c.args.rows g.row.N counts;
+      fill = counts-span T c.args.rows g.row.N counts (omega (arith, c.requires.places, T.start_in_direct));
     }

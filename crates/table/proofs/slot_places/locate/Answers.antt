@@ -13,7 +13,7 @@ returns-then-is_direct c =
 
 pub loop-at-smaller : goal.loop-at-smaller
 loop-at-smaller c =
-    let s = deep_start c.loop-at.local c.table_slot-at.ensures.slot (omega arith) c.if-is_direct.ensures in
+    let s = deep_start c.loop-at.past c.table_slot-at.ensures.slot (omega arith) c.if-is_direct.ensures in
     omega arith
 
 pub loop-at-preserved : goal.loop-at-preserved
