@@ -198,7 +198,7 @@ def check_orders():
     check_order(sound, 80, (8, 8), too_early(112, 80))
     check_order(b"", 0, (8, 8), too_early(5, 0))
     version = "5: the version of the heap's header, or of a block, is 1, not 0"
-    signature = "4: no signature: FRHP has to begin the heap's header, FHIB an indirect block, FHDB a direct block"
+    signature = "4: the heap's header at 0 in the file begins with 46 52 48 51, and not with FRHP, 46 52 48 50"
     check_order(b"FRHQ" + sound[4:], len(sound), (8, 8), signature)
     check_order(b"FRHP\1" + sound[5:], len(sound), (8, 8), version)
 

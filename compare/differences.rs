@@ -610,7 +610,7 @@ const CASES: [(u64, &str, fn()); 39] = named![
 ];
 
 /// Kept in `heap.rs` and `plan.rs`, since their inputs are long; and by `loader/`, which has HDF5.
-const ELSEWHERE: [u64; 4] = [6, 10, 41, 43];
+const ELSEWHERE: [u64; 5] = [6, 10, 41, 43, 44];
 
 /// The document's row of a case.
 fn documented(number: u64) -> &'static str {

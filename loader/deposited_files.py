@@ -3,8 +3,10 @@
 Each file is read whole by h5py and h5dump, every field of it is held to the format by hdf5_format.py, behind
 which nothing of ours stands, and h5debug's numbers to those that the program told. Then h5py adds, replaces and
 removes attributes, down to none, adds others, and the file must still be sound. What `poilures list` and `get` find is
-held to what h5py put in, there and in files that HDF5 alone wrote; a folder comes back from `get --all` as h5py left
-it; and `deposit --add` makes the file that `deposit` makes of all at once, and takes no file that h5py has open.
+held to what h5py put in, there and in files that HDF5 alone wrote, and so is which values no checksum covers; a bit of
+such a value, an index that is older than its heap, a file laid over a larger one, and a user block of h5jam's are told
+as what they are; a folder comes back from `get --all` as h5py left it; and `deposit --add` makes the file that `deposit`
+makes of all at once, and takes no file that h5py has open for writing.
 Files whose bytes were changed at random, with their checksums made right again, are read for so many seconds, where
 the program that does it is built."""
 
@@ -376,6 +378,51 @@ def check_all(program, name, due):
     shutil.rmtree(folder)
 
 
+NO_CHECKSUM = "no checksum covers every byte of"
+
+
+def covered_by_format(name, lines):
+    """Of each attribute whether checksums cover every byte of its value, by the format: none covers an object header of
+    version 1, a huge object, as which bit 4 of an ID's first byte marks it, nor the global heap, in which each text of
+    variable length lies that has bytes."""
+    data, covered = whole_file(name), {}
+    with h5py.File(name, "r") as file:
+        root = file["/"].id
+        at = file.userblock_size + h5o.get_info(root).addr
+        expect(data[at : at + 4] == b"OHDR" or data[at : at + 1] == b"\1", f"an object header at {at}")
+        for line in lines:
+            if line["length"] is None:
+                covered[line["name"]] = None
+                continue
+            kind = h5a.open(root, line["name"].encode()).get_type()
+            is_elsewhere = isinstance(kind, h5t.TypeStringID) and kind.is_variable_str() and line["length"] > 0
+            is_huge = line["id"] is not None and int(line["id"][:2], 16) >> 4 & 3 == 1
+            covered[line["name"]] = data[at : at + 4] == b"OHDR" and not is_huge and not is_elsewhere
+    return covered
+
+
+def check_covered(program, name, lines, draw, counts):
+    """`list --json` tells which values no checksum covers, `get` in one line, and both refuse them where that is asked."""
+    covered = covered_by_format(name, lines)
+    expect({line["name"]: line["checked"] for line in lines} == covered, f"which values of {name} are covered: {covered}")
+    printed, _ = run([program, "list", name])
+    marked = [row for row in printed.decode().splitlines() if re.match(r" *[0-9,]+\*", row)]
+    bare = [key for key in covered if covered[key] is False]
+    expect(len(marked) == len(bare) and printed.count(b"\n* no checksum covers") == (bare != []), printed)
+    run([program, "list", "--require-checksums", name], 1 if bare else 0)
+    for key in draw.sample(bare, min(len(bare), 2)):
+        _, told = run([program, "get", name, "--", key])
+        expect(told.startswith(f"{name}: {NO_CHECKSUM} {key} (") and told.count("\n") == 1, told)
+        given, told = run([program, "get", "--require-checksums", name, "--", key], 1)
+        expect(given == b"" and f"{NO_CHECKSUM} {key} (" in told, told)
+    sound = [key for key in covered if covered[key]]
+    for key in draw.sample(sound, min(len(sound), 2)):
+        _, told = run([program, "get", "--require-checksums", name, "--", key])
+        expect(told == "", told)
+    counts["covered"] += len(sound)
+    counts["not covered"] += len(bare)
+
+
 def check_reader(program, name, due, draw, counts, order=False):
     """Our reader gives every byte of every attribute, or says why not."""
     lines = listed(program, name)
@@ -405,6 +452,7 @@ def check_reader(program, name, due, draw, counts, order=False):
     expect("the root group has no attribute of the name no such name" in told, told)
     if len(due) <= 60:
         check_all(program, name, due)
+        check_covered(program, name, lines, draw, counts)
     counts["read"] += len(read)
     counts["not read"] += len(names) - len(read)
     counts["huge"] += sum(1 for line in lines if line["id"] and line["id"].startswith("10"))
@@ -541,6 +589,192 @@ def check_going_on(program, deposit, draw, counts):
     return 4
 
 
+# What no checksum covers, and parts of several files
+
+
+def written(name, data):
+    with open(name, "wb") as opened:
+        opened.write(data)
+
+
+def sealed_anew(data, start, end):
+    """The bytes with the checksum made right that stands behind some of them."""
+    return data[:end] + little(form.lookup3(data[start:end]), 4) + data[end + 4 :]
+
+
+def check_bit(program, name, key, value, words):
+    """One bit of a value is changed: h5py reads other bytes, and so does `get`, which says that no checksum covers them,
+    and refuses them where one has to."""
+    data = whole_file(name)
+    place = data.index(value)
+    changed = bytes([value[0] ^ 1]) + value[1:]
+    written(name, data[:place] + changed + data[place + len(value) :])
+    with h5py.File(name, "r") as file:
+        expect(bytes_of(h5a.open(file["/"].id, key.encode())) == changed, f"{key} by h5py")
+    given, told = run([program, "get", name, key])
+    expect(given == changed and told == f"{name}: {NO_CHECKSUM} {key} ({words})\n", f"{key}: {told}")
+    line = next(line for line in listed(program, name) if line["name"] == key)
+    expect(line["checked"] is False, f"{line}")
+    run([program, "list", "--require-checksums", name], 1)
+    given, told = run([program, "get", "--require-checksums", name, key], 1)
+    expect(given == b"" and f"{NO_CHECKSUM} {key} ({words})" in told, told)
+    folder = name + ".all"
+    _, told = run([program, "get", "--all", "--require-checksums", "--out-dir", folder, name], 1)
+    expect(f"  {key}: {NO_CHECKSUM} it ({words})" in told and key not in os.listdir(folder), told)
+    shutil.rmtree(folder)
+    written(name, data)
+
+
+def check_bare(program, folder, tools):
+    """A value without a checksum: in a file as h5py writes it, and as h5repack does, in an object header of version 1; of
+    variable length; a huge object; in a heap whose flags say that its blocks have no checksums."""
+    name, other = os.path.join(folder, "bare.h5"), os.path.join(folder, "other.h5")
+    value, old = b"gauge 7 was replaced at noon", "in an object header of version 1"
+    with h5py.File(name, "w") as file:
+        file.attrs["a note"] = numpy.bytes_(value)
+    check_bit(program, name, "a note", value, old)
+    if tools:
+        files = put(os.path.join(folder, "bare"), {"a note": value})
+        run([program, "deposit", other, *files])
+        run(["h5repack", other, name])
+        check_bit(program, name, "a note", value, old)
+        shutil.rmtree(os.path.join(folder, "bare"))
+    large = bytes(i % 251 for i in range(5000))
+    with h5py.File(name, "w", libver="latest") as file:
+        for i in range(9):
+            file.attrs[f"note {i}"] = i
+        file.attrs["a text"] = value.decode()
+        file.attrs.create("large", numpy.frombuffer(large, "u1"))
+    lines = {line["name"]: line["checked"] for line in listed(program, name)}
+    bare = {"a text", "large"}
+    expect(lines == {key: key not in bare for key in lines} and bare < set(lines), f"{lines}")
+    check_bit(program, name, "a text", value, "in the global heap, as a text of variable length")
+    check_bit(program, name, "large", large, "outside of the heap's blocks, as a huge object")
+    with h5py.File(name, "w", libver="latest") as file:
+        for i in range(9):
+            file.attrs[f"note {i}"] = numpy.bytes_(value + b" %d" % i)
+    data = whole_file(name)
+    heap = Dense(form.Image(data), "/", form.Image(data).root).heap
+    place, width = heap.fields["flags"]
+    expect(heap.has_sums() and width == 1, "a heap with checksums")
+    data = data[:place] + b"\0" + data[place + 1 :]
+    written(name, sealed_anew(data, heap.address, heap.address + heap.length - 4))
+    check_bit(program, name, "note 3", value + b" 3", "in a heap whose blocks have no checksums")
+    os.remove(name)
+    if tools:
+        os.remove(other)
+
+
+def check_told(program, name, names, words):
+    """`list` and `get --all` find what h5py finds, say this, and end with 1; `get` of one does as always."""
+    with h5py.File(name, "r") as file:
+        expect(sorted(file.attrs) == sorted(names), f"what h5py finds in {name}")
+    lines, told = run([program, "list", "--json", name], 1)
+    found = [json.loads(line)["name"] for line in lines.splitlines()]
+    expect(sorted(found) == sorted(names) and told == f"poilures: {name}: {words}\n", f"{found}: {told}")
+    _, told = run([program, "list", name], 1)
+    expect(told == f"poilures: {name}: {words}\n", told)
+    folder = name + ".all"
+    _, told = run([program, "get", "--all", "--out-dir", folder, name], 1)
+    expect(sorted(os.listdir(folder)) == sorted(names) and told == f"poilures: {name}: {words}\n", told)
+    shutil.rmtree(folder)
+    for key in names[:1]:
+        _, told = run([program, "get", name, "--", key])
+        expect(told == "", told)
+
+
+def notes(count):
+    return {f"note {i}": numpy.bytes_(b"note %d" % i) for i in range(count)}
+
+
+def parts_of(data):
+    """The bytes of a file's index as (start, end), its header and its nodes; and where its header's checksum begins."""
+    dense = Dense(form.Image(data), "/", form.Image(data).root)
+    tree = dense.trees[0]
+    start, end = tree.header_span
+    return [(start, end + 4)] + [(at, at + tree.node_size) for at, _ in tree.nodes], end
+
+
+def check_parts(program, folder):
+    """Parts of several files in one, with every checksum right, as a copy that ended early or a disk that lost a write
+    leaves them: an index that is older than its heap, one without records, a smaller file over the start of a larger one."""
+    name = os.path.join(folder, "parts.h5")
+    makers = []
+    for order in (False, True):
+        with h5py.File(name, "w", libver="latest", track_order=order) as file:
+            file.attrs.update(notes(12))
+        twelve = whole_file(name)
+        with h5py.File(name, "r+", libver="latest") as file:
+            file.attrs.update(dict(list(notes(14).items())[12:]))
+        makers.append((twelve, whole_file(name)))
+    files = put(os.path.join(folder, "parts"), {key: bytes(value) for key, value in notes(14).items()})
+    deposits = []
+    for count in (12, 14):
+        run([program, "deposit", "--force", name, *files[:count]])
+        deposits.append(whole_file(name))
+    makers.append(tuple(deposits))
+    shutil.rmtree(os.path.join(folder, "parts"))
+    for twelve, fourteen in makers:
+        spans, header_end = parts_of(fourteen)
+        expect(spans == parts_of(twelve)[0], "an index at the same place")
+        older = bytearray(fourteen)
+        for start, end in spans:
+            older[start:end] = twelve[start:end]
+        written(name, older)
+        check_told(
+            program, name, list(notes(12)), "the index leads to 12 managed objects, and the heap's header counts 14"
+        )
+        start = spans[0][0]
+        none = fourteen[: start + 16] + little(U, 8) + little(0, 2) + little(0, 8) + fourteen[header_end:]
+        written(name, sealed_anew(none, start, header_end))
+        check_told(program, name, [], "the index leads to 0 managed objects, and the heap's header counts 14")
+        small, large = twelve, fourteen + bytes(70000)
+        written(name, small + large[len(small) :])
+        more = f"behind the end that its superblock tells are {len(large) - len(small):,} more bytes, which are not read"
+        check_told(program, name, list(notes(12)), more)
+    os.remove(name)
+
+
+def check_user_blocks(program, folder):
+    """A user block that h5jam put before a file as it was: h5py reads the file, h5unjam gives it back, and `get` and `list`
+    read it where the block is named."""
+    names = [os.path.join(folder, name) for name in ("plain.h5", "block", "jammed.h5", "unjammed.h5")]
+    plain, block, jammed, unjammed = names
+    values = {key: bytes(value) for key, value in notes(20).items()}
+    files = put(os.path.join(folder, "jam"), values)
+    for size in (7, 512, 513, 5000):
+        run([program, "deposit", "--force", plain, *files])
+        written(block, b"U" * size)
+        run(["h5jam", "-u", block, "-i", plain, "-o", jammed])
+        with h5py.File(jammed, "r") as file:
+            place = file.userblock_size
+            found = {key: bytes_of(h5a.open(file["/"].id, key.encode())) for key in file.attrs}
+        expect(place >= size and found == values, f"what h5py reads behind a block of {size}")
+        run(["h5unjam", "-i", jammed, "-o", unjammed])
+        expect(listed(program, unjammed) == listed(program, plain), "what h5unjam leaves")
+        for words in (["list"], ["get", "--all", "--out-dir", jammed + ".all"]):
+            _, told = run([program, *words, jammed], 1)
+            expect("its base address is not its place" in told and "h5unjam takes it off" in told, told)
+            expect(told.endswith(f" with --user-block {place}\n"), told)
+        lines, _ = run([program, "list", "--json", "--user-block", f"{place}", jammed])
+        due = listed(program, plain)
+        expect([json.loads(line) for line in lines.splitlines()] == due, f"a list behind {place}")
+        key = list(values)[3]
+        expect(run([program, "get", "--user-block", f"{place}", jammed, key])[0] == values[key], f"behind {place}")
+        for wrong in (0, place // 2, 2 * place, place + 1):
+            given, told = run([program, "get", "--user-block", f"{wrong}", jammed, key], 1)
+            expect(given == b"" and f": one is found at {place:,}\n" in told, told)
+        os.remove(unjammed)
+    with h5py.File(plain, "w", userblock_size=1024, libver="latest") as file:
+        file.attrs.update(notes(20))
+    for words in ([], ["--user-block", "1024"]):
+        lines, told = run([program, "list", "--json", *words, plain])
+        expect(len(lines.splitlines()) == 20 and told == "", f"a user block that HDF5 made: {told}")
+    shutil.rmtree(os.path.join(folder, "jam"))
+    for name in (plain, block, jammed):
+        os.remove(name)
+
+
 # Folders, and files that are added
 
 
@@ -660,25 +894,33 @@ def is_locked(name):
 
 
 def check_held(program, folder):
-    """While h5py has the file open nothing is added, and while we add h5py cannot change it; and a file that is marked as
-    open for writing needs --force."""
+    """While h5py has the file open for writing nothing is added, and while we add h5py cannot change it, but read it.
+    Where it has the file open for reading, it keeps the old one. A file that is marked as open for writing needs --force."""
     name, late = os.path.join(folder, "held.h5"), os.path.join(folder, "late")
     files = put(os.path.join(folder, "held"), {"a note": b"a note"})
-    for mode in ("r+", "r"):
-        run([program, "deposit", "--force", name, *files])
-        due = {"a note": b"a note"}
-        with h5py.File(name, mode) as file:
-            if mode == "r+":
-                file.attrs.create("new", numpy.frombuffer(b"new", "u1"))
-                due["new"] = b"new"
-            _, told = run([program, "deposit", "--add", "--force", "--name", "late", name, *files], 2)
-            expect("another program has it open, and has locked it" in told, told)
-        check_h5py(name, due)
+    adding = [program, "deposit", "--add", "--name", "late", name, *files]
+    run([program, "deposit", name, *files])
+    with h5py.File(name, "r+") as file:
+        file.attrs.create("new", numpy.frombuffer(b"new", "u1"))
+        for words in ([], ["--force"], ["--wait=1"]):
+            _, told = run(adding + words, 2)
+            expect("a program has it open for writing, HDF5 perhaps" in told and "--wait" in told, told)
+        words = adding + ["--wait=60", "--force", "--quiet"]
+        waiting = subprocess.Popen(words, stdout=subprocess.DEVNULL, stderr=subprocess.DEVNULL)
+    expect(waiting.wait() == 0, "an addition that waits until h5py has closed the file")
+    due = {"a note": b"a note", "new": b"new", "late": b"a note"}
+    check_h5py(name, due)
+    run([program, "deposit", "--force", name, *files])
+    with h5py.File(name, "r") as file:
+        run(adding)
+        expect(h5py_reads(file) == {b"a note": b"a note"}, "h5py has the old file")
+        check_h5py(name, {"a note": b"a note", "late": b"a note"})
     os.mkfifo(late)
     run([program, "deposit", "--force", name, *files])
     adding = subprocess.Popen([program, "deposit", "--add", "-q", name, late], stdout=subprocess.DEVNULL)
     with open(late, "wb") as opened:  # when the program comes to it
         expect(is_locked(name), "h5py is refused while we add")
+        check_h5py(name, {"a note": b"a note"})
         opened.write(b"late")
     expect(adding.wait() == 0 and not is_locked(name), "an addition")
     check_h5py(name, {"a note": b"a note", "late": b"late"})
@@ -688,10 +930,140 @@ def check_held(program, folder):
     with open(name, "wb") as opened:
         opened.write(data)
     _, told = run([program, "deposit", "--add", "--name", "later", name, *files], 1)
-    expect("is marked as open for writing" in told and whole_file(name) == data, told)
+    expect("is marked as open for writing" in told and "--force adds" in told and whole_file(name) == data, told)
     run([program, "deposit", "--add", "--force", "--name", "later", name, *files])
     check_h5py(name, {"a note": b"a note", "late": b"late", "later": b"a note"})
+    # What --force does not help against is told without it.
+    with open(name, "wb") as opened:
+        opened.write(data + b"what another program keeps there")
+    _, told = run([program, "deposit", "--add", "--name", "later", name, *files], 1)
+    expect("bytes behind its end" in told and "--force" not in told, told)
     shutil.rmtree(os.path.join(folder, "held"))
+    os.remove(name)
+    os.remove(late)
+
+
+def check_replaced(program, folder):
+    """What h5py has open for writing is not replaced, and its edits are kept; what it reads it keeps."""
+    name = os.path.join(folder, "replaced.h5")
+    files = put(os.path.join(folder, "replaced"), {"a note": b"a note", "another": b"another note"})
+    run([program, "deposit", name, files[0]])
+    with h5py.File(name, "r+") as file:
+        file.attrs.create("new", numpy.frombuffer(b"new", "u1"))
+        _, told = run([program, "deposit", "--force", name, files[1]], 2)
+        expect("and what that writes would be lost" in told, told)
+    check_h5py(name, {"a note": b"a note", "new": b"new"})
+    with h5py.File(name, "r") as file:
+        run([program, "deposit", "--force", name, files[1]])
+        expect(h5py_reads(file) == {b"a note": b"a note", b"new": b"new"}, "h5py has the old file")
+    check_h5py(name, {"another": b"another note"})
+    shutil.rmtree(os.path.join(folder, "replaced"))
+    os.remove(name)
+
+
+def shapes(name):
+    """Of each attribute of a file its type, as HDF5 encodes it, and its shape."""
+    with h5py.File(name, "r") as file:
+        opened = {key: file.attrs.get_id(key) for key in file.attrs}
+        return {key: (attribute.get_type().encode(), attribute.shape) for key, attribute in opened.items()}
+
+
+def check_texts(program, folder):
+    """A text of variable length, as h5py writes a str, becomes a string of fixed length with the same bytes, where that
+    is asked for; all else keeps its type and its space."""
+    name, late = os.path.join(folder, "texts.h5"), os.path.join(folder, "late")
+    with open(late, "wb") as opened:
+        opened.write(b"late")
+    ascii_text, fixed = h5py.string_dtype("ascii"), h5py.string_dtype("utf-8", 9)
+    texts = {"operator": "AB", "größe": "größe ß", "empty": "", "spaces": " a  ", "long": "long " * 9000}
+    texts["one of a list"] = ["a"]
+    others = {"number": 7, "square": numpy.arange(6.0).reshape(2, 3), "bytes": numpy.bytes_(b"AB"), "yes": True}
+    for libver in ("earliest", "latest"):
+        for few in (False, True):
+            with h5py.File(name, "w", libver=libver) as file:
+                for key in ["operator"] if few else texts:
+                    file.attrs[key] = texts[key]
+                if not few:
+                    file.attrs.create("in ASCII", "AB", dtype=ascii_text)
+                    file.attrs.create("fixed", "größe".encode(), dtype=fixed)
+                    file.attrs.update(others)
+                due = h5py_reads_texts(file)
+            before, data = shapes(name), whole_file(name)
+            changed = {key for key in before if key in texts or key == "in ASCII"}
+            _, told = run([program, "deposit", "--add", name, late], 1)
+            expect("of variable length, and would become" in told and whole_file(name) == data, told)
+            _, forced = run([program, "deposit", "--add", "--force", name, late])
+            for words in (told, forced):
+                lines = re.findall(r"^  (.*)$", words.partition("another ID")[0], re.MULTILINE)
+                expect(set(lines) == changed and len(lines) == len(changed), f"texts that are told: {words}")
+            with h5py.File(name, "r") as file:
+                read = h5py_reads_texts(file)
+            expect(read == {**due, "late": b"late", **({} if few else {"empty": b"\0"})}, f"texts: {read}")
+            check_shapes(before, shapes(name), changed, read)
+            given, _ = run([program, "get", name, "operator"])
+            expect(given == b"AB", "a text that we give back")
+            if shutil.which("h5dump"):
+                dumped = subprocess.run(["h5dump", "-a", "operator", name], capture_output=True).stdout
+                expect(b'(0): "AB"\n' in dumped and b"STRSIZE 2;" in dumped, f"h5dump: {dumped}")
+            run([program, "deposit", "--add", "--name", "later", name, late])  # it is ours now
+    os.remove(name)
+    os.remove(late)
+
+
+def h5py_reads_texts(file):
+    """The bytes of each attribute: of a str those of its text, also of the only one of a list."""
+
+    def bytes_of_any(key):
+        attribute = file.attrs.get_id(key)
+        kind = attribute.get_type()
+        if isinstance(kind, h5t.TypeStringID) and kind.is_variable_str():
+            value = file.attrs[key]
+            return (value if isinstance(value, str) else value[0]).encode()
+        read = numpy.empty(attribute.shape, f"V{kind.get_size()}")
+        attribute.read(read, mtype=kind)
+        return read.tobytes()
+
+    return {key: bytes_of_any(key) for key in file.attrs}
+
+
+def check_shapes(before, after, changed, read):
+    """Types and spaces are as they were, but the type of a text that has a fixed length now: its character set stays."""
+    for key, (encoded, shape) in before.items():
+        kind = h5t.decode(after[key][0])
+        expect(after[key][1] == shape, f"space of {key}: {after[key][1]}")
+        if key not in changed:
+            expect(after[key][0] == encoded, f"type of {key}: {kind}")
+            continue
+        found = kind.is_variable_str(), kind.get_size(), kind.get_strpad(), kind.get_cset()
+        due = False, max(len(read[key]), 1), h5t.STR_NULLPAD, h5t.decode(encoded).get_cset()
+        expect(found == due, f"type of {key}: {found}")
+
+
+def check_no_links(program, folder):
+    """A root group has no links where its symbol table, or its dense storage of links, is empty, as h5py makes a file
+    by default and as it leaves one whose groups were removed."""
+    name, late = os.path.join(folder, "links.h5"), os.path.join(folder, "late")
+    with open(late, "wb") as opened:
+        opened.write(b"late")
+
+    def removed(file, count):
+        for i in range(count):
+            file.create_group(f"group {i}")
+        for i in range(count):
+            del file[f"group {i}"]
+
+    for libver in ("earliest", "latest"):
+        for count in (0, 1, 8, 400):
+            for attributes in (0, 1, 12):
+                due = {f"note {i}": b"a note" for i in range(attributes)}
+                with h5py.File(name, "w", libver=libver) as file:
+                    for key, data in due.items():
+                        file.attrs.create(key, numpy.frombuffer(data, "u1"))
+                    removed(file, count)
+                _, told = run([program, "deposit", "--add", name, late], 1)
+                expect("--force adds all the same" in told, told)
+                run([program, "deposit", "--add", "--force", name, late])
+                check_h5py(name, {**due, "late": b"late"})
     os.remove(name)
     os.remove(late)
 
@@ -763,10 +1135,12 @@ def check_not_added(program, folder):
 
     refused("other objects, which its root group has links to", lambda file: file.create_group("a group"))
     refused("other objects", lambda file: [file.create_group(f"group {i}") for i in range(40)], libver="latest")
-    refused("its value, of variable length, would be lost", lambda file: file.attrs.create("a", "text"))
+    refused("it is a list of strings of variable length", lambda file: file.attrs.create("a", ["a", "text"]))
+    refused("refused by 11", lambda file: file.attrs.create("a", "text" * 20000))
     refused("it is a compound of several values", lambda file: file.attrs.create("a", numpy.zeros(1, "i4, f8")))
     refused("refused by 11", lambda file: [file.attrs.create(f"{i}", numpy.zeros(65500, "u1")) for i in range(9)])
-    refused("other objects", lambda file: None, mode="w")  # a symbol table
+    refused("other objects", lambda file: file.create_group("a group"), mode="w")  # a symbol table
+    refused("other objects", lambda file: file.update({"a link": h5py.SoftLink("/nothing")}), mode="w")
     refused("a user block", lambda file: None, mode="w", userblock_size=512, libver="latest")
     refused("more in its root group", lambda file: h5o.set_comment(file["/"].id, b"a comment"))
     refused("bytes behind its end", lambda file: None, b"what another program keeps there")
@@ -916,9 +1290,16 @@ def main():
     check_not_added(program, folder)
     check_removed(program, folder)
     check_held(program, folder)
+    check_replaced(program, folder)
+    check_texts(program, folder)
+    check_no_links(program, folder)
     check_other_types(program, folder)
     check_shared(program, folder)
     check_unknown(program, folder)
+    check_bare(program, folder, tools)
+    check_parts(program, folder)
+    if tools:
+        check_user_blocks(program, folder)
     check_readme(program, folder)
     check_changed_bytes(program, folder, seconds)
     if not tools:
@@ -929,6 +1310,10 @@ def main():
         f"deposited files: get and list read {counts['read']} attributes there and in {counts['own files']} files that HDF5 "
         f"alone wrote, {counts['huge']} of them huge; of {counts['not read']} of other types they say so; a folder came back "
         "as h5py left it; what was added was as if deposited at once"
+    )
+    print(
+        f"deposited files: of {counts['covered'] + counts['not covered']} values held to the format {counts['not covered']} "
+        "were told as covered by no checksum; bits of these, older and smaller parts, and user blocks were told as such"
     )
     readers = "h5py and h5dump" if tools else "h5py"
     print(

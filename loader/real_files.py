@@ -336,10 +336,13 @@ def check_user_block(programs, name, block, version, widths, counts):
 
 
 def check_open(name, version):
-    """The command tells of a file that is open for writing, where its superblock does."""
+    """The command does not read a file that is open for writing, unless it is not to ask; then it tells of it where the
+    superblock does."""
     with h5py.File(name, "r+"):
         words = [COMMAND, "read", name, "0", "00", "--address"]  # no heap, but the superblock is looked at first
-        said = subprocess.run(words, stderr=subprocess.PIPE, text=True).stderr
+        refused = subprocess.run(words, stderr=subprocess.PIPE, text=True)
+        expect(refused.returncode == 2 and "a program has it open for writing" in refused.stderr, refused.stderr)
+        said = subprocess.run([*words, "--no-lock"], stderr=subprocess.PIPE, text=True).stderr
         expect(("open for writing" in said) == (version > 1), f"open for writing: {said}")
 
 

@@ -7,16 +7,17 @@ use crate::heap::Gathering;
 use crate::id::HeapId;
 use crate::inputs::{self, Bytes, Identity};
 use crate::library::Id;
+use crate::locks::{self, Lock, Locking, Patience};
 use crate::output;
 use crate::quoting::shown;
 use crate::talk::{Talk, is_or_are, tell};
 use fractal_heap::{Header, OpenPlan, Refusal, Superblock, count, grouped};
 use hdf5_file::{Dense, LENGTH_SIZE, OFFSET_SIZE, Places, RootGroup};
+use std::borrow::Cow;
 use std::collections::HashSet;
 use std::ffi::OsStr;
-use std::fs::{self, File, Metadata};
+use std::fs::{self, File, Metadata, OpenOptions};
 use std::io;
-use std::os::fd::AsRawFd;
 use std::os::unix::ffi::OsStrExt;
 use std::os::unix::fs::MetadataExt;
 use std::path::{Path, PathBuf};
@@ -30,53 +31,93 @@ pub struct Old {
     name: PathBuf,
     path: PathBuf,
     state: State,
+    /// Of its bytes, as they were then.
+    checksum: u32,
     bytes: Bytes,
+    /// What its own rights say to a program that would write to it, where they forbid it.
+    protected: Option<io::Error>,
+    _locks: Locks,
 }
 
-/// Which file it is, and as it was when it was locked: size, and the times of the last change of its bytes and of what is
-/// known of it.
-type State = (Identity, u64, [i64; 4]);
-
-fn state(known: &Metadata) -> State {
-    let times = [
-        known.mtime(),
-        known.mtime_nsec(),
-        known.ctime(),
-        known.ctime_nsec(),
-    ];
-    (inputs::identity(known), known.len(), times)
+/// A file as it was when it was locked.
+#[derive(PartialEq)]
+struct State {
+    identity: Identity,
+    size: u64,
+    /// When its bytes were changed last: seconds and nanoseconds.
+    modified: [i64; 2],
 }
 
-/// Locks a file as HDF5 does one that it opens for writing, until the file is closed: who has it open then is refused, and
-/// so are we while HDF5 has it open.
-fn lock(file: &File) -> io::Result<()> {
-    // SAFETY: the call takes two numbers, and the file is open.
-    let asked = |kind| match unsafe { libc::flock(file.as_raw_fd(), kind | libc::LOCK_NB) } {
-        0 => Ok(()),
-        _ => Err(io::Error::last_os_error()),
-    };
-    let is =
-        |error: &io::Error, codes: &[i32]| error.raw_os_error().is_some_and(|c| codes.contains(&c));
-    asked(libc::LOCK_EX)
-        // A file system may have such a lock of a file that is open for writing alone; the other one meets writers, too.
-        .or_else(|error| match is(&error, &[libc::EBADF]) {
-            true => asked(libc::LOCK_SH),
-            false => Err(error),
+impl State {
+    fn of(known: &Metadata) -> Self {
+        State {
+            identity: inputs::identity(known),
+            size: known.len(),
+            modified: [known.mtime(), known.mtime_nsec()],
+        }
+    }
+}
+
+/// The locks of a file that is added to.
+struct Locks {
+    file: File,
+    /// HDF5's, so that no program opens it for writing.
+    _shared: Lock,
+    /// That of additions, where the file may be written.
+    _addition: Lock,
+}
+
+impl Locks {
+    /// Opens a file and takes both locks. Not a byte is written: the lock of additions needs a file that is open for
+    /// writing, and where that is not allowed two of them are told apart when their files get their name. Whoever waits
+    /// for another addition does not keep others from HDF5's lock.
+    fn take(name: &Path, path: &Path, patience: Option<Patience>) -> Result<Self, Failure> {
+        let written = OpenOptions::new().read(true).write(true).open(path);
+        let opened = written.or_else(|_| File::open(path));
+        let file = opened.map_err(|error| Failure::file(name, "read", error))?;
+        let _addition = locks::addition(&file, name, patience)?;
+        let _shared = locks::shared(&file, name, patience)?;
+        Ok(Locks {
+            file,
+            _shared,
+            _addition,
         })
-        // One that has no locks has none of others.
-        .or_else(
-            |error| match is(&error, &[libc::ENOLCK, libc::EOPNOTSUPP, libc::ENOSYS]) {
-                true => Ok(()),
-                false => Err(error),
-            },
-        )
+    }
 }
 
-/// Opens the file, locks it, and begins the one that is to take its place. Of a link that is where the link leads. A file
-/// that may not be written is replaced with `force` alone, as all files are by the other subcommands.
+/// So often another file may have the name when one is locked, before that is taken for a name that never stays.
+const ROUNDS: usize = 100;
+
+/// The file that has its name when it is locked: another addition that was waited for has put another file there.
+fn locked(
+    name: &Path,
+    path: &Path,
+    patience: Option<Patience>,
+) -> Result<(Locks, Metadata, Bytes), Failure> {
+    let not_read = |error: io::Error| Failure::file(name, "read", error);
+    for _ in 0..ROUNDS {
+        let locks = Locks::take(name, path, patience)?;
+        let bytes = inputs::whole(path.as_os_str())?;
+        // An empty one is not mapped.
+        let mapped = bytes.file().unwrap_or(&locks.file);
+        if locks::stands_at(&locks.file, path) && locks::stands_at(mapped, path) {
+            let known = locks.file.metadata().map_err(not_read)?;
+            return Ok((locks, known, bytes));
+        }
+    }
+    Err(changed_meanwhile(name))
+}
+
+/// Another file, or another state of it, has the name than the one that was read.
+fn changed_meanwhile(name: &Path) -> Failure {
+    Failure::file(name, "written", "it was changed meanwhile, and was left")
+}
+
+/// Opens the file, locks it, and begins the one that is to take its place. Of a link that is where the link leads.
 pub fn begin(
     name: &Path,
     force: bool,
+    locking: &Locking,
     is_input: impl Fn(Identity) -> bool,
 ) -> Result<(Destination, Option<Old>), Failure> {
     if inputs::is_standard(name.as_os_str()) {
@@ -86,50 +127,45 @@ pub fn begin(
     let not_read = |error: io::Error| Failure::file(name, "read", error);
     let path = fs::canonicalize(name).map_err(not_read)?;
     output::may_go(&path, true, &is_input)?;
-    if !force {
-        let why = |error| format!("{error}; --force adds all the same");
-        output::may_be_written(&path)
-            .map_err(|error| Failure::file(name, "written", why(error)))?;
+    let patience = locking.patience();
+    let (locks, known, bytes) = locked(name, &path, patience)?;
+    // It is locked already, and what its superblock's mark means is asked when it is read.
+    let destination = Destination::named(&path, true, None, is_input)?;
+    let protected = output::may_be_written(&path).err();
+    if let Some(error) = protected
+        .as_ref()
+        .filter(|error| !force && !gives_way(error, &path))
+    {
+        return Err(Failure::file(name, "written", error));
     }
-    let bytes = inputs::whole(path.as_os_str())?;
-    let state = match bytes.file() {
-        Some(file) => {
-            lock(file).map_err(|error| match error.kind() {
-                io::ErrorKind::WouldBlock => {
-                    let words = "another program has it open, and has locked it: HDF5, perhaps, which may not have \
-                                 written all of it";
-                    Failure::file(name, "written", words)
-                }
-                _ => Failure::file(name, "locked", error),
-            })?;
-            state(&file.metadata().map_err(not_read)?)
-        }
-        // An empty one, which is no HDF5 file.
-        None => state(&fs::metadata(&path).map_err(not_read)?),
-    };
-    let destination = Destination::named(&path, true, is_input)?;
     let old = Old {
         name: name.into(),
         path,
-        state,
+        state: State::of(&known),
+        checksum: fractal_heap::checksum(&bytes),
         bytes,
+        protected,
+        _locks: locks,
     };
     Ok((destination, Some(old)))
 }
 
+/// Whether a file that may not be written may be replaced all the same: its mode forbids the one, and the other is a
+/// matter of its folder.
+fn gives_way(error: &io::Error, path: &Path) -> bool {
+    error.raw_os_error() == Some(libc::EACCES) && output::may_be_replaced(path)
+}
+
 impl Old {
-    /// Refuses to replace what is not the file that was read.
+    /// Refuses to replace what is not the file that was read. A change of its mode, or of its names, changes no byte of
+    /// it; and a program that changed its bytes may have put their time back, or done so within one tick of the clock.
     pub fn check(&self) -> Result<(), Failure> {
         self.bytes.check_whole(self.name.as_os_str())?;
-        let now = fs::metadata(&self.path);
-        let is_mapped_whole = self.bytes.len() as u64 == self.state.1;
-        match is_mapped_whole && now.is_ok_and(|known| state(&known) == self.state) {
+        let now = fs::metadata(&self.path).map(|known| State::of(&known));
+        let is_same = now.is_ok_and(|now| now == self.state && self.bytes.len() as u64 == now.size);
+        match is_same && fractal_heap::checksum(&self.bytes) == self.checksum {
             true => Ok(()),
-            false => Err(Failure::file(
-                &self.name,
-                "written",
-                "it was changed meanwhile, and was left",
-            )),
+            false => Err(changed_meanwhile(&self.name)),
         }
     }
 }
@@ -141,11 +177,41 @@ pub struct Kept<'f> {
     pub order: Option<u16>,
     id: Option<Id>,
     heap_offset: Option<u64>,
-    message: &'f [u8],
+    message: Cow<'f, [u8]>,
+    /// It was a text of variable length, and is one of fixed length now.
+    is_fixed: bool,
+}
+
+/// What makes the new file another one than whoever has the old one expects, and so needs `--force`.
+struct Change {
+    /// As it is said where it is not asked for.
+    would_be: String,
+    /// As it is told where it is.
+    told: Option<String>,
+    /// The attributes that it meets.
+    lines: Vec<String>,
+}
+
+impl Change {
+    fn with_lines(words: &str, hint: &str, lines: &[String]) -> String {
+        let lines: String = lines.iter().map(|line| format!("\n{line}")).collect();
+        let colon = if lines.is_empty() { "" } else { ":" };
+        format!("{words}{hint}{colon}{lines}")
+    }
+
+    fn refused(&self) -> String {
+        Change::with_lines(&self.would_be, "; --force adds all the same", &self.lines)
+    }
+
+    fn told(&self) -> Option<String> {
+        let words = self.told.as_ref()?;
+        Some(Change::with_lines(words, "", &self.lines))
+    }
 }
 
 /// The attributes that are there, in the order of their heap offsets, those without one last.
 pub struct Earlier<'f> {
+    old: Option<&'f Old>,
     pub attributes: Vec<Kept<'f>>,
     /// As many numbers were given, where order is tracked.
     pub newest: Option<u16>,
@@ -153,6 +219,8 @@ pub struct Earlier<'f> {
     heap: Option<(Header, Dense)>,
     /// It is a file as `deposit` makes it of no files.
     is_fresh: bool,
+    /// Its superblock is marked as one of a file that is open for writing.
+    is_marked: bool,
 }
 
 /// An attribute whose ID is another one in the new file.
@@ -177,25 +245,19 @@ impl<'f> Earlier<'f> {
     /// Of a new file.
     pub fn none(track_order: bool) -> Self {
         Earlier {
+            old: None,
             attributes: Vec::new(),
             newest: track_order.then_some(0),
             heap: None,
             is_fresh: true,
+            is_marked: false,
         }
     }
 
-    /// All attributes of a file that has nothing else. One that is marked as open for writing needs `force`.
-    pub fn read(old: &'f Old, force: bool) -> Result<Self, Failure> {
+    /// All attributes of a file that has nothing else. Refused is what is refused with `--force`, too.
+    pub fn read(old: &'f Old) -> Result<Self, Failure> {
         let file = old.name.as_os_str();
         let read = attributes::open(&old.bytes, file)?;
-        let superblock = Superblock::find(&old.bytes);
-        if !force && superblock.is_some_and(|superblock| superblock.open_for_writing) {
-            return Err(Failure::Not(format!(
-                "{} is marked as open for writing, by a program that has it open or did not close it; --force adds all \
-                 the same",
-                shown(file)
-            )));
-        }
         if let Some(content) = read.other_content() {
             return Err(Failure::Not(format!(
                 "{} has {content}: a deposit has not, and nothing is added",
@@ -211,8 +273,11 @@ impl<'f> Earlier<'f> {
                 let (file, name) = (shown(file), shown(name));
                 Failure::Not(format!("{file}, {name}: {why}; nothing is added"))
             };
+            let fixed = attribute.variable_text.and_then(|text| text.fixed());
+            let is_fixed = fixed.is_some();
             // A value that is not given may lie whole in its message; one that is given may not.
-            let message = attribute.message.ok_or_else(|| match &attribute.value {
+            let message = attribute.message.map(Cow::from).or(fixed.map(Cow::from));
+            let message = message.ok_or_else(|| match &attribute.value {
                 Err(why) => not_kept(why),
                 Ok(_) => not_kept(&"its value, of variable length, would be lost"),
             })?;
@@ -225,6 +290,7 @@ impl<'f> Earlier<'f> {
                 id: found.id,
                 heap_offset: found.heap_offset,
                 message,
+                is_fixed,
             });
         }
         attributes.sort_by_key(|kept| (kept.heap_offset.is_none(), kept.heap_offset));
@@ -234,11 +300,14 @@ impl<'f> Earlier<'f> {
             dense: None,
         };
         let header = read.heap().map_err(|why| unread(file, why))?;
+        let superblock = Superblock::find(&old.bytes);
         Ok(Earlier {
+            old: Some(old),
             attributes,
             newest,
             heap: header.zip(read.dense()),
             is_fresh: old.bytes[..] == empty.front(Places::new(newest.is_some()).heap),
+            is_marked: superblock.is_some_and(|superblock| superblock.open_for_writing),
         })
     }
 
@@ -273,13 +342,38 @@ impl<'f> Earlier<'f> {
         }
     }
 
-    /// Takes all of them as objects. Where one gets another ID than it had, that is told, and needs `force`.
+    /// Takes all of them as objects. What becomes another than it was is told, and needs `force`; all that is refused
+    /// in spite of that is refused before.
     pub fn gather(
         &self,
         gathering: &mut Gathering,
         force: bool,
         talk: &mut Talk,
     ) -> Result<(), Failure> {
+        let moved = self.take(gathering)?;
+        let changes = self.changes(&moved, gathering.plan());
+        match (force, changes.is_empty()) {
+            (true, _) => changes
+                .iter()
+                .filter_map(Change::told)
+                .for_each(|words| tell(&words)),
+            (false, true) => {}
+            (false, false) => return Err(self.refused(&changes)),
+        }
+        let all = self.attributes.len() as u64;
+        if all > 0 && moved.is_empty() {
+            talk.say(&format!(
+                "{} {} there already, with the same {} as before",
+                count(all, "attribute"),
+                is_or_are(all),
+                if all == 1 { "ID" } else { "IDs" }
+            ));
+        }
+        Ok(())
+    }
+
+    /// Takes all of them; those that get other IDs than they had come back.
+    fn take(&self, gathering: &mut Gathering) -> Result<Vec<Moved<'f>>, Failure> {
         let mut moved = Vec::new();
         for kept in &self.attributes {
             let size = kept.message.len() as u64;
@@ -290,7 +384,7 @@ impl<'f> Earlier<'f> {
                     count(size, "byte")
                 ))
             };
-            let (_, after) = gathering.add([kept.message, &[]], size, not_taken, kept.name)?;
+            let (_, after) = gathering.add([&kept.message, &[]], size, not_taken, kept.name)?;
             if kept.id != Some(after) {
                 moved.push(Moved {
                     name: kept.name,
@@ -299,47 +393,96 @@ impl<'f> Earlier<'f> {
                 });
             }
         }
-        let (all, number) = (self.attributes.len() as u64, moved.len() as u64);
-        let lines: Vec<String> = moved.iter().map(Moved::line).collect();
-        if number == 0 && !self.is_as_deposited(gathering.plan()) {
-            let words = format!(
-                "the file is not the one that deposit makes of {}: {NO_DEPOSIT}; new ones may get the IDs of removed ones",
-                match all {
-                    0 => "no attributes".into(),
-                    all => format!("its {}", count(all, "attribute")),
+        Ok(moved)
+    }
+
+    /// All that needs `--force`.
+    fn changes(&self, moved: &[Moved], plan: &OpenPlan) -> Vec<Change> {
+        let all = count(self.attributes.len() as u64, "attribute");
+        let mut changes: Vec<Change> = self.old.iter().flat_map(|old| self.standing(old)).collect();
+        let fixed = self.attributes.iter().filter(|kept| kept.is_fixed);
+        let fixed: Vec<String> = fixed
+            .map(|kept| format!("  {}", shown(kept.name)))
+            .collect();
+        if !fixed.is_empty() {
+            let (some, these, one) = match fixed.len() as u64 {
+                1 => ("1 is a string".into(), "this one is a string".into(), "one"),
+                number => {
+                    let some = format!("{} are strings", grouped(number));
+                    let these = format!("these {some}");
+                    (some, these, "ones")
                 }
-            );
-            match force {
-                true => tell(&words),
-                false => return Err(Failure::Not(format!("{words}; --force adds all the same"))),
-            }
+            };
+            changes.push(Change {
+                would_be: format!(
+                    "of the file's {all} {some} of variable length, and would become {one} of fixed \
+                     length"
+                ),
+                told: Some(format!(
+                    "of the file's {all} {these} of fixed length now, and had a variable length"
+                )),
+                lines: fixed,
+            });
         }
-        match (number, force) {
-            (0, _) if all == 0 => {}
-            (0, _) => talk.say(&format!(
-                "{} {} there already, with the same {} as before",
-                count(all, "attribute"),
-                is_or_are(all),
-                if all == 1 { "ID" } else { "IDs" }
-            )),
-            (_, true) => tell(&format!(
-                "of the file's {} {} another ID now, since {NO_DEPOSIT}:\n{}",
-                count(all, "attribute"),
-                match number {
+        match moved.len() as u64 {
+            0 if self.is_as_deposited(plan) => {}
+            0 => {
+                let words = format!(
+                    "the file is not the one that deposit makes of {}: {NO_DEPOSIT}; new ones may get the IDs of removed ones",
+                    match self.attributes.len() {
+                        0 => "no attributes".into(),
+                        _ => format!("its {all}"),
+                    }
+                );
+                changes.push(Change {
+                    would_be: words.clone(),
+                    told: Some(words),
+                    lines: Vec::new(),
+                });
+            }
+            number => {
+                let some = grouped(number);
+                let these = match number {
                     1 => "this one has".into(),
-                    number => format!("these {} have", grouped(number)),
-                },
-                lines.join("\n")
-            )),
-            (_, false) => {
-                return Err(Failure::Not(format!(
-                    "of the file's {} {} would have another ID, since {NO_DEPOSIT}; --force adds all the same:\n{}",
-                    count(all, "attribute"),
-                    grouped(number),
-                    lines.join("\n")
-                )));
+                    _ => format!("these {some} have"),
+                };
+                changes.push(Change {
+                    would_be: format!(
+                        "of the file's {all} {some} would have another ID, since {NO_DEPOSIT}"
+                    ),
+                    told: Some(format!(
+                        "of the file's {all} {these} another ID now, since {NO_DEPOSIT}"
+                    )),
+                    lines: moved.iter().map(Moved::line).collect(),
+                });
             }
         }
-        Ok(())
+        changes
+    }
+
+    /// What the file's rights and its superblock say against an addition.
+    fn standing(&self, old: &Old) -> Vec<Change> {
+        let file = shown(old.name.as_os_str());
+        let protected = old.protected.as_ref();
+        let protected = protected.map(|error| format!("{file} cannot be written: {error}"));
+        let marked = self.is_marked.then(|| {
+            format!("{file} is marked as open for writing, by a program that has it open or did not close it")
+        });
+        let change = |would_be| Change {
+            would_be,
+            told: None,
+            lines: Vec::new(),
+        };
+        protected.into_iter().chain(marked).map(change).collect()
+    }
+
+    /// Says all that needs `--force`. A file that cannot be written is wrong use.
+    fn refused(&self, changes: &[Change]) -> Failure {
+        let words: Vec<String> = changes.iter().map(Change::refused).collect();
+        let words = words.join("\n");
+        match self.old.is_some_and(|old| old.protected.is_some()) {
+            true => Failure::Use(words),
+            false => Failure::Not(words),
+        }
     }
 }

@@ -1,5 +1,6 @@
 //! The words of the command line: what there is to say, and how numbers and IDs are written.
 use crate::id::HeapId;
+use crate::locks::Locking;
 use crate::quoting;
 use clap::{ArgGroup, Args, Command, CommandFactory, FromArgMatches, Parser, Subcommand};
 use std::ffi::OsString;
@@ -29,8 +30,8 @@ Of an HDF5 file, after the command that makes one in the help of read:
   PROGRAM read --hex gauges.h5 606 00:16:00:00:00:00:38:00
 
 Numbers are decimal, 5,120 or 5120, or hexadecimal, 0x1400.
-Exit status: 0 all well; 1 refused, or not as it should be; 2 wrong use, or a file
-that cannot be read or written.";
+Exit status: 0 all well; 1 refused, or not as it should be, or nobody takes what is
+printed (a closed pipe); 2 wrong use, or a file that cannot be read or written.";
 
 const DEPOSIT_MORE: &str = "\
 RUN.h5 is an HDF5 file, which h5py, h5dump, HDFView and all programs on HDF5's library
@@ -53,11 +54,18 @@ With --add the attributes of RUN.h5 are read and tested, and a new file with the
 new ones behind them takes its place. Their IDs stay, and those that are printed are of the
 new ones. Where HDF5 has changed RUN.h5 since, IDs may change, or those of attributes that
 it removed be given to new ones: then nothing is written, but with --force, and it is told.
-A file that has more than attributes is refused, as one is that another program has open:
-HDF5 locks it, and so does --add.
+So is a text of variable length, as h5py writes a str, that becomes a string of fixed length
+with the same bytes. A file that has more than attributes is refused.
+
+A program that has RUN.h5 open for reading, as HDF5 locks it, keeps the old file. One that
+has it open for writing may not have written all of it, or would write into a file without
+a name: --add and --force are refused. --wait waits until it is closed, and --no-lock does
+not ask: what that program writes then is lost. While it is added to, HDF5 does not open it
+for writing; of two --add one is refused, or waits and adds to what the other put there.
 
 A file that is replaced gives its mode to the new one, and its owner where root replaces it;
 its access lists and extended attributes are lost, and other hard links keep the old file.
+Of a link the file is replaced where it leads, by --force as by --add, and the link stays.
 With --force one that is write-protected is replaced, too, since its folder alone has to be
 writable for that; --add leaves such a file without --force.
 
@@ -82,13 +90,37 @@ An attribute's bytes are those of its value as the file has them: of what deposi
 the file that it came from; of HDF5's numbers, lists and strings of fixed length their raw
 bytes; of one string of variable length, as h5py writes a str, its text. Of any other type
 there are none, which is said in words. The file may have been changed by HDF5, or be its
-own, with a superblock of version 0 to 3. Every checksum on the way to what is given is
-tested; a huge object and a text of variable length have none.
+own, with a superblock of version 0 to 3.
+
+Every checksum on the way to what is given is tested, and what is given is what was tested:
+from then on it lies in memory, whatever becomes of the file. No checksum covers a value in
+an object header of version 1, as h5repack writes it, and h5py where it is not told
+otherwise; in a heap whose blocks have no checksums (header says so); a huge object; a text
+of variable length. A change of their bytes is not seen: get says in one line on standard
+error which values that are, or from four on how many (list marks them), and with
+--require-checksums it refuses them, and prints nothing.
+
+The file is locked as HDF5 locks one that it reads, until all is found; then the lock is
+given back, and only then is anything printed. While a program has the file open for
+writing it is not read, with status 2: --wait waits until it is closed, and --no-lock asks
+for no lock. A value that is just being written then is refused by its checksum, where it
+has one. Standard input has no lock, nor has a file whose file system has none.
 
 All that are named are found before the first is printed. With --out-dir a file has the
 attribute's name, and one that no file can have, with a slash, say, is not written: get
-prints it. With --all the others are written, and what is not is told. Each file appears
-whole or not at all; no file is replaced without --force.
+prints it. With --all the others are written, and what is not is told, also what
+--require-checksums refuses. Each file appears whole or not at all; no file is replaced
+without --force, and none that a program has open for writing. Of a link --out replaces
+the file where it leads, and --out-dir the link.
+
+With --all it is told, too, where the index leads to other numbers of objects than the
+heap's header counts, as one that is older than the heap does, and where the file has bytes
+behind the end that its superblock tells, as one that lies over a larger one has: what was
+found is written, and the exit status is 1.
+
+A user block that HDF5 made is passed over. One that was put before a file as it was, as
+h5jam does it, is not told in the file, which looks like one inside a damaged file, and is
+refused: --user-block says where it is (512, 1024, 2048 ..), or h5unjam takes it off.
 
 The ID is the one that deposit printed. Where the attribute was removed since, it is not
 found, even where its bytes are still there: read has those.
@@ -107,9 +139,20 @@ where HDF5 puts them when few are left; those without a heap offset are there, o
 objects, with a place of their own in the file. A length is that of the bytes that get
 gives; where it gives none, it is said why, and where that is damage, the exit status is 1.
 
+A * behind the number marks a value of which no checksum covers every byte: in an object
+header of version 1, in a heap whose blocks have no checksums, a huge object, a text of
+variable length. With --require-checksums the exit status is 1 where there is one.
+
+The status is also 1, and it is said why, where the index leads to other numbers of managed,
+huge or tiny objects than the heap's header counts, and where the file has bytes behind the
+end that its superblock tells. --user-block is as in get.
+
+The file is locked while it is read, and no longer; the help of get says more.
+
 --json has of each its name, length, id, offset and order (its number where order is
-tracked), null where there is none, and why where the bytes are not read; of a name that
-is no UTF-8 the bytes as name_hex, too.
+tracked), null where there is none; checked, whether checksums cover every byte of its value
+(null where none is read); and why where the bytes are not read; of a name that is no UTF-8
+the bytes as name_hex, too.
 
 Examples, one after another:
   printf 'gauge 7 was replaced at noon' >note
@@ -124,8 +167,10 @@ and compared. A file has at most 65,514 bytes (at offset size 8).
 
 IMAGE appears whole or not at all: until all of it is on the disk it has no name, or
 where the file system has no such files another one, .poilures-*. With --force it has
-such a name for a moment, before it takes the place of the file that is there. Delete
-one that is left where the computer stopped or the program was killed in between.
+such a name for a moment, before it takes the place of the file that is there, of a link
+where that leads. Delete one that is left where the computer stopped or the program was
+killed in between. What another program has open for writing, as HDF5 locks it, is not
+replaced.
 
 Objects of more than 256 MB are joined in a file without a name in the same folder, so
 that the disk has to have room for them and for IMAGE. With --out - that folder is the
@@ -162,9 +207,9 @@ which line it is, is told on standard error:
                                  at heap offset 2^40, which no ID holds
   - - no number                  a line that is no number, an empty one too
 
-Exit status: 0 every line has its ID; 1 a line is refused; 2 a line is no number, which
-goes before 1, or wrong use, or standard input cannot be read: then what was planned so
-far is told.
+Exit status: 0 every line has its ID; 1 a line is refused, or the pipe is closed; 2 a line is
+no number, which goes before 1, or wrong use, or standard input cannot be read: then what was
+planned so far is told.
 
 Examples:
   printf '28\\n' | PROGRAM ids
@@ -173,7 +218,8 @@ Examples:
 const HEADER_MORE: &str = "\
 Without PLACE every header in the file is told whose signature and checksum hold, each
 with its position; the blocks behind it are not looked at. With PLACE a header that is
-damaged is refused, and nothing is printed.
+damaged is refused, and nothing is printed. The file is locked while it is read, and no
+longer; the help of get says more.
 
 Sizes are in bytes. Addresses are told as they are stored, none where they are undefined;
 where the base is not 0, the position in the file is told beside them.
@@ -241,8 +287,10 @@ HDF5's tools print count from the superblock, which is behind the user block whe
 there is one: give those with --address. An image has no superblock; where an object's
 bytes look like one, --base 0 says so. The file is not changed.
 
-All objects are found before the first is printed. A file that is written appears whole
-or not at all; of a folder's files those stay that were written before one failed.
+All objects are found before the first is printed, and what is printed is what was tested.
+The file is locked while it is read, and no longer; the help of get says more. A file that
+is written appears whole or not at all; of a folder's files those stay that were written
+before one failed. Of a link --out replaces the file where it leads, --out-dir the link.
 
 A list of IDs has one a line, as write --quiet prints them, or a line of JSON that has
 an id, as write --index keeps it. There an empty object that no block holds is empty,
@@ -330,6 +378,8 @@ pub struct Deposit {
     /// Replace RUN.h5 where it is there already; with --add, also where HDF5 has changed it, or it is write-protected.
     #[arg(long)]
     pub force: bool,
+    #[command(flatten)]
+    pub locking: Locking,
     /// Draw the heap: its rows, slots and blocks.
     #[arg(long, conflicts_with_all = ["json", "quiet"])]
     pub map: bool,
@@ -373,6 +423,14 @@ pub struct Get {
     /// Replace files that are there already.
     #[arg(long, requires = "put")]
     pub force: bool,
+    /// Refuse values of which no checksum covers every byte.
+    #[arg(long)]
+    pub require_checksums: bool,
+    /// Take the file that stands behind a user block of BYTES, whatever its base address says.
+    #[arg(long, value_name = "BYTES", value_parser = number)]
+    pub user_block: Option<u64>,
+    #[command(flatten)]
+    pub locking: Locking,
 }
 
 /// Lists the attributes of an HDF5 file's root group, and what its heap has.
@@ -385,6 +443,14 @@ pub struct List {
     /// Print a line of JSON for each attribute, and nothing else.
     #[arg(long)]
     pub json: bool,
+    /// End with status 1 where no checksum covers every byte of a value.
+    #[arg(long)]
+    pub require_checksums: bool,
+    /// Take the file that stands behind a user block of BYTES, whatever its base address says.
+    #[arg(long, value_name = "BYTES", value_parser = number)]
+    pub user_block: Option<u64>,
+    #[command(flatten)]
+    pub locking: Locking,
 }
 
 /// Writes files as objects of a heap, in their order, and prints the ID of each.
@@ -478,6 +544,8 @@ pub struct Read {
     /// turned round.
     #[arg(short, long)]
     pub quiet: bool,
+    #[command(flatten)]
+    pub locking: Locking,
 }
 
 /// Prints what the header of a heap says, or of each heap in a file.
@@ -497,6 +565,8 @@ pub struct Header {
     /// Say nothing on standard error but why something fails, and what is wrong with the file.
     #[arg(short, long)]
     pub quiet: bool,
+    #[command(flatten)]
+    pub locking: Locking,
 }
 
 /// How a place in a file is given, where addresses count from, and the two sizes.

@@ -318,14 +318,20 @@ pub fn deposit(arguments: &Deposit) -> Result<(), Failure> {
     let names = attribute_names(&files, arguments.name.as_deref())?;
     let is_input = |file| inputs::is_among(file, files.iter().copied().chain(list));
     let (destination, old) = match arguments.add {
-        true => adding::begin(&arguments.out, arguments.force, is_input)?,
-        false => (
-            Destination::named(&arguments.out, arguments.force, is_input)?,
-            None,
-        ),
+        true => adding::begin(
+            &arguments.out,
+            arguments.force,
+            &arguments.locking,
+            is_input,
+        )?,
+        false => {
+            let (out, patience) = (&arguments.out, arguments.locking.patience());
+            let new = Destination::named(out, arguments.force, patience, is_input)?;
+            (new, None)
+        }
     };
     let earlier = match &old {
-        Some(old) => Earlier::read(old, arguments.force)?,
+        Some(old) => Earlier::read(old)?,
         None => Earlier::none(arguments.track_order),
     };
     earlier.refuse(&names, &files)?;

@@ -3,6 +3,7 @@ use crate::failure::Failure;
 use crate::image::{Image, Layout};
 use crate::inputs::{self, Identity};
 use crate::joined::{self, Joined};
+use crate::locks::Patience;
 use crate::output::Output;
 use crate::signals;
 use std::env;
@@ -17,16 +18,18 @@ pub enum Destination {
 }
 
 impl Destination {
-    /// Begins the file of this name, before anything is taken in; an input is never the output.
+    /// Begins the file of this name, before anything is taken in; an input is never the output. A program that has open
+    /// for writing what is to be replaced is waited for as long as patience lasts.
     pub fn named(
         name: &Path,
         force: bool,
+        patience: Option<Patience>,
         is_input: impl Fn(Identity) -> bool,
     ) -> Result<Self, Failure> {
         match inputs::is_standard(name.as_os_str()) {
             true => Ok(Destination::Standard),
             false => {
-                let output = Output::begin(name, force, is_input)?;
+                let output = Output::begin_patiently(name, force, patience, is_input)?;
                 Ok(Destination::File(Box::new(output)))
             }
         }

@@ -1,8 +1,17 @@
 //! Why the program ends early: what it says on standard error, and its exit status.
 use crate::quoting::shown;
 use fractal_heap::Refusal;
+use libc::c_int;
 use std::ffi::OsStr;
 use std::io;
+
+/// What a call to the system says of itself.
+pub fn done(status: c_int) -> io::Result<()> {
+    match status {
+        0 => Ok(()),
+        _ => Err(io::Error::last_os_error()),
+    }
+}
 
 #[derive(Debug)]
 pub enum Failure {

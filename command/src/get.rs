@@ -1,14 +1,16 @@
 //! `poilures get`: attributes of an HDF5 file's root group, by their names.
 use crate::arguments::Get;
-use crate::attributes::{self, unread};
+use crate::attributes::{self, called, unread};
+use crate::covered;
 use crate::failure::Failure;
 use crate::giving::Giving;
+use crate::held;
 use crate::id::HeapId;
-use crate::inputs::{self, Bytes};
+use crate::inputs;
 use crate::quoting::shown;
-use crate::talk::is_or_are;
+use crate::talk::{is_or_are, tell};
 use fractal_heap::{count, grouped};
-use hdf5_file::{Attributes, Found, Unreadable};
+use hdf5_file::{Attributes, Found, Uncovered, Unreadable};
 use std::collections::HashSet;
 use std::ffi::{OsStr, OsString};
 use std::iter;
@@ -21,6 +23,17 @@ const LONGEST_NAME: usize = 255;
 struct Value<'f> {
     name: &'f OsStr,
     bytes: &'f [u8],
+    /// Where it lies if no checksum covers every byte of it.
+    uncovered: Option<Uncovered>,
+}
+
+/// What is to be given out.
+struct Wanted<'f> {
+    values: Vec<Value<'f>>,
+    /// Of attributes that are not given why, where all are asked for.
+    left: Vec<String>,
+    /// What is not as it should be with the file, where all are asked for.
+    amiss: Vec<String>,
 }
 
 /// An attribute's bytes, or why there are none, as a part of a sentence.
@@ -29,7 +42,11 @@ fn value<'f>(found: &Found<'f>) -> Result<Value<'f>, String> {
         Ok(attribute) => {
             let name = OsStr::from_bytes(attribute.name);
             match attribute.value {
-                Ok(bytes) => Ok(Value { name, bytes }),
+                Ok(bytes) => Ok(Value {
+                    name,
+                    bytes,
+                    uncovered: attribute.uncovered,
+                }),
                 Err(why) => Err(format!("{}: {why}", shown(name))),
             }
         }
@@ -83,31 +100,84 @@ fn asked<'f>(read: &Attributes<'f>, arguments: &Get) -> Result<Vec<Value<'f>>, F
         };
         one(found.map_err(|why| unread(file, why))?, &none)
     };
-    arguments.names.iter().map(by_name).collect()
+    named_once(arguments).into_iter().map(by_name).collect()
+}
+
+/// The names that are asked for: where each becomes a file, one that is given again is the same file.
+fn named_once(arguments: &Get) -> Vec<&OsString> {
+    let mut met = HashSet::new();
+    let names = arguments.names.iter();
+    let (names, mut again): (Vec<_>, Vec<_>) =
+        names.partition(|&name| arguments.out_dir.is_none() || met.insert(name));
+    again.sort_unstable();
+    again.dedup();
+    if !again.is_empty() {
+        let again = again.iter().map(shown).collect::<Vec<_>>().join(", ");
+        tell(&format!(
+            "named more than once, which makes one file each: {again}"
+        ));
+    }
+    names
+}
+
+/// The values that no checksum covers, in a sentence, if there are any.
+fn uncovered(values: &[Value], file: &OsStr) -> Option<String> {
+    let those = values
+        .iter()
+        .filter_map(|it| Some((it.name, it.uncovered?)));
+    let words = covered::named(&those.collect::<Vec<_>>())?;
+    Some(format!("{}: {words}", called(file)))
+}
+
+/// Those that are asked for, which are refused where checksums have to cover them and do not.
+fn asked_and_covered<'f>(
+    read: &Attributes<'f>,
+    arguments: &Get,
+) -> Result<Vec<Value<'f>>, Failure> {
+    let values = asked(read, arguments)?;
+    match uncovered(&values, &arguments.file) {
+        Some(words) if arguments.require_checksums => Err(Failure::Not(format!(
+            "{words}, and --require-checksums refuses that"
+        ))),
+        _ => Ok(values),
+    }
 }
 
 /// All attributes whose bytes are there, and of the others why not.
-fn all<'f>(
-    read: &Attributes<'f>,
-    arguments: &Get,
-) -> Result<(Vec<Value<'f>>, Vec<String>), Failure> {
-    let found = read.all().map_err(|why| unread(&arguments.file, why))?;
+fn all<'f>(read: &Attributes<'f>, arguments: &Get) -> Result<Wanted<'f>, Failure> {
+    let file = arguments.file.as_os_str();
+    let found = read.all().map_err(|why| unread(file, why))?;
     let (mut values, mut left) = (Vec::new(), Vec::new());
     for found in &found {
         match value(found) {
-            Ok(value) => values.push(value),
+            Ok(value) => match value.uncovered {
+                Some(lies) if arguments.require_checksums => left.push(format!(
+                    "{}: no checksum covers every byte of it ({lies})",
+                    shown(value.name)
+                )),
+                _ => values.push(value),
+            },
             Err(why) => left.push(why),
         }
     }
-    Ok((values, left))
+    let amiss = attributes::not_as_it_should_be(read, &found, file);
+    Ok(Wanted {
+        values,
+        left,
+        amiss,
+    })
 }
 
-/// What is to be given out: the values, and of attributes that are not why, where all are asked for.
-fn wanted<'f>(file: &'f Bytes, arguments: &Get) -> Result<(Vec<Value<'f>>, Vec<String>), Failure> {
-    let read = attributes::open(file, &arguments.file)?;
+/// What is to be given out.
+fn wanted<'f>(file: &'f [u8], arguments: &Get) -> Result<Wanted<'f>, Failure> {
+    let read = attributes::open_behind(file, &arguments.file, arguments.user_block)?;
     match arguments.all {
         true => all(&read, arguments),
-        false => Ok((asked(&read, arguments)?, Vec::new())),
+        false => Ok(Wanted {
+            values: asked_and_covered(&read, arguments)?,
+            left: Vec::new(),
+            amiss: Vec::new(),
+        }),
     }
 }
 
@@ -122,16 +192,49 @@ fn leave_out(values: &mut Vec<Value>, left: &mut Vec<String>) {
     });
 }
 
+/// Tells which of the values that are given no checksum covers, in one line.
+fn tell_uncovered(values: &[Value], file: &OsStr) {
+    if let Some(words) = uncovered(values, file) {
+        tell(&words);
+    }
+}
+
+/// Fails where some attributes are left out, so many beside those that were written, or the file is not as it should be.
+fn all_written(written: u64, left: &[String], amiss: Vec<String>) -> Result<(), Failure> {
+    let mut sentences = amiss;
+    let number = left.len() as u64;
+    if number > 0 {
+        sentences.push(format!(
+            "of {} {} {} not written:\n  {}",
+            count(written + number, "attribute"),
+            grouped(number),
+            is_or_are(number),
+            left.join("\n  ")
+        ));
+    }
+    match sentences.is_empty() {
+        true => Ok(()),
+        false => Err(Failure::Not(sentences.join("\n"))),
+    }
+}
+
 pub fn get(arguments: &Get) -> Result<(), Failure> {
     let name = arguments.file.as_os_str();
     inputs::refuse_written(iter::once(name))?;
-    let file = inputs::whole(name)?;
+    let file = inputs::source(name, &arguments.locking)?;
     let wanted = wanted(&file, arguments);
+    for value in wanted.iter().flat_map(|wanted| &wanted.values) {
+        held::look_at(value.name.as_bytes());
+        held::look_at(value.bytes);
+    }
     // Of a file that was cut meanwhile not even a refusal is its own.
-    file.check_whole(name)?;
-    let (mut values, mut left) = wanted?;
+    file.release()?;
+    let Wanted {
+        mut values,
+        mut left,
+        amiss,
+    } = wanted?;
     let giving = Giving {
-        file: &file,
         name,
         list: None,
         hex: arguments.hex,
@@ -142,19 +245,12 @@ pub fn get(arguments: &Get) -> Result<(), Failure> {
         if let (false, [why, ..]) = (arguments.all, &left[..]) {
             return Err(Failure::Use(format!("no file can be written: {why}")));
         }
+        tell_uncovered(&values, name);
         let files = values.iter().map(|value| (value.name.into(), value.bytes));
         giving.keep_each(folder, &files.collect::<Vec<_>>())?;
-        return match left.len() as u64 {
-            0 => Ok(()),
-            number => Err(Failure::Not(format!(
-                "of {} {} {} not written:\n  {}",
-                count(values.len() as u64 + number, "attribute"),
-                grouped(number),
-                is_or_are(number),
-                left.join("\n  ")
-            ))),
-        };
+        return all_written(values.len() as u64, &left, amiss);
     }
+    tell_uncovered(&values, name);
     let parts: Vec<&[u8]> = values.iter().map(|value| value.bytes).collect();
     match &arguments.out {
         Some(out) if !inputs::is_standard(out.as_os_str()) => giving.keep(out, &parts),
@@ -183,6 +279,7 @@ mod tests {
         let value = |name| Value {
             name: OsStr::new(name),
             bytes: b"",
+            uncovered: None,
         };
         let (mut values, mut left) = (vec![value("a"), value("b/"), value("a")], vec![]);
         leave_out(&mut values, &mut left);

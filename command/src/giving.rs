@@ -1,7 +1,7 @@
 //! What was found in a file goes out: printed, put into one file, or each part into a file of its own.
 use crate::dump::dump;
 use crate::failure::Failure;
-use crate::inputs::{self, Bytes, Identity};
+use crate::inputs::{self, Identity};
 use crate::output::{self, Output};
 use crate::progress::Progress;
 use crate::streams;
@@ -9,13 +9,12 @@ use std::ffi::{OsStr, OsString};
 use std::io::{self, Write};
 use std::path::Path;
 
-/// Bytes that are printed at once. They are copied first, so that they are known to be the file's before they go out,
-/// and so that a file that was cut raises the signal that we handle, where the system would return an error of its own.
+/// Bytes that are printed at once. They are copied first, since the system is not handed what a file's memory has: of bytes
+/// that nobody had looked at it would return an error, where the copy has them read.
 const STRIDE: usize = 1 << 16;
 
 /// How parts of a file are given out.
 pub struct Giving<'a> {
-    pub file: &'a Bytes,
     pub name: &'a OsStr,
     /// A list that was read, too, if there is one.
     pub list: Option<&'a OsStr>,
@@ -26,7 +25,7 @@ pub struct Giving<'a> {
 }
 
 impl Giving<'_> {
-    /// Puts bytes, part by part. No part goes out before the file is seen to be whole after the part was copied.
+    /// Puts bytes, part by part.
     fn put(
         &self,
         bytes: &[u8],
@@ -40,7 +39,6 @@ impl Giving<'_> {
                 true => copy.extend(dump(part, i * STRIDE).bytes()),
                 false => copy.extend_from_slice(part),
             }
-            self.file.check_whole(self.name)?;
             to.write_all(&copy).map_err(&failed)?;
         }
         Ok(())
@@ -50,18 +48,18 @@ impl Giving<'_> {
         inputs::is_among(file, self.list.into_iter().chain([self.name]))
     }
 
-    /// A file that has these parts, and no name yet.
-    fn filled(&self, name: &Path, parts: &[&[u8]]) -> Result<Output, Failure> {
-        let output = Output::begin(name, self.force, |file| self.is_input(file))?;
+    /// Puts parts into a file that has no name yet.
+    fn fill(&self, output: &Output, parts: &[&[u8]]) -> Result<(), Failure> {
         for bytes in parts {
             self.put(bytes, &mut output.file(), |error| output.unwritten(error))?;
         }
-        Ok(output)
+        Ok(())
     }
 
     /// Puts parts into one file.
     pub fn keep(&self, name: &Path, parts: &[&[u8]]) -> Result<(), Failure> {
-        let output = self.filled(name, parts)?;
+        let output = Output::begin(name, self.force, |file| self.is_input(file))?;
+        self.fill(&output, parts)?;
         output.finish(|file| self.is_input(file)).map(|_| ())
     }
 
@@ -75,7 +73,9 @@ impl Giving<'_> {
         }
         let mut progress = Progress::new("writing the files", parts.len() as u64);
         let kept = parts.iter().try_for_each(|(name, bytes)| {
-            let output = self.filled(&folder.join(name), &[bytes])?;
+            let is_input = |file| self.is_input(file);
+            let output = Output::begin_in_folder(&folder.join(name), self.force, is_input)?;
+            self.fill(&output, &[bytes])?;
             output.give_name(|file| self.is_input(file))?;
             progress.step();
             Ok(())

@@ -4,17 +4,18 @@ use crate::dump::dump;
 use crate::failure::Failure;
 use crate::filters::Pipeline;
 use crate::image::SIGNATURE;
-use crate::inputs;
+use crate::inputs::{self, Source};
 use crate::map::percent;
+use crate::memory;
 use crate::progress::Progress;
 use crate::quoting::shown;
-use crate::site::{self, Remarks, Site};
+use crate::site::{Remarks, Site};
 use crate::talk::{Talk, Volume};
 use fractal_heap::{Header, Heap, count, grouped};
 use serde_json::{Map, Value};
 
-/// A file is searched part by part.
-const PART: usize = 1 << 26;
+/// A file is searched part by part; no part is kept.
+const PART: usize = 1 << 20;
 /// So many places are told where a signature begins no header.
 const TOLD: usize = 8;
 
@@ -377,20 +378,28 @@ impl Found<'_> {
     }
 }
 
-/// Where in a file the signature of a heap's header stands. It is searched in parts of this size.
-fn signatures(file: &[u8], part: usize) -> Vec<u64> {
-    let parts = file.len().div_ceil(part);
+/// Where in a file of so many bytes the signature of a heap's header stands. It is searched in parts of this size, which are
+/// put into one place, one after another.
+fn signatures(
+    length: usize,
+    part: usize,
+    mut put: impl FnMut(usize, &mut [u8]) -> Result<(), Failure>,
+) -> Result<Vec<u64>, Failure> {
+    let parts = length.div_ceil(part);
     let mut progress = Progress::new("searching for headers: parts", parts as u64);
+    // One that begins in a part may end in the next one.
+    let more = SIGNATURE.len() - 1;
+    let mut room = memory::with_room(length.min(part + more))?;
     let mut found = Vec::new();
-    for start in (0..file.len()).step_by(part) {
-        // One that begins here may end in the next part.
-        let end = file.len().min(start + part + SIGNATURE.len() - 1);
-        let windows = file[start..end].windows(SIGNATURE.len()).enumerate();
+    for start in (0..length).step_by(part) {
+        room.resize(part.saturating_add(more).min(length - start), 0);
+        put(start, &mut room)?;
+        let windows = room.windows(SIGNATURE.len()).enumerate();
         let here = windows.filter(|(_, window)| *window == SIGNATURE);
         found.extend(here.map(|(at, _)| (start + at) as u64));
         progress.step();
     }
-    found
+    Ok(found)
 }
 
 /// What was found at all signatures of a file.
@@ -402,9 +411,9 @@ struct Search<'f> {
 }
 
 impl<'f> Search<'f> {
-    fn new(site: &Site<'f>) -> Self {
+    fn new(site: &Site<'f>, file: &Source) -> Result<Self, Failure> {
         let mut search = Search::default();
-        for position in signatures(site.file, PART) {
+        for position in signatures(file.len(), PART, |at, to| file.peek(at, to))? {
             let heap = site.heap_at(position);
             match heap.header() {
                 Ok(header) => search.found.push(Found {
@@ -416,7 +425,7 @@ impl<'f> Search<'f> {
                 Err(_) => search.others.push(position),
             }
         }
-        search
+        Ok(search)
     }
 
     /// Where the signature begins no header, in words.
@@ -442,8 +451,13 @@ impl<'f> Search<'f> {
 }
 
 /// Every sound header of a file.
-fn all<'f>(site: &Site<'f>, name: &str, remarks: &Remarks) -> Result<Vec<Found<'f>>, Failure> {
-    let search = Search::new(site);
+fn all<'f>(
+    site: &Site<'f>,
+    file: &Source,
+    name: &str,
+    remarks: &Remarks,
+) -> Result<Vec<Found<'f>>, Failure> {
+    let search = Search::new(site, file)?;
     let others = search.others();
     if search.found.is_empty() {
         let others = others.map_or(String::new(), |words| format!("\n{words}"));
@@ -465,9 +479,8 @@ fn one<'f>(
     arguments: &arguments::Header,
 ) -> Result<Found<'f>, Failure> {
     let heap = site.heap(place, &arguments.addressing)?;
-    let header = heap.header();
     Ok(Found {
-        header: header.map_err(|refusal| site::in_file(refusal, site.base, None))?,
+        header: site.header(&heap)?,
         heap,
         position: site.base + heap.header_at,
         base: site.base,
@@ -476,7 +489,7 @@ fn one<'f>(
 
 pub fn header(arguments: &arguments::Header) -> Result<(), Failure> {
     inputs::refuse_written([arguments.file.as_os_str()].into_iter())?;
-    let file = inputs::whole(&arguments.file)?;
+    let file = inputs::source(&arguments.file, &arguments.locking)?;
     let remarks = Remarks {
         quiet: arguments.quiet,
     };
@@ -484,24 +497,25 @@ pub fn header(arguments: &arguments::Header) -> Result<(), Failure> {
         Site::new(&file, arguments.place, &arguments.addressing, &remarks).and_then(|site| {
             match arguments.place {
                 Some(place) => Ok(vec![one(&site, place, arguments)?]),
-                None => all(&site, &named(arguments), &remarks),
+                None => all(&site, &file, &named(arguments), &remarks),
             }
         });
+    // What is told is put into words while the file is locked.
+    let words = found.map(|found| lines(&found, arguments.json));
     // Of a file that was cut meanwhile not even a refusal is its own.
-    file.check_whole(&arguments.file)?;
-    let found = found?;
+    file.release()?;
     let mut talk = Talk::new(false, Volume::Results);
-    for (i, found) in found.iter().enumerate() {
-        if arguments.json {
-            talk.give(&found.json());
-            continue;
-        }
-        if i > 0 {
-            talk.give("");
-        }
-        found.lines().iter().for_each(|line| talk.give(line));
-    }
+    words?.iter().for_each(|line| talk.give(line));
     talk.end()
+}
+
+/// What is told of these headers.
+fn lines(found: &[Found], json: bool) -> Vec<String> {
+    if json {
+        return found.iter().map(Found::json).collect();
+    }
+    let each: Vec<Vec<String>> = found.iter().map(Found::lines).collect();
+    each.join(&String::new())
 }
 
 /// The file, in words.
@@ -522,6 +536,13 @@ mod tests {
         for at in [0, 5, 14, 36] {
             file[at..at + 4].copy_from_slice(b"FRHP");
         }
+        let signatures = |file: &[u8], part| {
+            let put = |at: usize, to: &mut [u8]| {
+                to.copy_from_slice(&file[at..at + to.len()]);
+                Ok(())
+            };
+            super::signatures(file.len(), part, put).unwrap()
+        };
         for part in 1..=41 {
             assert_eq!(signatures(&file, part), [0, 5, 14, 36], "parts of {part}");
         }

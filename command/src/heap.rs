@@ -214,7 +214,10 @@ pub fn take_in<'n, I: Intake>(
         let head = intake.head(number, &taken)?;
         let head_size = head.len() as u64;
         let size = head_size.saturating_add(taken.size);
-        let not_taken = |refusal: &Refusal| intake.not_taken(refusal, number, name, head_size);
+        let not_taken = |refusal: &Refusal| {
+            let failure = intake.not_taken(refusal, number, name, head_size);
+            at_least(failure, &taken)
+        };
         let (added, id) = gathering.add([&head, taken.bytes], size, not_taken, name)?;
         files.push(taken.identity);
         let placed = Placed {
@@ -232,6 +235,19 @@ pub fn take_in<'n, I: Intake>(
         progress.step();
     }
     gathering.finish(files)
+}
+
+/// A refusal of what is too long, where no more was read than shows that.
+fn at_least(failure: Failure, taken: &Taken) -> Failure {
+    match failure {
+        Failure::Not(words) if taken.is_at_least => {
+            let size = count(taken.size, "byte");
+            Failure::Not(format!(
+                "{words}; it has at least {size}, and no more were read"
+            ))
+        }
+        other => other,
+    }
 }
 
 /// The ID of an object that was placed; the file of one that has none is named.

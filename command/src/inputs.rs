@@ -1,12 +1,17 @@
 //! Files in, with a plain sentence where one cannot be read.
 use crate::failure::Failure;
+use crate::held::{CUT, Held};
 use crate::image::LARGEST_DIRECT;
 use crate::joined::Joined;
+use crate::locks::{self, Lock, Locking};
 use crate::memory;
 use crate::quoting::shown;
 use crate::signals;
 use crate::streams;
+use crate::talk::{self, tell};
+use fractal_heap::{count, grouped};
 use memmap2::Mmap;
+use std::cell::Cell;
 use std::ffi::{OsStr, OsString};
 use std::fmt::Display;
 use std::fs::{self, File, FileType, Metadata};
@@ -15,13 +20,12 @@ use std::ops::Deref;
 use std::os::fd::AsFd;
 use std::os::unix::ffi::OsStrExt;
 use std::os::unix::fs::{FileTypeExt, MetadataExt};
+use std::path::Path;
 
 /// No more is taken from a pipe, or of a list.
 const LARGEST_PIPE: u64 = 1 << 30;
 /// Bytes that are read at once from it.
 const STRIDE: usize = 1 << 16;
-/// Why the bytes of a mapped file cannot be had.
-const CUT: &str = "it was cut short while it was read, or its disk failed";
 
 /// Which file it is, whatever its name.
 pub type Identity = (u64, u64);
@@ -139,6 +143,8 @@ pub fn refuse_written<'n>(mut names: impl Iterator<Item = &'n OsStr>) -> Result<
 pub struct Taken<'o> {
     pub identity: Identity,
     pub size: u64,
+    /// That is how much came of it, and more may come.
+    pub is_at_least: bool,
     pub bytes: &'o [u8],
 }
 
@@ -167,9 +173,33 @@ pub fn take_in<'o>(
         size if size == seen.size && (1..=LARGEST_DIRECT).contains(&size) => Ok(Taken {
             identity: seen.identity,
             size,
+            is_at_least: false,
             bytes: &room[..length],
         }),
-        _ => take_on(name, opened(name, file)?, length, room),
+        _ => {
+            let open = opened(name, file)?;
+            tell_change(
+                name,
+                seen.size,
+                open.known.len(),
+                "it is taken as it is now",
+            );
+            take_on(name, open, length, room)
+        }
+    }
+}
+
+/// Tells that a file has another size than it had when it was looked at, and what is done then.
+fn tell_change(name: &OsStr, before: u64, now: u64, then: &str) {
+    if before != now {
+        let name = match is_standard(name) {
+            true => "standard input".into(),
+            false => shown(name),
+        };
+        let (before, now) = (grouped(before), count(now, "byte"));
+        tell(&format!(
+            "{name} was changed since it was looked at, from {before} to {now}: {then}"
+        ));
     }
 }
 
@@ -207,6 +237,7 @@ fn take_on<'o>(
     Ok(Taken {
         identity: identity(&known),
         size,
+        is_at_least: bytes.is_empty() && size > known.len(),
         bytes,
     })
 }
@@ -310,9 +341,10 @@ pub fn all_names<'n>(
     }
 }
 
-/// Bytes that are looked at: of a file that is mapped, of memory, of a pipe.
+/// Bytes that are looked at: of a file that is mapped, of one that is held, of memory, of a pipe.
 pub enum Bytes {
     File { map: Mmap, file: File },
+    Held(Held),
     Memory(Mmap),
     Read(Vec<u8>),
 }
@@ -323,29 +355,35 @@ impl Deref for Bytes {
     fn deref(&self) -> &[u8] {
         match self {
             Bytes::File { map, .. } | Bytes::Memory(map) => map,
+            Bytes::Held(held) => held,
             Bytes::Read(bytes) => bytes,
         }
     }
 }
 
 impl Bytes {
-    /// Whether a mapped file still has the bytes that it had. Where it was cut, the rest of its last page is zeros;
+    /// Whether a file still has the bytes that it had. Where a mapped one was cut, the rest of its last page is zeros;
     /// only behind that the signal comes.
     pub fn check_whole(&self, name: &OsStr) -> Result<(), Failure> {
-        match self {
-            Bytes::File { map, file } => match file.metadata() {
-                Ok(known) if known.len() >= map.len() as u64 => Ok(()),
-                _ => Err(Failure::file(name, "read", CUT)),
-            },
-            _ => Ok(()),
+        self.size_now(name).map(|_| ())
+    }
+
+    /// How many bytes a file has now, or what was read, where it is none: as many as there are here, or more.
+    fn size_now(&self, name: &OsStr) -> Result<u64, Failure> {
+        let here = self.len() as u64;
+        match self.file().map(File::metadata) {
+            None => Ok(here),
+            Some(Ok(known)) if known.len() >= here => Ok(known.len()),
+            Some(_) => Err(Failure::file(name, "read", CUT)),
         }
     }
 
-    /// The file, where it is one that is mapped.
+    /// The file, where it is one that is mapped or held.
     pub fn file(&self) -> Option<&File> {
         match self {
             Bytes::File { file, .. } => Some(file),
-            _ => None,
+            Bytes::Held(held) => Some(held.file()),
+            Bytes::Memory(_) | Bytes::Read(_) => None,
         }
     }
 }
@@ -363,15 +401,107 @@ fn map(file: File, name: &OsStr) -> io::Result<Bytes> {
     Ok(Bytes::File { map, file })
 }
 
-/// A whole file, or at most 1 GiB of a pipe.
+impl Open {
+    /// Whether it is a file that is read from its start.
+    fn is_whole_file(&mut self) -> bool {
+        self.known.is_file() && self.file.stream_position().is_ok_and(|at| at == 0)
+    }
+}
+
+/// At most 1 GiB of what is no whole file.
+fn not_whole(name: &OsStr, file: File) -> Result<Bytes, Failure> {
+    let too_much = "more than 1 GiB comes from it, and it is no whole file";
+    read_on(name, file, too_much)
+}
+
+/// A whole file, mapped, or at most 1 GiB of a pipe.
 pub fn whole(name: &OsStr) -> Result<Bytes, Failure> {
-    let Open { mut file, known } = open(name)?;
-    let from_start = file.stream_position().is_ok_and(|at| at == 0);
-    match known.is_file() && from_start {
-        true => map(file, name).map_err(|error| Failure::file(name, "read", error)),
-        false => {
-            let too_much = "more than 1 GiB comes from it, and it is no whole file";
-            read_on(name, file, too_much)
+    let mut open = open(name)?;
+    match open.is_whole_file() {
+        true => map(open.file, name).map_err(|error| Failure::file(name, "read", error)),
+        false => not_whole(name, open.file),
+    }
+}
+
+/// What is read and given out: a whole file, locked, whose bytes stay as they were when they were first seen, or at most
+/// 1 GiB of a pipe.
+pub struct Source<'n> {
+    bytes: Bytes,
+    name: &'n OsStr,
+    lock: Cell<Option<Locked>>,
+}
+
+/// The lock of a file that is read. What there is to tell waits until it is given back.
+struct Locked(Option<Lock>);
+
+impl Drop for Locked {
+    fn drop(&mut self) {
+        self.0.take();
+        talk::tell_all();
+    }
+}
+
+/// Opens and locks what is to be read and given out; standard input has no lock. Nothing is read before the lock is
+/// there, and of a large file nothing before it is looked at.
+pub fn source<'n>(name: &'n OsStr, locking: &Locking) -> Result<Source<'n>, Failure> {
+    let patience = locking.patience();
+    let mut open = open(name)?;
+    let mut lock = None;
+    while open.is_whole_file() && !is_standard(name) {
+        lock = Some(locks::shared(&open.file, name, patience)?);
+        // Who was waited for may have put another file there.
+        if patience.is_none() || locks::stands_at(&open.file, Path::new(name)) {
+            break;
+        }
+        open = self::open(name)?;
+    }
+    if !open.is_whole_file() {
+        return Ok(Source {
+            bytes: not_whole(name, open.file)?,
+            name,
+            lock: Cell::new(None),
+        });
+    }
+    let lock = lock.map(|lock| {
+        talk::wait_to_tell();
+        Locked(Some(lock))
+    });
+    // It may have grown while another program had it locked.
+    let known = open.file.metadata();
+    let known = known.map_err(|error| Failure::file(name, "read", error))?;
+    Ok(Source {
+        bytes: Bytes::Held(Held::new(open.file, known.len(), name)?),
+        name,
+        lock: Cell::new(lock),
+    })
+}
+
+impl Deref for Source<'_> {
+    type Target = [u8];
+
+    fn deref(&self) -> &[u8] {
+        &self.bytes
+    }
+}
+
+impl Source<'_> {
+    /// Gives the lock back, when all bytes that are to be given out were looked at: from then on the file may be changed.
+    /// One that was cut before is refused, and of one that has grown it is told.
+    pub fn release(&self) -> Result<(), Failure> {
+        let (before, now) = (self.bytes.len() as u64, self.bytes.size_now(self.name)?);
+        tell_change(self.name, before, now, "what was added is not read");
+        self.lock.take();
+        Ok(())
+    }
+
+    /// Puts bytes from a position on there. Of a large file they are those of this moment, and are not kept by that.
+    pub fn peek(&self, at: usize, to: &mut [u8]) -> Result<(), Failure> {
+        match &self.bytes {
+            Bytes::Held(held) => held.peek(at, to, self.name),
+            bytes => {
+                to.copy_from_slice(&bytes[at..at + to.len()]);
+                Ok(())
+            }
         }
     }
 }

@@ -1,15 +1,17 @@
 //! `poilures list`: the attributes of an HDF5 file's root group.
 use crate::arguments::List;
 use crate::attributes::{self, unread};
+use crate::covered;
 use crate::failure::Failure;
 use crate::heap::{self, number_line};
+use crate::held;
 use crate::id::HeapId;
 use crate::index;
 use crate::inputs;
 use crate::quoting::shown;
 use crate::talk::{Talk, Volume, is_or_are};
 use fractal_heap::{Header, count, grouped};
-use hdf5_file::{Found, Unreadable};
+use hdf5_file::{Found, Uncovered, Unreadable};
 use serde_json::json;
 use std::ffi::OsStr;
 use std::iter;
@@ -22,11 +24,17 @@ struct Entry<'f> {
     name: Option<&'f OsStr>,
     /// Bytes of its value, or why they are not read.
     length: Result<u64, Unreadable>,
+    /// Where a value that is read lies if no checksum covers every byte of it.
+    uncovered: Option<Uncovered>,
 }
+
+/// Stands in the row of a value that no checksum covers.
+const MARK: &str = "*";
 
 impl<'f> Entry<'f> {
     fn new(number: usize, found: &'f Found<'f>) -> Self {
         let attribute = found.attribute.as_ref();
+        let read = attribute.ok().filter(|it| it.value.is_ok());
         Entry {
             number,
             found,
@@ -34,6 +42,7 @@ impl<'f> Entry<'f> {
             length: attribute
                 .map_err(|&why| why)
                 .and_then(|it| it.value.map(|bytes| bytes.len() as u64)),
+            uncovered: read.and_then(|it| it.uncovered),
         }
     }
 
@@ -49,9 +58,9 @@ impl<'f> Entry<'f> {
     fn row(&self) -> String {
         let told = |number: Option<u64>| number.map_or("-".into(), grouped);
         let id = self.found.id.as_ref();
-        let name = self.name.map(shown);
-        heap::row([
-            &grouped(self.number as u64),
+        let (number, name) = (grouped(self.number as u64), self.name.map(shown));
+        let mut row = heap::row([
+            &number,
             &told(self.length.ok()),
             &told(self.found.heap_offset),
             &id.map_or("-".into(), |id| HeapId::new(id).to_string()),
@@ -61,7 +70,12 @@ impl<'f> Entry<'f> {
                 (None, Err(why)) => format!("- ({why})"),
                 (None, Ok(_)) => "-".into(),
             },
-        ])
+        ]);
+        if self.uncovered.is_some() {
+            let behind = row.find(&number).unwrap_or(0) + number.len();
+            row.replace_range(behind..=behind, MARK);
+        }
+        row
     }
 
     fn json(&self) -> String {
@@ -72,6 +86,7 @@ impl<'f> Entry<'f> {
             "offset": self.found.heap_offset,
             "id": id.map(|id| HeapId::new(id).to_string()),
             "order": self.found.order,
+            "checked": self.length.ok().map(|_| self.uncovered.is_none()),
         });
         match self.name {
             Some(name) => index::put_name(&mut line, "name", name),
@@ -113,16 +128,21 @@ fn totals(header: &Header) -> Vec<String> {
 pub fn list(arguments: &List) -> Result<(), Failure> {
     let name = arguments.file.as_os_str();
     inputs::refuse_written(iter::once(name))?;
-    let file = inputs::whole(name)?;
-    let read = attributes::open(&file, name);
+    let file = inputs::source(name, &arguments.locking)?;
+    let read = attributes::open_behind(&file, name, arguments.user_block);
     let found = read.and_then(|read| {
         let found = read.all().map_err(|why| unread(name, why))?;
         let heap = read.heap().map_err(|why| unread(name, why))?;
-        Ok((found, heap))
+        let amiss = attributes::not_as_it_should_be(&read, &found, name);
+        Ok((found, heap, amiss))
     });
+    let attributes = found.iter().flat_map(|(found, ..)| found);
+    for attribute in attributes.flat_map(|found| &found.attribute) {
+        held::look_at(attribute.name);
+    }
     // Of a file that was cut meanwhile not even a refusal is its own.
-    file.check_whole(name)?;
-    let (found, header) = found?;
+    file.release()?;
+    let (found, header, mut amiss) = found?;
     let volume = match arguments.json {
         true => Volume::Results,
         false => Volume::All,
@@ -144,6 +164,10 @@ pub fn list(arguments: &List) -> Result<(), Failure> {
         };
         talk.give(&line);
     }
+    let uncovered = covered::counted(entries.iter().filter_map(|entry| entry.uncovered));
+    if let Some(words) = &uncovered {
+        talk.say(&format!("{MARK} {words}"));
+    }
     let bytes: u64 = entries.iter().filter_map(|entry| entry.length.ok()).sum();
     let all = count(entries.len() as u64, "attribute");
     if !entries.is_empty() {
@@ -155,14 +179,29 @@ pub fn list(arguments: &List) -> Result<(), Failure> {
         None => talk.say("there is no heap"),
     }
     talk.end()?;
-    match entries.iter().filter(|entry| entry.is_damaged()).count() as u64 {
-        0 => Ok(()),
-        number => Err(Failure::Not(format!(
-            "of {all} {} {} not read",
-            grouped(number),
-            is_or_are(number)
-        ))),
+    amiss.extend(of_entries(&entries, arguments.require_checksums));
+    match amiss.is_empty() {
+        true => Ok(()),
+        false => Err(Failure::Not(amiss.join("\n"))),
     }
+}
+
+/// What is not as it should be with some of the attributes, in sentences: they are damaged, or no checksum covers them
+/// where one has to.
+fn of_entries(entries: &[Entry], require_checksums: bool) -> impl Iterator<Item = String> {
+    let of = |number: usize, what: &str| {
+        let (number, all) = (number as u64, count(entries.len() as u64, "attribute"));
+        let verb = is_or_are(number);
+        (number > 0).then(|| format!("of {all} {} {verb} {what}", grouped(number)))
+    };
+    let damaged = entries.iter().filter(|entry| entry.is_damaged()).count();
+    let uncovered = entries.iter().filter(|entry| entry.uncovered.is_some());
+    let uncovered = uncovered.filter(|_| require_checksums).count();
+    let sentences = [
+        of(damaged, "not read"),
+        of(uncovered, "not covered by checksums"),
+    ];
+    sentences.into_iter().flatten()
 }
 
 #[cfg(test)]
@@ -190,14 +229,47 @@ mod tests {
         );
         let unknown = Unreadable::Unknown { what, number };
         for why in [unknown, Unreadable::NotHere { why }] {
-            let (name, value, message) = (&b"a"[..], Err(why), None);
+            let (name, value) = (&b"a"[..], Err(why));
             assert!(!is_damaged(Err(why)));
             assert!(!is_damaged(Ok(Attribute {
                 name,
                 value,
-                message
+                message: None,
+                variable_text: None,
+                uncovered: None,
             })));
         }
         assert!(is_damaged(Err(Unreadable::Contradicts { what, why })));
+    }
+
+    #[test]
+    fn a_value_that_no_checksum_covers_is_marked() {
+        let found = |value, uncovered| Found {
+            id: None,
+            heap_offset: None,
+            order: None,
+            attribute: Ok(Attribute {
+                name: b"a",
+                value,
+                message: None,
+                variable_text: None,
+                uncovered,
+            }),
+        };
+        let lies = Some(Uncovered::OldObjectHeader);
+        let told = |number, found| {
+            let entry = Entry::new(number, &found);
+            (entry.row(), entry.json())
+        };
+        for (number, due) in [(7, "      7*       2 "), (1_234_567, "1,234,567*       2 ")] {
+            let (row, json) = told(number, found(Ok(&b"ab"[..]), lies));
+            assert!(row.starts_with(due), "{row}");
+            assert!(json.contains("\"checked\":false"), "{json}");
+        }
+        let (row, json) = told(7, found(Ok(&b"ab"[..]), None));
+        assert!(row.starts_with("      7        2 ") && json.contains("\"checked\":true"));
+        let why = "it is a compound of several values";
+        let (row, json) = told(7, found(Err(Unreadable::NotHere { why }), lies));
+        assert!(row.starts_with("      7        - ") && json.contains("\"checked\":null"));
     }
 }

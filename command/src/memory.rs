@@ -48,9 +48,9 @@ fn or_end(at: *mut u8, size: usize) -> *mut u8 {
     at
 }
 
-/// Ends the program; nothing here asks for memory.
+/// Ends the program; nothing here asks for memory, and a handler may call it.
 #[cold]
-fn end(size: usize) -> ! {
+pub fn end(size: usize) -> ! {
     let mut words = [0; 80];
     let mut rest = &mut words[..];
     let _ = put_sentence(&mut rest, size);
@@ -90,7 +90,7 @@ pub fn reserve<T>(list: &mut Vec<T>, more: usize) -> Result<(), Failure> {
 
 /// Bytes of a large page and of a small one; where the system has others, nothing is lost.
 const LARGE_PAGE: usize = 1 << 21;
-const SMALL_PAGE: usize = 1 << 12;
+pub const SMALL_PAGE: usize = 1 << 12;
 /// As Linux has it from 6.1 on; an older one refuses it.
 const MADV_COLLAPSE: libc::c_int = 25;
 

@@ -1,9 +1,9 @@
 //! Files out. A file appears under its name whole or not at all, and replaces another only where that was asked for.
-use crate::failure::Failure;
+use crate::failure::{Failure, done};
 use crate::inputs::{Identity, identity, other_kind};
+use crate::locks::{self, Lock, Patience};
 use crate::signals;
 use crate::streams;
-use libc::c_int;
 use std::ffi::{CStr, CString};
 use std::fs::{self, File, Metadata, OpenOptions, Permissions};
 use std::io;
@@ -19,9 +19,14 @@ const PREFIX: &str = ".poilures-";
 
 /// A file that is not yet what it is to become.
 pub struct Output {
+    /// Where it is to stand: of a link where that leads, if the file there may be replaced.
     name: PathBuf,
     force: bool,
     file: Unfinished,
+    /// How long is waited for a program that has open for writing what stands there; none where that is not asked.
+    patience: Option<Patience>,
+    /// Of what stood there when it was begun, until it has its name.
+    _lock: Option<Lock>,
 }
 
 enum Unfinished {
@@ -53,6 +58,35 @@ fn standing(name: &Path) -> Result<Option<Metadata>, Failure> {
     }
 }
 
+/// Links that are followed one after the other: as many as the system follows.
+const MOST_LINKS: usize = 40;
+
+/// Where a link leads in the end, whether a file is there or not; any other name is its own.
+fn behind_links(name: &Path) -> Result<PathBuf, Failure> {
+    let mut place = name.to_path_buf();
+    for _ in 0..=MOST_LINKS {
+        if !standing(&place)?.is_some_and(|known| known.is_symlink()) {
+            return Ok(place);
+        }
+        let to = fs::read_link(&place).map_err(|error| unwritten(name, error))?;
+        if is_open_files(&place, &to) {
+            return Err(unwritten(name, OPEN_FILE));
+        }
+        place = folder(&place).join(to);
+    }
+    let error = io::Error::from_raw_os_error(libc::ELOOP);
+    Err(unwritten(name, error))
+}
+
+/// Whether a link is one of the system's to an open file, or leads to one, as /dev/stdout does. Those are neither
+/// followed nor replaced.
+fn is_open_files(link: &Path, to: &Path) -> bool {
+    let is_there = fs::canonicalize(folder(link)).is_ok_and(|at| at.starts_with("/proc"));
+    is_there || to.starts_with("/proc")
+}
+
+const OPEN_FILE: &str = "it is an open file's link; - is standard output";
+
 /// Whether a file may go by this name: not where something else than a file is, not over another without `force`, and
 /// never over an input, nor over what is printed.
 pub fn may_go(
@@ -79,12 +113,8 @@ pub fn may_go(
         Some(other) if !kind.is_symlink() => return Err(unwritten(name, other)),
         _ => {}
     }
-    // /dev/stdout and its like are links of the system's, not to be replaced.
-    if known.is_symlink() && fs::read_link(name).is_ok_and(|to| to.starts_with("/proc")) {
-        return Err(unwritten(
-            name,
-            "it is an open file's link; - is standard output",
-        ));
+    if known.is_symlink() && fs::read_link(name).is_ok_and(|to| is_open_files(name, &to)) {
+        return Err(unwritten(name, OPEN_FILE));
     }
     let stream = behind.map_or(Ok(None), |known| streams::written_as(identity(&known)))?;
     if let Some(stream) = stream {
@@ -103,6 +133,17 @@ pub fn may_be_written(name: &Path) -> io::Result<()> {
     done(unsafe { libc::access(name.as_ptr(), libc::W_OK) })
 }
 
+/// Whether a new file may take the place of this one, in a folder that takes new files: in one like /tmp only whoever
+/// owns the file or the folder may have it do so.
+pub fn may_be_replaced(name: &Path) -> bool {
+    let (Ok(known), Ok(folder)) = (fs::symlink_metadata(name), fs::metadata(folder(name))) else {
+        return true; // it is seen when it is tried
+    };
+    // SAFETY: the call gives a number.
+    let user = unsafe { libc::geteuid() };
+    folder.mode() & libc::S_ISVTX == 0 || [0, known.uid(), folder.uid()].contains(&user)
+}
+
 /// The mode that the umask gives to a new file.
 fn new_mode() -> u32 {
     // SAFETY: both calls only exchange a number; this program has one thread.
@@ -115,20 +156,54 @@ fn new_mode() -> u32 {
 }
 
 impl Output {
-    /// Begins a file. Nothing stands under its name before it is finished.
+    /// Begins a file. Nothing stands under its name before it is finished. It goes where a link leads, and what it is
+    /// to replace there must not be open for writing by another program.
     pub fn begin(
         name: &Path,
         force: bool,
         is_input: impl Fn(Identity) -> bool,
     ) -> Result<Self, Failure> {
-        let name = name.to_path_buf();
-        may_go(&name, force, is_input)?;
-        let file = match unnamed(folder(&name)) {
-            Ok(file) => Ok(file),
-            Err(_) => named(folder(&name)),
+        Output::begin_patiently(name, force, Some(Patience::No), is_input)
+    }
+
+    /// As `begin`, where such a program is waited for, or is not asked for.
+    pub fn begin_patiently(
+        name: &Path,
+        force: bool,
+        patience: Option<Patience>,
+        is_input: impl Fn(Identity) -> bool,
+    ) -> Result<Self, Failure> {
+        may_go(name, force, is_input)?;
+        match force {
+            true => Output::begun(behind_links(name)?, force, patience),
+            false => Output::begun(name.into(), force, patience),
+        }
+    }
+
+    /// As `begin`, for one of several files in a folder: there a link is replaced, since what it leads to may be the
+    /// place of another one.
+    pub fn begin_in_folder(
+        name: &Path,
+        force: bool,
+        is_input: impl Fn(Identity) -> bool,
+    ) -> Result<Self, Failure> {
+        may_go(name, force, is_input)?;
+        Output::begun(name.into(), force, Some(Patience::No))
+    }
+
+    fn begun(name: PathBuf, force: bool, patience: Option<Patience>) -> Result<Self, Failure> {
+        let lock = match force {
+            true => locks::for_replacing(&name, patience)?,
+            false => None,
         };
-        match file {
-            Ok(file) => Ok(Output { name, force, file }),
+        match unnamed(folder(&name)).or_else(|_| named(folder(&name))) {
+            Ok(file) => Ok(Output {
+                name,
+                force,
+                file,
+                patience,
+                _lock: lock,
+            }),
             Err(error) => Err(unwritten(&name, error)),
         }
     }
@@ -190,6 +265,11 @@ impl Output {
         }
         .map_err(unwritten)?;
         file.sync_all().map_err(unwritten)?;
+        // What stands there now may be another file than before.
+        let _lock = match self.force {
+            true => locks::for_replacing(name, self.patience)?,
+            false => None,
+        };
         agrees()?;
         match self.file {
             Unfinished::Unnamed(file) => {
@@ -303,21 +383,13 @@ fn rename(from: &CStr, to: &CStr) -> io::Result<()> {
     }
 }
 
-/// What a call to the system says of itself.
-fn done(status: c_int) -> io::Result<()> {
-    match status {
-        0 => Ok(()),
-        _ => Err(io::Error::last_os_error()),
-    }
-}
-
 /// Says why a file did not get its name.
 fn taken(name: &Path, error: io::Error) -> Failure {
     match error.kind() {
         io::ErrorKind::AlreadyExists => {
             unwritten(name, "a file of that name appeared meanwhile, and was left")
         }
-        _ if has_no_links(&error) => {
+        _ if has_no_links(&error) && may_be_replaced(name) => {
             let words = format!("{error}; this file system may have no hard links");
             unwritten(name, words)
         }
@@ -374,6 +446,8 @@ mod tests {
             name: name.into(),
             force,
             file,
+            patience: Some(Patience::No),
+            _lock: None,
         };
         let named = named(folder(name)).unwrap();
         let unnamed = unnamed(folder(name));
@@ -451,13 +525,62 @@ mod tests {
     }
 
     #[test]
-    fn a_link_is_replaced_not_its_target() {
+    fn a_link_is_followed() {
+        let folder = tempfile::tempdir().unwrap();
+        let place = |name| folder.path().join(name);
+        fs::write(place("archive"), b"archive").unwrap();
+        fs::create_dir(place("sub")).unwrap();
+        symlink("../archive", place("sub/link")).unwrap();
+        symlink("sub/link", place("first")).unwrap();
+        for (turn, name) in ["sub/link", "first"].iter().enumerate() {
+            let new = format!("new {turn}");
+            assert!(write(&place(name), false, b"new").is_err());
+            write(&place(name), true, new.as_bytes()).unwrap();
+            assert_eq!(fs::read(place("archive")).unwrap(), new.as_bytes());
+            assert!(fs::symlink_metadata(place(name)).unwrap().is_symlink());
+        }
+        symlink("nowhere", place("dangling")).unwrap();
+        write(&place("dangling"), true, b"made").unwrap();
+        assert_eq!(fs::read(place("nowhere")).unwrap(), b"made");
+        symlink("round", place("round")).unwrap();
+        assert!(write(&place("round"), true, b"new").is_err());
+    }
+
+    #[test]
+    fn a_link_among_the_files_of_a_folder_is_replaced() {
         let folder = tempfile::tempdir().unwrap();
         let (name, link) = (folder.path().join("archive"), folder.path().join("link"));
         fs::write(&name, b"archive").unwrap();
         symlink(&name, &link).unwrap();
-        write(&link, true, b"new").unwrap();
+        let theirs = File::open(&name).unwrap();
+        // SAFETY: the call takes two numbers, and the file is open.
+        assert_eq!(unsafe { libc::flock(theirs.as_raw_fd(), libc::LOCK_EX) }, 0);
+        let output = Output::begin_in_folder(&link, true, |_| false).unwrap();
+        output.file().write_all(b"new").unwrap();
+        output.give_name(|_| false).unwrap();
         assert_eq!(fs::read(&name).unwrap(), b"archive");
         assert!(fs::symlink_metadata(&link).unwrap().is_file());
+    }
+
+    #[test]
+    fn what_is_open_for_writing_is_not_replaced() {
+        let folder = tempfile::tempdir().unwrap();
+        let name = folder.path().join("image");
+        fs::write(&name, b"old").unwrap();
+        let theirs = File::open(&name).unwrap();
+        let lock = |kind| {
+            // SAFETY: the call takes two numbers, and the file is open.
+            assert_eq!(unsafe { libc::flock(theirs.as_raw_fd(), kind) }, 0);
+        };
+        lock(libc::LOCK_EX);
+        let begun = begun(&name, true);
+        assert!(write(&name, true, b"new").is_err());
+        for output in begun {
+            assert!(output.finish(|_| false).is_err(), "asked once more");
+        }
+        assert_eq!(fs::read(&name).unwrap(), b"old");
+        lock(libc::LOCK_SH);
+        write(&name, true, b"new").unwrap();
+        assert_eq!(fs::read(&name).unwrap(), b"new");
     }
 }

@@ -1,4 +1,5 @@
 //! Long work shows how far it is, on standard error where that is a terminal.
+use crate::talk;
 use indicatif::{ProgressBar, ProgressDrawTarget, ProgressStyle};
 use std::io::{self, IsTerminal};
 use std::time::{Duration, Instant};
@@ -16,7 +17,8 @@ pub struct Progress {
 }
 
 impl Progress {
-    /// Work on so many objects; `what` says what is done with them.
+    /// Work on so many objects; `what` says what is done with them. Nothing is shown while a file is locked that is read: a
+    /// terminal may take its time.
     pub fn new(what: &'static str, objects: u64) -> Self {
         let bar = ProgressBar::with_draw_target(Some(objects), ProgressDrawTarget::hidden());
         let template = "{msg}: {human_pos} of {human_len} {wide_bar} {eta}";
@@ -24,7 +26,7 @@ impl Progress {
             bar.set_style(style);
         }
         bar.set_message(what);
-        let is_seen = io::stderr().is_terminal();
+        let is_seen = io::stderr().is_terminal() && !talk::is_waiting();
         Progress {
             bar,
             is_shown: false,

@@ -4,8 +4,9 @@ use crate::block::Checked;
 use crate::failure::Failure;
 use crate::filters;
 use crate::giving::Giving;
+use crate::held;
 use crate::id::{self, HeapId};
-use crate::inputs::{self, Bytes};
+use crate::inputs;
 use crate::library::{Kind, kind, tiny_object};
 use crate::message;
 use crate::progress::Progress;
@@ -108,8 +109,7 @@ impl<'f> Reading<'f> {
         let addressing = &arguments.addressing;
         let site = Site::new(file, Some(arguments.place), addressing, remarks)?;
         let heap = site.heap(arguments.place, addressing)?;
-        let header = heap.header();
-        let header = header.map_err(|refusal| site::in_file(refusal, site.base, None))?;
+        let header = site.header(&heap)?;
         let header_address = match arguments.unchecked {
             true => None,
             false => Some(arguments.header_address.unwrap_or(heap.header_at)),
@@ -344,7 +344,7 @@ fn ids(arguments: &Read) -> Result<Cow<'_, [HeapId]>, Failure> {
 
 /// All objects that the words name, before a byte of one is printed.
 fn found<'o>(
-    file: &'o Bytes,
+    file: &'o [u8],
     ids: &'o [HeapId],
     arguments: &Read,
 ) -> Result<Vec<Object<'o>>, Failure> {
@@ -372,13 +372,15 @@ pub fn read(arguments: &Read) -> Result<(), Failure> {
     let inputs = arguments.ids_from.iter().chain([&arguments.file]);
     inputs::refuse_written(inputs.map(OsString::as_os_str))?;
     let ids = ids(arguments)?;
-    let file = inputs::whole(&arguments.file)?;
+    let file = inputs::source(&arguments.file, &arguments.locking)?;
     let objects = found(&file, &ids, arguments);
+    for object in objects.iter().flatten() {
+        held::look_at(object.bytes);
+    }
     // Of a file that was cut meanwhile not even a refusal is its own.
-    file.check_whole(&arguments.file)?;
+    file.release()?;
     let objects = objects?;
     let giving = Giving {
-        file: &file,
         name: &arguments.file,
         list: arguments.ids_from.as_deref(),
         hex: arguments.hex,

@@ -2,7 +2,7 @@
 //!
 //! A handler may come at any moment, so it only loads two pointers and calls what a handler may call: write, unlink,
 //! signal, raise, sigemptyset, sigaddset, pthread_sigmask and _exit. Neither handler returns: nothing goes on whose file
-//! is gone.
+//! is gone. That of SIGSEGV has another one before it as soon as a file is held (`held.rs`).
 use crate::failure::Failure;
 use libc::{c_char, c_int};
 use std::ffi::CString;
@@ -153,6 +153,12 @@ extern "C" fn ended(signal: c_int) {
     }
 }
 
+/// Has this thread take a signal, should whoever started us have blocked it.
+pub fn let_through(signal: c_int) {
+    // SAFETY: the set outlives the call.
+    unsafe { libc::pthread_sigmask(libc::SIG_UNBLOCK, &set(&[signal]), null_mut()) };
+}
+
 unsafe fn remove_unfinished() {
     let path = UNFINISHED.load(Ordering::Acquire);
     if !path.is_null() {
@@ -161,8 +167,9 @@ unsafe fn remove_unfinished() {
     }
 }
 
-/// Does something that no signal comes between; it comes after. No mapped byte may be touched meanwhile: a mapped file
-/// that fails ends the program at once where its signal is blocked.
+/// Does something that no signal comes between; it comes after. No mapped byte may be touched meanwhile, nor one of a file
+/// that is held: a mapped file that fails, and a part that is not filled yet, end the program at once where their signal is
+/// blocked.
 pub fn uninterrupted<T>(work: impl FnOnce() -> T) -> T {
     let mut before = set(&[]);
     // SAFETY: both sets outlive the calls.
@@ -185,11 +192,19 @@ pub fn set_unfinished(path: Option<CString>) {
 
 /// Says why a mapped file fails, should it fail. The last that is mapped has the word.
 pub fn set_mapped(failure: &Failure) {
-    let words = match failure {
-        Failure::Use(words) | Failure::Not(words) | Failure::Mute(words) => words,
-        Failure::Closed => return,
-    };
-    MAPPED.set(format!("poilures: {words}\n"));
+    if let Some(line) = line(failure) {
+        MAPPED.set(line);
+    }
+}
+
+/// What a handler says of a failure, if anything.
+pub fn line(failure: &Failure) -> Option<String> {
+    match failure {
+        Failure::Use(words) | Failure::Not(words) | Failure::Mute(words) => {
+            Some(format!("poilures: {words}\n"))
+        }
+        Failure::Closed => None,
+    }
 }
 
 #[cfg(test)]

@@ -3,7 +3,7 @@ use crate::arguments::Addressing;
 use crate::failure::Failure;
 use crate::image;
 use crate::talk::tell;
-use fractal_heap::{Heap, Refusal, Superblock, count, grouped};
+use fractal_heap::{Header, Heap, Refusal, Superblock, count, grouped};
 
 /// What is said on standard error while all is well.
 pub struct Remarks {
@@ -154,6 +154,28 @@ impl<'f> Site<'f> {
     /// The heap whose header is at a position in the file, wherever addresses count from.
     pub fn heap_at(&self, position: u64) -> Heap<'f> {
         self.heap_from(0, position)
+    }
+
+    /// What the header of a heap says. Where none begins, it is said what stands there.
+    pub fn header(&self, heap: &Heap) -> Result<Header, Failure> {
+        heap.header().map_err(|refusal| match refusal {
+            Refusal::InvalidSignature => {
+                let (found, due) = (heap.file.get(heap.header_at as usize..), image::SIGNATURE);
+                let digits = |bytes: &[u8]| {
+                    let each: Vec<String> = bytes.iter().map(|b| format!("{b:02X}")).collect();
+                    each.join(" ")
+                };
+                Failure::Not(format!(
+                    "refused by {}: the heap's header at {} in the file begins with {}, and not with {}, {}",
+                    refusal.number(),
+                    grouped(heap.header_at.saturating_add(self.base)),
+                    digits(found.and_then(|found| found.get(..due.len())).unwrap_or(&[])),
+                    String::from_utf8_lossy(due),
+                    digits(due)
+                ))
+            }
+            refusal => in_file(refusal, self.base, None).into(),
+        })
     }
 
     fn heap_from(&self, start: u64, header_at: u64) -> Heap<'f> {

@@ -1,11 +1,40 @@
 //! What the program says: lines on standard output, or on standard error where standard output carries bytes.
 use crate::failure::Failure;
 use crate::streams;
+use std::cell::RefCell;
 use std::io::{self, IsTerminal, Write};
+
+thread_local! {
+    /// Lines that wait; none where they are told at once.
+    static WAITING: RefCell<Option<Vec<String>>> = const { RefCell::new(None) };
+}
 
 /// A line on standard error; where nobody takes it, the work goes on.
 pub fn tell(line: &str) {
-    let _ = writeln!(io::stderr(), "{line}");
+    WAITING.with_borrow_mut(|waiting| match waiting {
+        Some(lines) => lines.push(line.into()),
+        None => {
+            let _ = writeln!(io::stderr(), "{line}");
+        }
+    });
+}
+
+/// Has lines on standard error wait from here on: whoever takes them may take his time.
+pub fn wait_to_tell() {
+    WAITING.with_borrow_mut(|waiting| {
+        waiting.get_or_insert_default();
+    });
+}
+
+/// Whether lines wait: then nothing else is shown either.
+pub fn is_waiting() -> bool {
+    WAITING.with_borrow(Option::is_some)
+}
+
+/// Tells the lines that have waited, and those to come at once.
+pub fn tell_all() {
+    let lines = WAITING.take();
+    lines.iter().flatten().for_each(|line| tell(line));
 }
 
 /// How much is said.

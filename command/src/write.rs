@@ -8,6 +8,7 @@ use crate::id::HeapId;
 use crate::image::{self, Layout, Part, Place};
 use crate::inputs::{self, Identity, Taken};
 use crate::library::{self, Id, Lists, Writing};
+use crate::locks::Patience;
 use crate::quoting::{self, shown};
 use crate::talk::{Talk, tell};
 use crate::{index, print};
@@ -142,7 +143,7 @@ pub fn write(arguments: &Write) -> Result<(), Failure> {
     index::may_go(arguments, is_input)?;
     let destination = match &arguments.out {
         None => Destination::Nowhere,
-        Some(out) => Destination::named(out, arguments.force, is_input)?,
+        Some(out) => Destination::named(out, arguments.force, Some(Patience::No), is_input)?,
     };
     let (lines, volume) = Lines::asked(arguments.json, arguments.quiet);
     let mut talk = Talk::new(matches!(destination, Destination::Standard), volume);

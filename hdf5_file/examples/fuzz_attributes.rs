@@ -123,10 +123,14 @@ fn read(file: &[u8]) -> bool {
     let Ok(all) = attributes.all() else {
         return false;
     };
-    let mut are_read = attributes.heap().is_ok();
+    let mut are_read = attributes.heap().is_ok() && attributes.disagreement(&all).is_ok();
     for found in &all {
         are_read &= match &found.attribute {
-            Ok(attribute) => attributes.find(attribute.name).is_ok() && attribute.value.is_ok(),
+            Ok(attribute) => {
+                let text = attribute.variable_text.as_ref();
+                assert!(text.is_none_or(|text| text.fixed().is_some()), "a text");
+                attributes.find(attribute.name).is_ok() && attribute.value.is_ok()
+            }
             Err(_) => false,
         };
         if let Some(id) = &found.id {

@@ -1,13 +1,14 @@
 //! The attributes of a file's root group, as they are read.
-use crate::cursor::{Bytes, Cursor};
+use crate::cursor::Bytes;
 use crate::heap::{Messages, is_huge};
+use crate::links;
 use crate::message::{Attribute, attribute};
 use crate::name_index::UNTRACKED;
 use crate::object_header::{Message, messages};
 use crate::root_group;
 use crate::superblock::{self, Superblock};
 use crate::tree::{ByName, Tree};
-use crate::{Dense, LENGTH_SIZE, OFFSET_SIZE, Unreadable};
+use crate::{Dense, Disagreement, LENGTH_SIZE, OFFSET_SIZE, Uncovered, Unreadable};
 use fractal_heap::Header;
 use std::cmp::Ordering;
 
@@ -43,6 +44,7 @@ pub struct Attributes<'f> {
     dense: Option<Storage<'f>>,
     newest: Option<u16>,
     other_content: Option<&'static str>,
+    bytes_behind: u64,
 }
 
 /// Dense storage.
@@ -62,7 +64,16 @@ struct Info {
 impl<'f> Attributes<'f> {
     /// Those of a whole file.
     pub fn open(file: &'f [u8]) -> Result<Self, Unreadable> {
-        let superblock = superblock::open(file)?;
+        Self::under(superblock::open(file)?)
+    }
+
+    /// Those of a whole file whose superblock stands behind a user block of so many bytes, whatever its base address
+    /// says: a block that was put before a file as it was, as h5jam does it, is not told in the file.
+    pub fn open_behind(file: &'f [u8], user_block: u64) -> Result<Self, Unreadable> {
+        Self::under(superblock::open_behind(file, user_block)?)
+    }
+
+    fn under(superblock: Superblock<'f>) -> Result<Self, Unreadable> {
         let bytes = superblock.bytes;
         let (mut info, mut compact) = (None, Vec::new());
         let mut other_content = around_root_group(&superblock);
@@ -92,6 +103,7 @@ impl<'f> Attributes<'f> {
             dense: dense.map(storage).transpose()?,
             newest,
             other_content,
+            bytes_behind: (bytes.all.len() as u64).saturating_sub(superblock.end),
         })
     }
 
@@ -115,6 +127,19 @@ impl<'f> Attributes<'f> {
     /// would not have, if anything: it is lost where such a file takes this one's place.
     pub fn other_content(&self) -> Option<&'static str> {
         self.other_content
+    }
+
+    /// Bytes of the file behind the end that its superblock tells: none of what is read lies there.
+    pub fn bytes_behind(&self) -> u64 {
+        self.bytes_behind
+    }
+
+    /// How the index and the heap's header disagree about the heap's objects, if they do; `all` are all attributes, as
+    /// they are read. A message that is shared lies in another heap, and does not count.
+    pub fn disagreement(&self, all: &[Found]) -> Result<Option<Disagreement>, Unreadable> {
+        let ids: Vec<[u8; 8]> = all.iter().filter_map(|found| found.id).collect();
+        let header = self.heap()?;
+        Ok(header.and_then(|header| Disagreement::between(&ids, &header)))
     }
 
     /// The attribute of a name, if there is one.
@@ -166,7 +191,8 @@ impl<'f> Attributes<'f> {
         let Some(dense) = &self.dense else {
             return Ok(None);
         };
-        let name = attribute(&self.bytes, dense.messages.read(id)?)?.name;
+        let (message, _) = dense.messages.read(id)?;
+        let name = attribute(&self.bytes, message)?.name;
         let found = self.find(name)?;
         Ok(found.filter(|found| found.id.as_ref() == Some(id)))
     }
@@ -193,7 +219,11 @@ impl<'f> Attributes<'f> {
             true => Err(Unreadable::NotHere {
                 why: "its message is shared with other objects",
             }),
-            false => attribute(&self.bytes, message.data.rest),
+            false => {
+                let uncovered = (!message.is_covered).then_some(Uncovered::OldObjectHeader);
+                let attribute = attribute(&self.bytes, message.data.rest);
+                attribute.map(|attribute| attribute.with_uncovered(uncovered))
+            }
         };
         Found {
             id: None,
@@ -232,9 +262,10 @@ impl<'f> Storage<'f> {
             let why = "its message is shared with other objects";
             return Err(Unreadable::NotHere { why });
         }
-        let attribute = attribute(bytes, self.messages.read(&record.id)?)?;
+        let (message, uncovered) = self.messages.read(&record.id)?;
+        let attribute = attribute(bytes, message)?;
         match fractal_heap::checksum(attribute.name) == record.hash {
-            true => Ok(attribute),
+            true => Ok(attribute.with_uncovered(uncovered)),
             false => {
                 let (what, why) = ("index", "a record leads to an attribute of another name");
                 Err(Unreadable::Contradicts { what, why })
@@ -282,19 +313,16 @@ fn around_root_group(superblock: &Superblock) -> Option<&'static str> {
 
 /// What a message of the root group says that there is, and a file of attributes has not.
 fn beside_attributes(message: Message) -> Option<&'static str> {
-    let links = Some("other objects, which its root group has links to");
-    match message.kind {
-        NIL | GROUP_INFO | MODIFICATION_TIME => None,
-        LINK_INFO if has_links(message.data.clone()) == Ok(false) => None,
-        LINK_INFO | LINK | SYMBOL_TABLE => links,
-        _ => Some("more in its root group than attributes"),
+    let has_links = match message.kind {
+        NIL | GROUP_INFO | MODIFICATION_TIME => return None,
+        LINK_INFO if !message.is_shared => links::has_dense_links(message.data),
+        SYMBOL_TABLE if !message.is_shared => links::has_symbols(message.data),
+        LINK => Ok(true),
+        _ => return Some("more in its root group than attributes"),
+    };
+    match has_links {
+        Ok(false) => None,
+        Ok(true) => Some("other objects, which its root group has links to"),
+        Err(_) => Some("a root group whose links cannot be read"),
     }
-}
-
-/// Whether links are in dense storage. IV.A.2.c, 'Link Info Message'.
-fn has_links(mut at: Cursor) -> Result<bool, Unreadable> {
-    at.version("version of a message on links", &[0])?;
-    let flags = at.byte()?;
-    at.take(if flags & 1 != 0 { 8 } else { 0 })?; // the largest number of one
-    Ok(at.address()?.is_some())
 }

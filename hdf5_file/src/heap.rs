@@ -1,8 +1,8 @@
 //! The messages of attributes in dense storage: objects of a fractal heap, III.G, managed or huge.
-use crate::Unreadable;
 use crate::cursor::Bytes;
 use crate::tree::{ByKey, Tree};
-use fractal_heap::{Header, Heap};
+use crate::{Uncovered, Unreadable};
+use fractal_heap::{Error, Header, Heap, Refusal};
 use std::cell::Cell;
 
 /// A heap, by the address of its header.
@@ -11,6 +11,8 @@ pub struct Messages<'f> {
     heap: Heap<'f>,
     /// The direct block that was tested last, with all blocks on the way to it.
     tested: Cell<Option<Span>>,
+    /// Whether checksums cover its direct blocks, when its header was asked for that.
+    have_checksums: Cell<Option<bool>>,
 }
 
 /// Part of a heap, from one offset up to another.
@@ -68,11 +70,6 @@ pub fn is_huge(id: &[u8; 8]) -> bool {
     id[0] >> 4 & 3 == 1
 }
 
-/// What is said where no block was looked at.
-fn not_read(why: fractal_heap::Error) -> Unreadable {
-    Unreadable::Heap { why, block: None }
-}
-
 impl<'f> Messages<'f> {
     pub fn new(bytes: Bytes<'f>, address: u64) -> Self {
         let heap = Heap {
@@ -85,13 +82,25 @@ impl<'f> Messages<'f> {
             bytes,
             heap,
             tested: Cell::new(None),
+            have_checksums: Cell::new(None),
         }
     }
 
     /// What the heap's header says.
     pub fn header(&self) -> Result<Header, Unreadable> {
         let header = self.heap.header();
-        header.map_err(|why| not_read(why.into()))
+        header.map_err(|why| self.not_read(why.into()))
+    }
+
+    /// What is said where no block was looked at: the only signature so far is the header's.
+    fn not_read(&self, why: fractal_heap::Error) -> Unreadable {
+        match why {
+            Error::Refused(Refusal::InvalidSignature) => Unreadable::Signature {
+                what: "heap's header",
+                at: self.heap.header_at,
+            },
+            why => Unreadable::Heap { why, block: None },
+        }
     }
 
     /// Where a managed object begins in the heap, by its ID.
@@ -100,12 +109,29 @@ impl<'f> Messages<'f> {
         decoded.map(|(offset, _)| offset).filter(|_| !is_huge(id))
     }
 
-    /// The message of an ID.
-    pub fn read(&self, id: &[u8; 8]) -> Result<&'f [u8], Unreadable> {
+    /// The message of an ID, and where it lies if no checksum covers it.
+    pub fn read(&self, id: &[u8; 8]) -> Result<(&'f [u8], Option<Uncovered>), Unreadable> {
         match is_huge(id) {
-            false => self.managed(id),
-            true => self.huge(id),
+            false => {
+                let message = self.managed(id)?;
+                let uncovered = match self.have_checksums()? {
+                    true => None,
+                    false => Some(Uncovered::BlocksWithoutChecksums),
+                };
+                Ok((message, uncovered))
+            }
+            true => Ok((self.huge(id)?, Some(Uncovered::HugeObject))),
         }
+    }
+
+    /// Whether checksums cover the direct blocks. III.G, 'Fractal Heap Header', Flags.
+    fn have_checksums(&self) -> Result<bool, Unreadable> {
+        if let Some(known) = self.have_checksums.get() {
+            return Ok(known);
+        }
+        let known = self.header()?.flags & Header::BLOCKS_HAVE_CHECKSUMS != 0;
+        self.have_checksums.set(Some(known));
+        Ok(known)
     }
 
     /// A managed object, by the proved reader that tests every block on the way. One that lies in the direct block of the
@@ -115,19 +141,21 @@ impl<'f> Messages<'f> {
     /// object without bytes, which is in no block.
     fn managed(&self, id: &[u8; 8]) -> Result<&'f [u8], Unreadable> {
         let heap = &self.heap;
-        let (offset, length) = heap.decode_managed_id(id).map_err(not_read)?;
+        let decoded = heap.decode_managed_id(id);
+        let (offset, length) = decoded.map_err(|why| self.not_read(why))?;
         let end = offset.saturating_add(length);
         let is_in = |block: Span| length > 0 && block.start <= offset && end <= block.end;
         if self.tested.get().is_some_and(is_in) {
-            return heap.read_managed_object_unchecked(id).map_err(not_read);
+            let read = heap.read_managed_object_unchecked(id);
+            return read.map_err(|why| Unreadable::Heap { why, block: None });
         }
         let read = heap.read_managed_object(id, heap.header_at);
-        let object = read.map_err(|why| Unreadable::Heap {
-            why,
-            block: heap
-                .stopping_block(id, heap.header_at)
-                .ok()
-                .map(|b| b.address),
+        let object = read.map_err(|why| match heap.stopping_block(id, heap.header_at) {
+            Ok(block) => Unreadable::Heap {
+                why,
+                block: Some(block.address),
+            },
+            Err(_) => self.not_read(why),
         })?;
         if length > 0 {
             self.tested.set(direct_block(&self.header()?, offset));

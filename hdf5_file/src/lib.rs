@@ -17,21 +17,28 @@
 mod attribute;
 mod attributes;
 mod cursor;
+mod fixed_text;
 mod global_heap;
 mod heap;
+mod links;
 mod message;
 mod name_index;
+mod object_counts;
 mod object_header;
 mod root_group;
 mod superblock;
 mod tree;
+mod uncovered;
 mod unreadable;
 
 pub use attribute::{Kind, message_head};
 pub use attributes::{Attributes, Found};
+pub use fixed_text::VariableText;
 pub use message::Attribute;
 pub use name_index::{NameIndex, Named};
+pub use object_counts::{Disagreement, ObjectCounts};
 pub use root_group::{Dense, MOST_IN_ORDER, Places, RootGroup};
+pub use uncovered::Uncovered;
 pub use unreadable::Unreadable;
 
 /// Bytes of an address and of a length in a file of attributes.

@@ -1,6 +1,7 @@
 //! An attribute's message that is read: IV.A.2.m, versions 1 to 3, with IV.A.2.b and d.
 use crate::cursor::{Bytes, Cursor};
-use crate::{Unreadable, global_heap};
+use crate::fixed_text::VariableText;
+use crate::{Uncovered, Unreadable, global_heap};
 
 const WHAT: &str = "attribute's message";
 
@@ -14,6 +15,18 @@ pub struct Attribute<'f> {
     /// Its message up to the end of its value, where that lies in it, also where its bytes are not given: another file of
     /// the same two sizes can have it as it is.
     pub message: Option<&'f [u8]>,
+    /// Of one string of variable length that is there, how it can be one of fixed length.
+    pub variable_text: Option<VariableText<'f>>,
+    /// Where its value lies if no checksum covers every byte of that.
+    pub uncovered: Option<Uncovered>,
+}
+
+impl Attribute<'_> {
+    /// The same, of a message that lies where no checksum covers it, if so.
+    pub(crate) fn with_uncovered(self, uncovered: Option<Uncovered>) -> Self {
+        let uncovered = uncovered.or(self.uncovered);
+        Attribute { uncovered, ..self }
+    }
 }
 
 /// The attribute that a message is.
@@ -24,6 +37,7 @@ pub fn attribute<'f>(bytes: &Bytes<'f>, message: &'f [u8]) -> Result<Attribute<'
     let [name, datatype, dataspace] = [at.number(2)?, at.number(2)?, at.number(2)?];
     at.take(u64::from(version == 3))?; // the name's character set
     let mut part = |length: u64| {
+        let start = at.clone();
         let part = at.take(length)?;
         let padding = if version == 1 {
             length.next_multiple_of(8) - length
@@ -31,12 +45,21 @@ pub fn attribute<'f>(bytes: &Bytes<'f>, message: &'f [u8]) -> Result<Attribute<'
             0
         };
         at.take(padding)?;
-        Ok(part)
+        let padded = &start.rest[..start.rest.len() - at.rest.len()];
+        Ok((part, padded))
     };
-    let name = name_of(part(name)?)?;
-    let datatype = bytes.over("datatype", 0, part(datatype)?);
-    let dataspace = bytes.over("dataspace", 0, part(dataspace)?);
-    let shape = Shape::of(version, flags, datatype, dataspace);
+    let name = name_of(part(name)?.0)?;
+    let (datatype, padded_datatype) = part(datatype)?;
+    let (dataspace, padded_dataspace) = part(dataspace)?;
+    let value_at = message.len() - at.rest.len();
+    let datatype_at = value_at - padded_dataspace.len() - padded_datatype.len();
+    let shape = Shape::of(
+        version,
+        flags,
+        bytes.over("datatype", 0, datatype),
+        bytes.over("dataspace", 0, dataspace),
+    );
+    let is_elsewhere = matches!(shape, Ok(Shape::Elsewhere));
     let (value, is_in_message) = match shape {
         Ok(Shape::Bytes(size)) => {
             let value = at.take(size);
@@ -50,10 +73,20 @@ pub fn attribute<'f>(bytes: &Bytes<'f>, message: &'f [u8]) -> Result<Attribute<'
         Err(why) => (Err(why), false),
     };
     let end = message.len() - at.rest.len();
+    let variable_text = value.ok().filter(|_| is_elsewhere);
+    // A text of no bytes is not in the global heap: its message says all of it.
+    let is_text_elsewhere = is_elsewhere && value != Ok(&[]);
     Ok(Attribute {
         name,
         message: is_in_message.then_some(&message[..end]),
+        variable_text: variable_text.map(|text| VariableText {
+            head: &message[..datatype_at],
+            datatype,
+            dataspace: padded_dataspace,
+            text,
+        }),
         value,
+        uncovered: is_text_elsewhere.then_some(Uncovered::GlobalHeap),
     })
 }
 
@@ -239,6 +272,109 @@ mod tests {
         }
     }
 
+    /// A message of this version with one string of variable length, and the collection that has its text at 0.
+    fn variable(version: u8, bits: [u8; 3], space: &[u8], text: &[u8]) -> (Vec<u8>, Vec<u8>) {
+        let size = (16 + 16 + text.len()).next_multiple_of(8) as u64;
+        let mut file = [
+            b"GCOL\x01\0\0\0",
+            &size.to_le_bytes()[..],
+            &[1, 0, 1, 0, 0, 0, 0, 0],
+        ]
+        .concat();
+        file.extend((text.len() as u64).to_le_bytes());
+        file.extend(text);
+        file.resize(size as usize, 0);
+        let mut datatype = vec![0x19, bits[0], bits[1], bits[2], 16, 0, 0, 0];
+        datatype.extend(b"\x13\0\0\0\x01\0\0\0"); // its base, a string of one byte
+        let place = [
+            &(text.len() as u32).to_le_bytes()[..],
+            &[0; 8],
+            &[1, 0, 0, 0],
+        ]
+        .concat();
+        let message = match version {
+            1 => old(b"text\0", &datatype, space, &place),
+            _ => [
+                &[3, 0, 5, 0, 16, 0, space.len() as u8, 0, 1][..],
+                b"text\0",
+                &datatype,
+                space,
+                &place,
+            ]
+            .concat(),
+        };
+        (file, message)
+    }
+
+    // By the format: class 9 has the kind (1, a string) in bits 0 to 3, the padding in 4 to 7, the character set in 8 to
+    // 11; class 3 the padding (1: with zeros) in bits 0 to 3, the character set in 4 to 7.
+    #[test]
+    fn a_text_of_variable_length_as_one_of_fixed_length() {
+        let (scalar, one) = (&b"\x02\0\0\0"[..], &b"\x02\x01\0\x01\x01\0\0\0\0\0\0\0"[..]);
+        for (bits, characters) in [
+            ([0x01, 1, 0], 0x11),
+            ([0x11, 0, 0], 0x01),
+            ([0x21, 1, 0], 0x11),
+        ] {
+            for (space, text, due) in [
+                (scalar, &b"AB"[..], &b"AB"[..]),
+                (one, b"A ", b"A "),
+                (scalar, b"", b"\0"),
+            ] {
+                let (file, message) = variable(3, bits, space, text);
+                let bytes = Bytes {
+                    all: &file,
+                    ..BYTES
+                };
+                let read = attribute(&bytes, &message).unwrap();
+                assert_eq!((read.value, read.message), (Ok(text), None));
+                let mut whole = vec![3, 0, 5, 0, 8, 0, space.len() as u8, 0, 1];
+                whole.extend(b"text\0");
+                whole.extend([0x13, characters, 0, 0, due.len() as u8, 0, 0, 0]);
+                whole.extend([space, due].concat());
+                assert_eq!(read.variable_text.unwrap().fixed().unwrap(), whole);
+                let read = attribute(&BYTES, &whole).unwrap();
+                assert_eq!((read.value, read.message), (Ok(due), Some(&whole[..])));
+                assert_eq!(read.variable_text, None, "it is none any more");
+            }
+        }
+    }
+
+    #[test]
+    fn a_text_in_a_padded_message() {
+        let space = b"\x01\0\0\0\0\0\0\0";
+        let (file, message) = variable(1, [1, 1, 0], space, b"a text");
+        let bytes = Bytes {
+            all: &file,
+            ..BYTES
+        };
+        let read = attribute(&bytes, &message).unwrap();
+        let due = old(b"text\0", b"\x13\x11\0\0\x06\0\0\0", space, b"a text");
+        assert_eq!(read.variable_text.unwrap().fixed().unwrap(), due);
+    }
+
+    #[test]
+    fn what_is_no_text_that_is_there_stays() {
+        let lists = [
+            &b"\x02\x01\0\x01\x02\0\0\0\0\0\0\0"[..],
+            b"\x02\x01\0\x01\0\0\0\0\0\0\0\0",
+        ];
+        for space in lists {
+            let (file, message) = variable(3, [1, 1, 0], space, b"AB");
+            let bytes = Bytes {
+                all: &file,
+                ..BYTES
+            };
+            assert_eq!(attribute(&bytes, &message).unwrap().variable_text, None);
+        }
+        let (_, message) = variable(3, [1, 1, 0], b"\x02\0\0\0", b"AB");
+        let read = attribute(&BYTES, &message).unwrap();
+        assert!(
+            read.value.is_err() && read.variable_text.is_none(),
+            "there is no collection"
+        );
+    }
+
     #[test]
     fn what_is_not_here_is_said() {
         let scalar = b"\x02\0\0\0";
@@ -264,6 +400,30 @@ mod tests {
                 matches!(read.value, Err(Unreadable::NotHere { .. })),
                 "{flags}"
             );
+        }
+    }
+
+    /// A string of variable length, of class 9, whose place is in the message: 4 bytes of its length, the address of a
+    /// collection of the global heap, the number of an object in it.
+    #[test]
+    fn a_text_elsewhere_has_no_checksum_but_an_empty_one_is_here() {
+        let mut all = vec![0; 8];
+        all.extend(b"GCOL\x01\0\0\0");
+        all.extend(40u64.to_le_bytes());
+        all.extend([1, 0, 1, 0, 0, 0, 0, 0]);
+        all.extend(4u64.to_le_bytes());
+        all.extend(b"text\0\0\0\0");
+        let bytes = Bytes { all: &all, ..BYTES };
+        for (value, due) in [(&b"text"[..], Some(Uncovered::GlobalHeap)), (b"", None)] {
+            let mut place = (value.len() as u32).to_le_bytes().to_vec();
+            place.extend(8u64.to_le_bytes());
+            place.extend(1u32.to_le_bytes());
+            let kind = [0x19, 1, 0, 0, 16, 0, 0, 0];
+            let message = old(b"n\0", &kind, b"\x02\0\0\0", &place);
+            let read = attribute(&bytes, &message).unwrap();
+            assert_eq!((read.value, read.uncovered), (Ok(value), due));
+            let read = read.with_uncovered(Some(Uncovered::HugeObject));
+            assert_eq!(read.uncovered, Some(Uncovered::HugeObject));
         }
     }
 

@@ -16,6 +16,8 @@ const TIMES: u8 = 1 << 5;
 pub struct Message<'f> {
     pub kind: u64,
     pub is_shared: bool,
+    /// Whether the checksum of its header, or of a continuation, covers it: version 1 has none.
+    pub is_covered: bool,
     /// The number that its header gives it among those of its kind, where it does.
     pub order: Option<u64>,
     pub data: Cursor<'f>,
@@ -27,7 +29,7 @@ struct Prefix {
     kind: u64,
     reserved: u64,
     order: u64,
-    /// A continuation has a signature and a checksum.
+    /// The header has a checksum, and a continuation a signature and a checksum.
     is_sealed: bool,
 }
 
@@ -141,6 +143,7 @@ fn in_block<'f>(mut block: Cursor<'f>, prefix: Prefix) -> Result<Vec<Message<'f>
         found.push(Message {
             kind,
             is_shared,
+            is_covered: prefix.is_sealed,
             order,
             data,
         });

@@ -53,13 +53,50 @@ fn is_behind_a_damaged_one(file: &[u8], at: u64) -> bool {
 /// lie in another file, as its value, and that file's own superblock be damaged. So its base address has to be its place,
 /// which it is behind a user block that HDF5 made, and no place before may look like one of a superblock.
 pub fn open(file: &[u8]) -> Result<Superblock<'_>, Unreadable> {
-    let contradicts = |why| Err(Unreadable::Contradicts { what: WHAT, why });
     let found = fractal_heap::Superblock::find(file).ok_or(Unreadable::NoSuperblock)?;
     if is_behind_a_damaged_one(file, found.at) {
         return contradicts(
             "most of a signature stands at a place before: the file's own is damaged",
         );
     }
+    parse(file, found, Base::IsPlace)
+}
+
+/// The superblock that stands behind a user block of so many bytes, whatever its base address says, and whatever stands
+/// before it.
+pub fn open_behind(file: &[u8], user_block: u64) -> Result<Superblock<'_>, Unreadable> {
+    let rest = usize::try_from(user_block)
+        .ok()
+        .and_then(|at| file.get(at..));
+    match rest.and_then(fractal_heap::Superblock::find) {
+        Some(mut found) if found.at == 0 => {
+            found.at = user_block;
+            parse(file, found, Base::Any)
+        }
+        _ => Err(Unreadable::NotBehind {
+            user_block,
+            found: fractal_heap::Superblock::find(file).map(|found| found.at),
+        }),
+    }
+}
+
+fn contradicts<T>(why: &'static str) -> Result<T, Unreadable> {
+    Err(Unreadable::Contradicts { what: WHAT, why })
+}
+
+/// What is asked of the base address of a superblock behind the start of the file.
+#[derive(PartialEq, Eq)]
+enum Base {
+    IsPlace,
+    Any,
+}
+
+/// What a superblock says that was found in a file.
+fn parse(
+    file: &[u8],
+    found: fractal_heap::Superblock,
+    due: Base,
+) -> Result<Superblock<'_>, Unreadable> {
     let base_at = found.base_at().ok_or(Unreadable::Unknown {
         what: "version of the superblock",
         number: found.version.into(),
@@ -101,11 +138,9 @@ pub fn open(file: &[u8]) -> Result<Superblock<'_>, Unreadable> {
             (root, second.map(|_| "a superblock extension"))
         }
     };
-    if found.at > 0 && base != found.at {
-        return contradicts(
-            "its base address is not its place: it may lie in a file whose own superblock is damaged; a file that was put \
-             behind a user block is read without that",
-        );
+    if due == Base::IsPlace && found.at > 0 && base != found.at {
+        let at = found.at;
+        return Err(Unreadable::OtherBase { at, base });
     }
     let there = all.len() as u64;
     match end.checked_sub(base) {

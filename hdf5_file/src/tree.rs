@@ -155,6 +155,11 @@ impl<'f, R: Record> Tree<'f, R> {
         Ok(tree)
     }
 
+    /// Whether it has no records.
+    pub fn is_empty(&self) -> bool {
+        self.root.is_none()
+    }
+
     /// The widths of the counts in nodes above the leaves, for as many levels as there are. Each level has twice the
     /// records of the one below, or more, since a node above a leaf has two children at least.
     fn measure(&mut self, depth: usize, all: u64) -> Result<(), Unreadable> {

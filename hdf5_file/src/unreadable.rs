@@ -9,6 +9,10 @@ use std::fmt;
 pub enum Unreadable {
     /// No superblock is where one may be.
     NoSuperblock,
+    /// None stands behind a user block of so many bytes; where one is found, if anywhere.
+    NotBehind { user_block: u64, found: Option<u64> },
+    /// A superblock behind the start of the file says that it is at another place than it is.
+    OtherBase { at: u64, base: u64 },
     /// A structure ends behind the end of the file, or of what it is in.
     EndsEarly {
         what: &'static str,
@@ -49,6 +53,24 @@ impl fmt::Display for Unreadable {
     fn fmt(&self, f: &mut fmt::Formatter<'_>) -> fmt::Result {
         match *self {
             Unreadable::NoSuperblock => f.write_str("it is no HDF5 file: no superblock is found"),
+            Unreadable::NotBehind { user_block, found } => {
+                let user_block = count(user_block, "byte");
+                write!(
+                    f,
+                    "no superblock stands behind a user block of {user_block}"
+                )?;
+                match found {
+                    Some(at) => write!(f, ": one is found at {}", grouped(at)),
+                    None => f.write_str(": none is found at all"),
+                }
+            }
+            Unreadable::OtherBase { at, base } => write!(
+                f,
+                "the superblock at {} is not sound: its base address is not its place, but {}: it may lie in a file whose \
+                 own superblock is damaged",
+                grouped(at),
+                grouped(base)
+            ),
             Unreadable::EndsEarly {
                 what,
                 at,

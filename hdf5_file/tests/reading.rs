@@ -2,8 +2,8 @@
 //! changed, and with bytes changed under checksums that hold.
 use fractal_heap::{Heap, OpenPlan, Superblock, checksum};
 use hdf5_file::{
-    Attribute, Attributes, Dense, Found, Kind, NameIndex, Named, Places, RootGroup, Unreadable,
-    message_head,
+    Attribute, Attributes, Dense, Disagreement, Found, Kind, NameIndex, Named, ObjectCounts,
+    Places, RootGroup, Uncovered, Unreadable, message_head,
 };
 use std::ops::Range;
 
@@ -233,6 +233,34 @@ fn behind(size: usize, file: &[u8]) -> Vec<u8> {
 }
 
 #[test]
+fn a_user_block_that_is_named_is_passed_over() {
+    let made = made(5, false);
+    let read = |bytes: &[u8], size| {
+        let attributes = Attributes::open_behind(bytes, size)?;
+        assert_eq!(attributes.bytes_behind(), 0);
+        Ok::<_, Unreadable>(given(&attributes.all().unwrap()))
+    };
+    for size in [512, 1024, 4096] {
+        let copied = [&vec![0x55; size][..], &made.bytes].concat();
+        let (at, base) = (size as u64, 0);
+        let refused = Attributes::open(&copied).err();
+        assert_eq!(refused, Some(Unreadable::OtherBase { at, base }));
+        assert_eq!(read(&copied, at).as_ref(), Ok(&made.attributes));
+        let due = behind(size, &made.bytes);
+        assert_eq!(read(&due, at).as_ref(), Ok(&made.attributes));
+        for user_block in [0, at - 1, at + 1, 2 * at, 1 << 20, u64::MAX] {
+            let found = Some(at);
+            let none = Err(Unreadable::NotBehind { user_block, found });
+            assert_eq!(read(&copied, user_block), none);
+        }
+    }
+    assert_eq!(read(&made.bytes, 0), Ok(made.attributes));
+    let (user_block, found) = (512, None);
+    let none = Unreadable::NotBehind { user_block, found };
+    assert_eq!(read(b"no file", 512), Err(none));
+}
+
+#[test]
 fn a_name_that_is_not_there_is_none() {
     let made = made(23, false);
     let attributes = Attributes::open(&made.bytes).unwrap();
@@ -342,6 +370,183 @@ fn compact_file(name: &str, value: &[u8]) -> Vec<u8> {
     bytes.extend(sum);
     bytes.extend(header);
     bytes
+}
+
+/// An HDF5 file of old, with one attribute in its object header: II.A, 'Superblock (Versions 0 and 1)', IV.A.1.a, 'Version
+/// 1 Object Header'. No part of it has a checksum.
+fn old_file(name: &str, value: &[u8]) -> Vec<u8> {
+    let mut message = message_head(name, Kind::Bytes, value.len() as u64).unwrap();
+    message.extend(value);
+    message.resize(message.len().next_multiple_of(8), 0);
+    let mut bytes = b"\x89HDF\r\n\x1a\n\0\0\0\0\0\x08\x08\0\x04\0\x10\0\0\0\0\0".to_vec();
+    let end = 96 + 16 + 8 + message.len() as u64;
+    for address in [0, u64::MAX, end, u64::MAX, 0, 96] {
+        bytes.extend(u64::to_le_bytes(address));
+    }
+    bytes.resize(96, 0);
+    bytes.extend([1, 0, 1, 0, 1, 0, 0, 0]);
+    bytes.extend((8 + message.len() as u32).to_le_bytes());
+    bytes.extend([0; 4]);
+    bytes.extend([0x0C, 0]);
+    bytes.extend((message.len() as u16).to_le_bytes());
+    bytes.extend([0; 4]);
+    bytes.extend(message);
+    bytes
+}
+
+/// Of each attribute where it lies that no checksum covers it.
+fn uncovered(bytes: &[u8]) -> Vec<Option<Uncovered>> {
+    let all = read(bytes).unwrap();
+    all.into_iter()
+        .map(|found| found.attribute.unwrap().uncovered)
+        .collect()
+}
+
+/// Makes the checksum of a part right again.
+fn seal(bytes: &mut [u8], part: &Range<usize>) {
+    let sum = checksum(&bytes[part.clone()]).to_le_bytes();
+    bytes[part.end..part.end + 4].copy_from_slice(&sum);
+}
+
+#[test]
+fn each_value_tells_whether_a_checksum_covers_it() {
+    let made = made(3, false);
+    assert_eq!(uncovered(&made.bytes), [None; 3]);
+    assert_eq!(uncovered(&compact_file("n", b"value")), [None]);
+    let old = old_file("n", b"value");
+    assert_eq!(uncovered(&old), [Some(Uncovered::OldObjectHeader)]);
+    // The flags are behind signature, version and two lengths of two bytes.
+    let (mut bare, header) = (made.bytes.clone(), made.sealed[2].clone());
+    bare[header.start + 9] = 0;
+    seal(&mut bare, &header);
+    let due = [Some(Uncovered::BlocksWithoutChecksums); 3];
+    assert_eq!(uncovered(&bare), due);
+    assert_eq!(given(&read(&bare).unwrap()), made.attributes);
+}
+
+// By a bit that is changed comes the value as it was, or one that is told as not covered, or none.
+#[test]
+fn no_other_value_comes_as_a_covered_one() {
+    let whole = old_file("n", b"a value");
+    let due = [("n".into(), b"a value".to_vec())];
+    assert_eq!(given(&read(&whole).unwrap()), due);
+    let mut others = 0;
+    for bit in 0..8 * whole.len() {
+        let mut bytes = whole.clone();
+        bytes[bit / 8] ^= 1 << (bit % 8);
+        let Ok(all) = read(&bytes) else { continue };
+        for attribute in all.iter().filter_map(|found| found.attribute.as_ref().ok()) {
+            if attribute.value.is_ok_and(|value| value != b"a value") {
+                assert!(attribute.uncovered.is_some(), "{bit}");
+                others += 1;
+            }
+        }
+    }
+    assert!(others >= 8 * 7, "each bit of the value");
+}
+
+/// How index and heap disagree.
+fn disagreement(bytes: &[u8]) -> Option<Disagreement> {
+    let attributes = Attributes::open(bytes).unwrap();
+    let all = attributes.all().unwrap();
+    attributes.disagreement(&all).unwrap()
+}
+
+fn managed(managed: u64) -> ObjectCounts {
+    ObjectCounts {
+        managed,
+        ..ObjectCounts::default()
+    }
+}
+
+#[test]
+fn an_index_without_records_disagrees_with_its_heap() {
+    for tracks_order in [false, true] {
+        let Made {
+            mut bytes, sealed, ..
+        } = made(12, tracks_order);
+        assert_eq!(disagreement(&bytes), None);
+        // Root, its own records and all of them, behind signature, version, type, four numbers of 4, 2, 2 and 2 bytes.
+        let index = sealed[3].clone();
+        bytes[index.start + 16..index.start + 24].fill(0xFF);
+        bytes[index.start + 24..index.end].fill(0);
+        seal(&mut bytes, &index);
+        assert_eq!(given(&read(&bytes).unwrap()), []);
+        let due = Disagreement {
+            index: managed(0),
+            heap: managed(12),
+            repeated: 0,
+        };
+        assert_eq!(disagreement(&bytes), Some(due));
+    }
+}
+
+// Their numbers are behind 70 bytes of the header: 14 up to the flags with the largest size, and seven numbers of eight.
+#[test]
+fn an_index_disagrees_with_a_heap_of_another_number_of_objects() {
+    let made = made(12, false);
+    let (header, heap) = (made.sealed[2].clone(), made.sealed[2].start);
+    for (at, number, due) in [
+        (70, 14, managed(14)),
+        (
+            86,
+            3,
+            ObjectCounts {
+                huge: 3,
+                ..managed(12)
+            },
+        ),
+        (
+            102,
+            1,
+            ObjectCounts {
+                tiny: 1,
+                ..managed(12)
+            },
+        ),
+    ] {
+        let mut bytes = made.bytes.clone();
+        bytes[heap + at] = number;
+        seal(&mut bytes, &header);
+        assert_eq!(given(&read(&bytes).unwrap()), made.attributes);
+        let due = Disagreement {
+            index: managed(12),
+            heap: due,
+            repeated: 0,
+        };
+        assert_eq!(disagreement(&bytes), Some(due), "{at}");
+    }
+    assert_eq!(disagreement(&compact_file("n", b"value")), None, "no heap");
+}
+
+#[test]
+fn two_records_of_one_object_are_told() {
+    let made = made(5, false);
+    let node = made.sealed[4].clone();
+    let (mut bytes, first) = (made.bytes.clone(), node.start + 6);
+    bytes.copy_within(first..first + 17, first + 17);
+    seal(&mut bytes, &node);
+    let due = Disagreement {
+        index: managed(4),
+        heap: managed(5),
+        repeated: 1,
+    };
+    assert_eq!(disagreement(&bytes), Some(due));
+}
+
+#[test]
+fn bytes_behind_the_end_are_counted() {
+    let behind_of = |bytes: &[u8]| Attributes::open(bytes).unwrap().bytes_behind();
+    let (small, large) = (made(2, false).bytes, made(23, false).bytes);
+    assert_eq!(behind_of(&small), 0);
+    let laid_over = [&small[..], &large[small.len()..]].concat();
+    assert_eq!(behind_of(&laid_over), (large.len() - small.len()) as u64);
+    let block = behind(512, &small);
+    assert_eq!(behind_of(&block), 0);
+    assert_eq!(behind_of(&[&block[..], b"more"].concat()), 4);
+    let old = old_file("n", b"value");
+    assert_eq!(behind_of(&old), 0);
+    assert_eq!(behind_of(&[&old[..], b"more"].concat()), 4);
 }
 
 /// A file of which a value is an HDF5 file with an attribute of the same name, where a superblock is sought.
